@@ -14,7 +14,7 @@ mod text;
 mod train;
 
 pub use fixing::Fixing;
-pub use limits::{GREATEST_NUMBER, MOST_COMPONENTS, MOST_OPERATIONS, MOST_TRAINS};
+pub use limits::{GREATEST_COST, GREATEST_NUMBER, MOST_COMPONENTS, MOST_OPERATIONS, MOST_TRAINS};
 pub use list::{Copied, List};
 pub use memory::Memory;
 pub use plan::{Event, Plan};

@@ -1,0 +1,4 @@
+pub mod Field
+pub mod ProblemOf
+pub mod Plain
+pub mod Gives
