@@ -9,6 +9,8 @@ mod component;
 mod fault;
 mod field;
 mod operation;
+mod problem;
 mod train;
 
 pub use fault::ProblemNo;
+pub use problem::read_problem;
