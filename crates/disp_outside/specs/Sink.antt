@@ -1,0 +1,7 @@
+-- What a write does to the bytes that a sink tells.
+use Rattle.std.specs.Prelude.{◌≡◌, ℕ, ◌≤◌, List, length, take, Option}
+use Rattle.std.specs.Io.KnownBytes.{append_known}
+
+-- some of the bytes, from the first on, went out behind what was written before
+abbrev pub WritesPart : Option (List ℕ) → Option (List ℕ) → List ℕ → Type 0
+WritesPart old new bytes = (count : ℕ) × (count ≤ length bytes) × (new ≡ append_known old (take count bytes))

@@ -1,0 +1,14 @@
+//! The outside world, as the program sees it: a shelf of files, a sink of bytes, a gate for threads.
+//!
+//! A fault has a cause: each trait counts the faults of its device in a ghost member that never falls, and answers
+//! `Failed` exactly where the count rose in that call. Code that is generic over a trait cannot raise a count, so it
+//! cannot answer `Failed` by itself. Files and standard output tell nothing of their bytes; those in memory tell all.
+#![tactic(auto)]
+
+mod gate;
+mod shelf;
+mod sink;
+
+pub use gate::{Gate, OpenGate, Point};
+pub use shelf::{FetchNo, Shelf};
+pub use sink::{Sink, WriteNo};
