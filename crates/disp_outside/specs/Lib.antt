@@ -1,1 +1,5 @@
+pub mod BrokenWrite
+pub mod Faults
+pub mod MemSink
 pub mod Sink
+pub mod SteadySink

@@ -5,10 +5,17 @@
 //! cannot answer `Failed` by itself. Files and standard output tell nothing of their bytes; those in memory tell all.
 #![tactic(auto)]
 
+mod broken_write;
+mod faults;
 mod gate;
+mod mem_sink;
 mod shelf;
 mod sink;
+mod steady_sink;
 
+pub use broken_write::BrokenWrite;
 pub use gate::{Gate, OpenGate, Point};
+pub use mem_sink::MemSink;
 pub use shelf::{FetchNo, Shelf};
 pub use sink::{Sink, WriteNo};
+pub use steady_sink::SteadySink;

@@ -1,7 +1,10 @@
 // Where what is printed goes.
 ghost use Rattle.std.specs.Prelude.{◌≡◌, ◌<◌, ◌≤◌, ◌↔◌, List, ℕ, Option, OnOk, IsErrOf};
+ghost use Rattle.disp_outside.specs.declared.sink.WriteNo.TheVariants.{Memory};
 ghost use Rattle.std.specs.Io.KnownBytes.{append_known};
 ghost use Rattle.disp_outside.specs.Sink.{WritesPart};
+
+use std::alloc::AllocError;
 
 /// Why a piece was not written.
 #[derive(Clone, Copy, Debug, PartialEq, Eq)]
@@ -10,6 +13,14 @@ pub enum WriteNo {
     Failed,
     /// There was no room, and nothing of the piece went out.
     Memory,
+}
+
+impl From<AllocError> for WriteNo {
+    ghost from_gives = { λ _ no. no ≡ Memory };
+
+    fn from(_: AllocError) -> Self {
+        WriteNo::Memory
+    }
 }
 
 /// Takes bytes, one piece behind the other. A sink may tell what was written.
