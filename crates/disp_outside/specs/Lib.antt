@@ -2,4 +2,5 @@ pub mod BrokenWrite
 pub mod Faults
 pub mod MemSink
 pub mod Sink
+pub mod StandardOutput
 pub mod SteadySink

@@ -35,7 +35,11 @@ impl FaultCounts {
         ensures err { OnErr result ((other : List ℕ) → HasCount self.new other → HasCount self.old other) }
     {
         if let Some(count) = self.counts.get(name) {
-            return if *count < u64::MAX { Ok(()) } else { Err(AllocError) };
+            return if *count < u64::MAX {
+                Ok(())
+            } else {
+                Err(AllocError)
+            };
         }
         let key = String::from_str(alloc, name)?;
         self.counts.insert(key, 0)?;

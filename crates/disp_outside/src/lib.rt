@@ -11,11 +11,14 @@ mod gate;
 mod mem_sink;
 mod shelf;
 mod sink;
+mod standard_output;
 mod steady_sink;
+mod writing;
 
 pub use broken_write::BrokenWrite;
 pub use gate::{Gate, OpenGate, Point};
 pub use mem_sink::MemSink;
 pub use shelf::{FetchNo, Shelf};
 pub use sink::{Sink, WriteNo};
+pub use standard_output::StandardOutput;
 pub use steady_sink::SteadySink;

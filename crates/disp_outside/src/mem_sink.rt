@@ -81,7 +81,8 @@ impl Sink for MemSink {
                 Ok(())
             }
             Some(sent) => {
-                self.written.extend_from_slice(&bytes[..sent.min(bytes.len())])?;
+                self.written
+                    .extend_from_slice(&bytes[..sent.min(bytes.len())])?;
                 self.calls = call;
                 self.faults += 1;
                 Err(WriteNo::Failed)
