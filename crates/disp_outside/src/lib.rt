@@ -7,15 +7,19 @@
 
 mod broken_write;
 mod faults;
+mod file_shelf;
 mod gate;
 mod mem_sink;
+mod reading;
 mod shelf;
 mod sink;
 mod standard_output;
 mod steady_sink;
+mod turns;
 mod writing;
 
 pub use broken_write::BrokenWrite;
+pub use file_shelf::FileShelf;
 pub use gate::{Gate, OpenGate, Point};
 pub use mem_sink::MemSink;
 pub use shelf::{FetchNo, Shelf};

@@ -1,7 +1,8 @@
 // Files by name, as the program sees them.
 ghost use Rattle.std.specs.Prelude.{◌≡◌, ◌≢◌, ◌<◌, ◌≤◌, ◌↔◌, List, ℕ, length, Option, Some, IfOk, IfSome, IsErrOf, IsSomeAnd, ◌⊎◌};
+ghost use Rattle.disp_outside.specs.declared.shelf.FetchNo.TheVariants.{Memory};
 
-use std::alloc::Global;
+use std::alloc::{AllocError, Global};
 
 /// Why a file was not fetched.
 #[derive(Clone, Copy, Debug, PartialEq, Eq)]
@@ -12,6 +13,14 @@ pub enum FetchNo {
     TooLong,
     /// There was no room.
     Memory,
+}
+
+impl From<AllocError> for FetchNo {
+    ghost from_gives = { λ _ no. no ≡ Memory };
+
+    fn from(_: AllocError) -> Self {
+        FetchNo::Memory
+    }
 }
 
 /// Files by name.

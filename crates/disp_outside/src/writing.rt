@@ -4,11 +4,9 @@ ghost use Rattle.std.specs.Io.KnownBytes.{Appends, Keeps};
 ghost use Rattle.disp_outside.specs.Sink.{PutsOut};
 
 use crate::WriteNo;
+use crate::turns::MOST_TURNS;
 use std::io;
 use std::io::{ErrorKind, Write};
-
-/// How many turns the loop over a device has for one call.
-pub const MOST_TURNS: u64 = 1 << 40;
 
 // One write of a piece that is not empty: how many bytes were taken, or 0 where the write was interrupted.
 fn write_some<W: Write>(writer: &mut W, piece: &[u8]) -> Result<usize, WriteNo>
