@@ -61,10 +61,20 @@ impl<R: Files + Send> Shelf for FileShelf<R> {
     // Room for a fault is made first, so that each fault is counted.
     fn fetch(&mut self, alloc: Global, name: &str, limit: u64) -> Result<Vec<u8>, FetchNo> {
         self.faults.make_room(alloc, name)?;
-        let read = read_file(alloc, &self.files, name, limit);
-        if let Err(FetchNo::Failed) = read {
-            self.faults.add(name);
+        match read_file(alloc, &self.files, name, limit) {
+            Ok(bytes) => {
+                self.faults.know(name);
+                Ok(bytes)
+            }
+            Err(FetchNo::Failed) => {
+                self.faults.add(name);
+                Err(FetchNo::Failed)
+            }
+            Err(FetchNo::TooLong) => {
+                self.faults.know(name);
+                Err(FetchNo::TooLong)
+            }
+            Err(FetchNo::Memory) => Err(FetchNo::Memory),
         }
-        read
     }
 }
