@@ -5,4 +5,5 @@ pub mod MemSink
 pub mod Reading
 pub mod Sink
 pub mod StandardOutput
+pub mod SteadyShelf
 pub mod SteadySink

@@ -6,6 +6,7 @@
 #![tactic(auto)]
 
 mod broken_write;
+mod copying;
 mod faults;
 mod file_shelf;
 mod gate;
@@ -14,6 +15,7 @@ mod reading;
 mod shelf;
 mod sink;
 mod standard_output;
+mod steady_shelf;
 mod steady_sink;
 mod turns;
 mod writing;
@@ -25,4 +27,5 @@ pub use mem_sink::MemSink;
 pub use shelf::{FetchNo, Shelf};
 pub use sink::{Sink, WriteNo};
 pub use standard_output::StandardOutput;
+pub use steady_shelf::SteadyShelf;
 pub use steady_sink::SteadySink;
