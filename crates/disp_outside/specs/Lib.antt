@@ -1,6 +1,8 @@
 pub mod BrokenWrite
 pub mod Faults
 pub mod FileShelf
+pub mod MemFile
+pub mod MemShelf
 pub mod MemSink
 pub mod Reading
 pub mod Sink
