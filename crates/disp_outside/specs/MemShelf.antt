@@ -28,3 +28,9 @@ reading_faults shelf name = fault_count shelf.faults name
 -- the name was asked for
 abbrev pub KnowsName : MemShelf → List ℕ → Type 0
 KnowsName shelf name = Knows shelf.faults name
+
+-- the name's file is as it was
+pub record KeepsFile (old new : MemShelf) (name : List ℕ) : Type 0 where
+  pub file : held_file new name ≡ held_file old name
+  pub broken : broken_calls new name ≡ broken_calls old name
+  pub calls : call_count new name ≡ call_count old name

@@ -32,3 +32,6 @@ pub use sink::{Sink, WriteNo};
 pub use standard_output::StandardOutput;
 pub use steady_shelf::SteadyShelf;
 pub use steady_sink::SteadySink;
+
+#[cfg(test)]
+mod tests;

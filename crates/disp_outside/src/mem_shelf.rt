@@ -1,5 +1,6 @@
 // Files in memory, some of whose readings break.
 ghost use Rattle.std.specs.Prelude.{◌≡◌, ◌≢◌, ◌≤◌, ◌<◌, ◌↔◌, ◌⊎◌, Some, None, [], List, ℕ, length, OnOk, OnErr, IfOk, IfSome, OnSome, IsSomeAnd, IsErrOf};
+ghost use Rattle.std.specs.Option.{option_map};
 ghost use Rattle.disp_outside.specs.MemFile.{IsCounted};
 
 use crate::faults::FaultCounts;
@@ -17,7 +18,7 @@ pub struct MemShelf {
 }
 
 impl MemShelf {
-    ghost use Rattle.disp_outside.specs.MemShelf.{held_file, broken_calls, call_count, reading_faults, KnowsName};
+    ghost use Rattle.disp_outside.specs.MemShelf.{held_file, broken_calls, call_count, reading_faults, KnowsName, KeepsFile};
 
     /// A shelf of no files.
     pub fn new(alloc: Global) -> Self
@@ -38,11 +39,10 @@ impl MemShelf {
         ensures file { OnOk result (held_file self.new name.now ≡ Some bytes.now) }
         ensures broken { OnOk result (broken_calls self.new name.now ≡ broken.now) }
         ensures calls { OnOk result (call_count self.new name.now ≡ 0) }
-        ensures other_files { (other : List ℕ) → other ≢ name.now → held_file self.new other ≡ held_file self.old other }
-        ensures other_broken { (other : List ℕ) → other ≢ name.now → broken_calls self.new other ≡ broken_calls self.old other }
-        ensures other_calls { (other : List ℕ) → other ≢ name.now → call_count self.new other ≡ call_count self.old other }
-        ensures err { OnErr result ((other : List ℕ) → held_file self.new other ≡ held_file self.old other) }
+        ensures others { (other : List ℕ) → other ≢ name.now → KeepsFile self.old self.new other }
+        ensures err { OnErr result ((other : List ℕ) → KeepsFile self.old self.new other) }
         ensures faults { (other : List ℕ) → reading_faults self.new other ≡ reading_faults self.old other }
+        ensures names { (other : List ℕ) → KnowsName self.new other ↔ KnowsName self.old other }
     {
         let key = String::from_str(self.alloc, name)?;
         let file = MemFile {
@@ -54,6 +54,13 @@ impl MemShelf {
         Ok(())
     }
 
+    /// The bytes of the name's file, if there is one.
+    pub fn file(&self, name: &str) -> Option<&[u8]>
+        ensures { option_map (λ bytes. bytes.now) result ≡ held_file self.now name.now }
+    {
+        self.files.get(name).map(|file| file.bytes.as_slice())
+    }
+
     /// How often a reading of the name has failed.
     pub fn faults(&self, name: &str) -> u64
         ensures { result ≡ reading_faults self.now name.now }
@@ -63,7 +70,7 @@ impl MemShelf {
 }
 
 impl Shelf for MemShelf {
-    ghost use Rattle.disp_outside.specs.MemShelf.{held_file, broken_calls, call_count, reading_faults, KnowsName, NextBreaks};
+    ghost use Rattle.disp_outside.specs.MemShelf.{held_file, broken_calls, call_count, reading_faults, KnowsName, NextBreaks, KeepsFile};
 
     ghost knows = { λ shelf name. KnowsName shelf name };
 
@@ -89,7 +96,8 @@ impl Shelf for MemShelf {
         ensures breaks { IsErrOf result FetchNo.Failed → NextBreaks self.old name.now }
         ensures broken { NextBreaks self.old name.now → IsErrOf result FetchNo.Failed ⊎ IsErrOf result FetchNo.Memory }
         ensures calls { OnSome (held_file self.old name.now) (IsCounted result (call_count self.old name.now) (call_count self.new name.now)) }
-        ensures list { (other : List ℕ) → broken_calls self.new other ≡ broken_calls self.old other }
+        ensures list { broken_calls self.new name.now ≡ broken_calls self.old name.now }
+        ensures others { (other : List ℕ) → other ≢ name.now → KeepsFile self.old self.new other }
     {
         self.faults.make_room(alloc, name)?;
         let Some(file) = self.files.get_mut(name) else {
