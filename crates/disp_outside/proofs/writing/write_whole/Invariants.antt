@@ -1,0 +1,6 @@
+-- What is gone from `rest` went out.
+use Rattle.disp_outside.proofs.Pieces.{HasSent}
+use Rattle.disp_outside.proofs.writing.write_whole.Given as goal
+
+abbrev pub invariant-loop : goal.invariant-loop
+invariant-loop g l = HasSent (g.W.Write.contents l.initial.writer) (g.W.Write.contents l.writer) l.piece l.rest

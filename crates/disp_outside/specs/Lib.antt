@@ -1,0 +1,11 @@
+pub mod BrokenWrite
+pub mod Faults
+pub mod FileShelf
+pub mod MemFile
+pub mod MemShelf
+pub mod MemSink
+pub mod Reading
+pub mod Sink
+pub mod StandardOutput
+pub mod SteadyShelf
+pub mod SteadySink

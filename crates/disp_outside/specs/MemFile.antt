@@ -1,0 +1,9 @@
+-- A file in memory, some of whose readings break.
+use Rattle.std.specs.Prelude.{◌≡◌, ℕ, ◌+◌, Result, Ok, Err}
+use Rattle.disp_outside.specs.declared.shelf.FetchNo.{FetchNo}
+use Rattle.disp_outside.specs.declared.shelf.FetchNo.TheVariants.{Failed, TooLong, Memory}
+
+-- the reading was counted, but for one without room
+abbrev pub IsCounted : {T : Type 0} → Result T FetchNo → ℕ → ℕ → Type 0
+IsCounted (Err Memory) old new = new ≡ old
+IsCounted _ old new = new ≡ old + 1

@@ -1,0 +1,36 @@
+-- Files in memory, some of whose readings break.
+use Rattle.std.specs.Prelude.{◌≡◌, ℕ, ◌+◌, ◌⊎◌, List, [], Option, None, Contains}
+use Rattle.std.specs.Option.{option_map, option_map_or}
+use Rattle.std.specs.BTreeMap.{get_by_text}
+use Rattle.disp_outside.specs.Faults.{Knows, fault_count}
+use Rattle.disp_outside.specs.declared.mem_shelf.MemShelf.{MemShelf}
+
+-- the bytes of the name's file, if there is one
+abbrev pub held_file : MemShelf → List ℕ → Option (List ℕ)
+held_file shelf name = option_map (λ file. file.bytes.items) (get_by_text shelf.files name)
+
+-- the numbers of the readings of the name's file that fail
+abbrev pub broken_calls : MemShelf → List ℕ → List ℕ
+broken_calls shelf name = option_map_or (λ file. file.broken.items) (get_by_text shelf.files name) []
+
+-- how many readings of the name's file there were, but for those without room
+abbrev pub call_count : MemShelf → List ℕ → ℕ
+call_count shelf name = option_map_or (λ file. file.calls) (get_by_text shelf.files name) 0
+
+-- the next reading of the name fails: there is no such file, or the list has its number
+abbrev pub NextBreaks : MemShelf → List ℕ → Type 0
+NextBreaks shelf name = (held_file shelf name ≡ None) ⊎ Contains (broken_calls shelf name) (call_count shelf name + 1)
+
+-- how often a reading of the name has failed
+abbrev pub reading_faults : MemShelf → List ℕ → ℕ
+reading_faults shelf name = fault_count shelf.faults name
+
+-- the name was asked for
+abbrev pub KnowsName : MemShelf → List ℕ → Type 0
+KnowsName shelf name = Knows shelf.faults name
+
+-- the name's file is as it was
+pub record KeepsFile (old new : MemShelf) (name : List ℕ) : Type 0 where
+  pub file : held_file new name ≡ held_file old name
+  pub broken : broken_calls new name ≡ broken_calls old name
+  pub calls : call_count new name ≡ call_count old name

@@ -1,0 +1,80 @@
+// The files of the system, by their paths.
+ghost use Rattle.std.specs.Prelude.{◌≡◌, ◌≤◌, None, List, ℕ, length, IfOk};
+
+use crate::faults::FaultCounts;
+use crate::reading::read_whole;
+use crate::{FetchNo, Shelf};
+use std::alloc::Global;
+use std::fs;
+use std::io::ErrorKind;
+use std::rt::Files;
+
+/// The files of the system: a name is a path. It tells nothing of what a file holds.
+#[derive(Drop)]
+pub struct FileShelf<R> {
+    files: R,
+    faults: FaultCounts,
+}
+
+impl<R: Files> FileShelf<R> {
+    ghost use Rattle.disp_outside.specs.FileShelf.{fault_count_of, KnowsName};
+
+    /// A shelf that knows no name yet.
+    pub fn new(alloc: Global, files: R) -> Self
+        ensures names { (name : List ℕ) → KnowsName result name → ⊥ }
+        ensures faults { (name : List ℕ) → fault_count_of result name ≡ 0 }
+    {
+        FileShelf {
+            files,
+            faults: FaultCounts::new(alloc),
+        }
+    }
+
+    /// How often a reading of the name has failed.
+    pub fn faults(&self, name: &str) -> u64
+        ensures { result ≡ fault_count_of self.now name.now }
+    {
+        self.faults.count(name)
+    }
+}
+
+// The bytes of the file of this path.
+fn read_file<R: Files>(alloc: Global, files: &R, path: &str, limit: u64) -> Result<Vec<u8>, FetchNo>
+    ensures { IfOk result (λ bytes. length bytes.items ≤ limit) }
+{
+    match fs::open(files, path) {
+        Ok(mut file) => read_whole(alloc, &mut file, limit),
+        Err(error) if error.kind() == ErrorKind::OutOfMemory => Err(FetchNo::Memory),
+        Err(_) => Err(FetchNo::Failed),
+    }
+}
+
+impl<R: Files + Send> Shelf for FileShelf<R> {
+    ghost use Rattle.disp_outside.specs.FileShelf.{fault_count_of, KnowsName};
+
+    ghost knows = { λ shelf name. KnowsName shelf name };
+
+    ghost holds = { λ _ _. None };
+
+    ghost reading_faults = { λ shelf name. fault_count_of shelf name };
+
+    // Room for a fault is made first, so that each fault is counted.
+    fn fetch(&mut self, alloc: Global, name: &str, limit: u64) -> Result<Vec<u8>, FetchNo> {
+        self.faults.make_room(alloc, name)?;
+        match read_file(alloc, &self.files, name, limit) {
+            Ok(bytes) => {
+                self.faults.know(name);
+                Ok(bytes)
+            }
+            Err(FetchNo::Failed) => {
+                self.faults.add(name);
+                Err(FetchNo::Failed)
+            }
+            Err(FetchNo::TooLong) => {
+                self.faults.know(name);
+                Err(FetchNo::TooLong)
+            }
+            Err(FetchNo::Memory) => Err(FetchNo::Memory),
+        }
+    }
+}

@@ -1,0 +1,37 @@
+//! The outside world, as the program sees it: a shelf of files, a sink of bytes, a gate for threads.
+//!
+//! A fault has a cause: each trait counts the faults of its device in a ghost member that never falls, and answers
+//! `Failed` exactly where the count rose in that call. Code that is generic over a trait cannot raise a count, so it
+//! cannot answer `Failed` by itself. Files and standard output tell nothing of their bytes; those in memory tell all.
+#![tactic(auto)]
+
+mod broken_write;
+mod copying;
+mod faults;
+mod file_shelf;
+mod gate;
+mod mem_file;
+mod mem_shelf;
+mod mem_sink;
+mod reading;
+mod shelf;
+mod sink;
+mod standard_output;
+mod steady_shelf;
+mod steady_sink;
+mod turns;
+mod writing;
+
+pub use broken_write::BrokenWrite;
+pub use file_shelf::FileShelf;
+pub use gate::{Gate, OpenGate, Point};
+pub use mem_shelf::MemShelf;
+pub use mem_sink::MemSink;
+pub use shelf::{FetchNo, Shelf};
+pub use sink::{Sink, WriteNo};
+pub use standard_output::StandardOutput;
+pub use steady_shelf::SteadyShelf;
+pub use steady_sink::SteadySink;
+
+#[cfg(test)]
+mod tests;

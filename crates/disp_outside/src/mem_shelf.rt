@@ -1,0 +1,123 @@
+// Files in memory, some of whose readings break.
+ghost use Rattle.std.specs.Prelude.{◌≡◌, ◌≢◌, ◌≤◌, ◌<◌, ◌↔◌, ◌⊎◌, Some, None, [], List, ℕ, length, OnOk, OnErr, IfOk, IfSome, OnSome, IsSomeAnd, IsErrOf};
+ghost use Rattle.std.specs.Option.{option_map};
+ghost use Rattle.disp_outside.specs.MemFile.{IsCounted};
+
+use crate::faults::FaultCounts;
+use crate::mem_file::MemFile;
+use crate::{FetchNo, Shelf};
+use std::alloc::{AllocError, Global};
+use std::collections::BTreeMap;
+
+/// Files in memory, which it tells. A reading fails where there is no such file, and in the calls that it is told to.
+#[derive(Drop)]
+pub struct MemShelf {
+    alloc: Global,
+    files: BTreeMap<String, MemFile>,
+    faults: FaultCounts,
+}
+
+impl MemShelf {
+    ghost use Rattle.disp_outside.specs.MemShelf.{held_file, broken_calls, call_count, reading_faults, KnowsName, KeepsFile};
+
+    /// A shelf of no files.
+    pub fn new(alloc: Global) -> Self
+        ensures files { (name : List ℕ) → held_file result name ≡ None }
+        ensures faults { (name : List ℕ) → reading_faults result name ≡ 0 }
+        ensures names { (name : List ℕ) → ¬ KnowsName result name }
+    {
+        MemShelf {
+            alloc,
+            files: BTreeMap::new(alloc),
+            faults: FaultCounts::new(alloc),
+        }
+    }
+
+    /// Makes this the name's file. Its readings of these numbers, counted from 1, fail.
+    #[tactic(auto, using(std::proofs::lemmas::Map::Text::text_keys))]
+    pub fn place(&mut self, name: &str, bytes: &[u8], broken: &[u64]) -> Result<(), AllocError>
+        ensures file { OnOk result (held_file self.new name.now ≡ Some bytes.now) }
+        ensures broken { OnOk result (broken_calls self.new name.now ≡ broken.now) }
+        ensures calls { OnOk result (call_count self.new name.now ≡ 0) }
+        ensures others { (other : List ℕ) → other ≢ name.now → KeepsFile self.old self.new other }
+        ensures err { OnErr result ((other : List ℕ) → KeepsFile self.old self.new other) }
+        ensures faults { (other : List ℕ) → reading_faults self.new other ≡ reading_faults self.old other }
+        ensures names { (other : List ℕ) → KnowsName self.new other ↔ KnowsName self.old other }
+    {
+        let key = String::from_str(self.alloc, name)?;
+        let file = MemFile {
+            bytes: bytes.to_vec(self.alloc)?,
+            broken: broken.to_vec(self.alloc)?,
+            calls: 0,
+        };
+        self.files.insert(key, file)?;
+        Ok(())
+    }
+
+    /// The bytes of the name's file, if there is one.
+    pub fn file(&self, name: &str) -> Option<&[u8]>
+        ensures { option_map (λ bytes. bytes.now) result ≡ held_file self.now name.now }
+    {
+        self.files.get(name).map(|file| file.bytes.as_slice())
+    }
+
+    /// How often a reading of the name has failed.
+    pub fn faults(&self, name: &str) -> u64
+        ensures { result ≡ reading_faults self.now name.now }
+    {
+        self.faults.count(name)
+    }
+}
+
+impl Shelf for MemShelf {
+    ghost use Rattle.disp_outside.specs.MemShelf.{held_file, broken_calls, call_count, reading_faults, KnowsName, NextBreaks, KeepsFile};
+
+    ghost knows = { λ shelf name. KnowsName shelf name };
+
+    ghost holds = { λ shelf name. Some (held_file shelf name) };
+
+    ghost reading_faults = { λ shelf name. reading_faults shelf name };
+
+    #[tactic(auto, using(std::proofs::lemmas::Map::Text::text_keys))]
+    fn fetch(&mut self, alloc: Global, name: &str, limit: u64) -> Result<Vec<u8>, FetchNo>
+        ensures bytes { IfOk result (λ bytes. IfSome (Some (held_file self.old name.now)) (λ file. file ≡ Some bytes.items)) }
+        ensures within { IfOk result (λ bytes. length bytes.items ≤ limit) }
+        ensures too_long { IsErrOf result FetchNo.TooLong →
+            IfSome (Some (held_file self.old name.now)) (λ file. IsSomeAnd file (λ bytes. limit < length bytes)) }
+        ensures failed { IsErrOf result FetchNo.Failed ↔ (reading_faults self.old name.now < reading_faults self.new name.now) }
+        ensures counted { reading_faults self.old name.now ≤ reading_faults self.new name.now }
+        ensures other_counts { (other : List ℕ) → other ≢ name.now → reading_faults self.new other ≡ reading_faults self.old other }
+        ensures held { (other : List ℕ) → Some (held_file self.new other) ≡ Some (held_file self.old other) }
+        ensures known { IsErrOf result FetchNo.Memory ⊎ KnowsName self.new name.now }
+        ensures still_known { (other : List ℕ) → KnowsName self.old other → KnowsName self.new other }
+        ensures memory { IsErrOf result FetchNo.Memory → (other : List ℕ) → KnowsName self.new other → KnowsName self.old other }
+
+        // It fails exactly where there is no file, and in the calls of the list.
+        ensures breaks { IsErrOf result FetchNo.Failed → NextBreaks self.old name.now }
+        ensures broken { NextBreaks self.old name.now → IsErrOf result FetchNo.Failed ⊎ IsErrOf result FetchNo.Memory }
+        ensures calls { OnSome (held_file self.old name.now) (IsCounted result (call_count self.old name.now) (call_count self.new name.now)) }
+        ensures list { broken_calls self.new name.now ≡ broken_calls self.old name.now }
+        ensures others { (other : List ℕ) → other ≢ name.now → KeepsFile self.old self.new other }
+    {
+        self.faults.make_room(alloc, name)?;
+        let Some(file) = self.files.get_mut(name) else {
+            self.faults.add(name);
+            return Err(FetchNo::Failed);
+        };
+        match file.read(alloc, limit) {
+            Ok(bytes) => {
+                self.faults.know(name);
+                Ok(bytes)
+            }
+            Err(FetchNo::Failed) => {
+                self.faults.add(name);
+                Err(FetchNo::Failed)
+            }
+            Err(FetchNo::TooLong) => {
+                self.faults.know(name);
+                Err(FetchNo::TooLong)
+            }
+            Err(FetchNo::Memory) => Err(FetchNo::Memory),
+        }
+    }
+}

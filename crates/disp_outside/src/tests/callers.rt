@@ -1,0 +1,128 @@
+// A caller that is generic over the traits, and says by their ghost members what it does.
+ghost use Rattle.std.specs.Prelude.{◌≡◌, ◌≢◌, ◌<◌, ◌↔◌, List, ℕ, OnOk, IfSome, IsErrOf};
+ghost use Rattle.std.specs.Io.KnownBytes.{append_known};
+
+use crate::{
+    BrokenWrite, FetchNo, Gate, MemShelf, MemSink, OpenGate, Point, Shelf, Sink, SteadyShelf,
+    SteadySink, WriteNo,
+};
+use std::alloc::Global;
+use std::test::Fail;
+use std::thread;
+
+#[derive(Clone, Copy, Debug, PartialEq, Eq)]
+enum PrintNo {
+    Fetch(FetchNo),
+    Write(WriteNo),
+}
+
+// Writes what the name holds to the sink.
+fn print_file<S: Shelf, O: Sink>(
+    alloc: Global,
+    shelf: &mut S,
+    out: &mut O,
+    name: &str,
+) -> Result<(), PrintNo>
+    ensures printed { OnOk result (IfSome (S.holds shelf.old name.now) (λ file. IfSome file (λ bytes.
+        O.written out.new ≡ append_known (O.written out.old) bytes))) }
+    ensures fetch { IsErrOf result (PrintNo.Fetch FetchNo.Failed)
+        ↔ (S.reading_faults shelf.old name.now < S.reading_faults shelf.new name.now) }
+    ensures write { IsErrOf result (PrintNo.Write WriteNo.Failed) ↔ (O.faults out.old < O.faults out.new) }
+    ensures others { (other : List ℕ) → other ≢ name.now → S.reading_faults shelf.new other ≡ S.reading_faults shelf.old other }
+{
+    let bytes = match shelf.fetch(alloc, name, 9) {
+        Ok(bytes) => bytes,
+        Err(no) => return Err(PrintNo::Fetch(no)),
+    };
+    match out.write(&bytes) {
+        Ok(()) => Ok(()),
+        Err(no) => Err(PrintNo::Write(no)),
+    }
+}
+
+// No fault is told of doubles that never fail.
+fn print_steadily(
+    alloc: Global,
+    shelf: &mut SteadyShelf,
+    out: &mut SteadySink,
+) -> Result<(), PrintNo>
+    ensures fetch { ¬ IsErrOf result (PrintNo.Fetch FetchNo.Failed) }
+    ensures write { ¬ IsErrOf result (PrintNo.Write WriteNo.Failed) }
+{
+    print_file(alloc, shelf, out, "a")
+}
+
+#[test]
+fn a_caller_sees_each_fault(rt: HostRuntime) -> Result<(), Fail> {
+    let alloc = rt.alloc();
+    let mut shelf = MemShelf::new(alloc);
+    shelf.place("a", b"abc", &[2])?;
+    shelf.place("long", b"0123456789", &[])?;
+    let broken = [BrokenWrite { call: 2, sent: 2 }];
+    let mut out = MemSink::new(alloc, &broken)?;
+    let rows = [
+        ("a", Ok(()), "abc"),
+        ("a", Err(PrintNo::Fetch(FetchNo::Failed)), "abc"),
+        ("a", Err(PrintNo::Write(WriteNo::Failed)), "abcab"),
+        ("long", Err(PrintNo::Fetch(FetchNo::TooLong)), "abcab"),
+        ("none", Err(PrintNo::Fetch(FetchNo::Failed)), "abcab"),
+        ("a", Ok(()), "abcababc"),
+    ];
+    for (name, want, written) in rows {
+        assert_eq!(rt;
+            print_file(alloc, &mut shelf, &mut out, name),
+            want,
+            "{name}"
+        );
+        assert_eq!(rt; out.written(), written.as_bytes(), "{name}");
+    }
+    assert_eq!(rt;
+        (
+            shelf.faults("a"),
+            shelf.faults("long"),
+            shelf.faults("none")
+        ),
+        (1, 0, 1)
+    );
+    assert_eq!(rt; out.faults(), 1);
+    Ok(())
+}
+
+#[test]
+fn steady_doubles_never_fail(rt: HostRuntime) -> Result<(), Fail> {
+    let alloc = rt.alloc();
+    let mut shelf = SteadyShelf::new(alloc);
+    shelf.place("a", b"abc")?;
+    let mut out = SteadySink::new(alloc);
+    assert_eq!(rt; print_steadily(alloc, &mut shelf, &mut out), Ok(()));
+    assert_eq!(rt; print_file(alloc, &mut shelf, &mut out, "b"), Ok(()));
+    assert_eq!(rt; out.written(), b"abc".as_slice());
+    assert_eq!(rt;
+        (shelf.file("a"), shelf.file("b")),
+        (b"abc".as_slice(), b"".as_slice())
+    );
+    Ok(())
+}
+
+// Two threads share a gate, and each owns a shelf and a sink.
+#[test]
+fn threads_share_a_gate(rt: HostRuntime) -> Result<(), Fail> {
+    let alloc = rt.alloc();
+    let gate = OpenGate;
+    let (mut left, mut right) = (SteadyShelf::new(alloc), MemShelf::new(alloc));
+    let (mut left_out, mut right_out) = (SteadySink::new(alloc), MemSink::new(alloc, &[])?);
+    let (first, second) = thread::join(
+        &rt,
+        || {
+            gate.reach(Point::Line, 0);
+            print_file(alloc, &mut left, &mut left_out, "a")
+        },
+        || {
+            gate.reach(Point::Fragment, 256);
+            print_file(alloc, &mut right, &mut right_out, "a")
+        },
+    );
+    assert_eq!(rt; first, Ok(()));
+    assert_eq!(rt; second, Err(PrintNo::Fetch(FetchNo::Failed)));
+    Ok(())
+}
