@@ -5,3 +5,4 @@ pub mod Windows
 pub mod Least
 pub mod Costs
 pub mod Proved
+pub mod Joined

@@ -4,3 +4,4 @@
 
 mod cost;
 mod earliest;
+mod solution;
