@@ -53,3 +53,7 @@ pub record IsBest (problem : Problem) (plan : List Event) (cost : ℕ) : Type 0 
   pub valid : IsValid problem [] plan
   pub costs : cost_of problem.components plan ≡ cost
   pub least : IsLeast problem [] cost
+
+-- the plan has each operation at its earliest start, in the order of (start, train, operation)
+abbrev pub IsEarliest : Problem → List Event → Type 0
+IsEarliest problem plan = IsInOrder (events_from 0 (starts_of problem.trains)) plan

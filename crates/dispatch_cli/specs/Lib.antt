@@ -1,2 +1,4 @@
 pub mod Earliest
 pub mod Texts
+pub mod Words
+pub mod Outcome

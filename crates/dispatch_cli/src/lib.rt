@@ -2,6 +2,10 @@
 // status.
 #![tactic(auto)]
 
+mod cause;
 mod cost;
 mod earliest;
+mod limit;
+mod run;
 mod solution;
+mod words;

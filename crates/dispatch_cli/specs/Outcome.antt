@@ -1,0 +1,117 @@
+-- What a run finds, what it writes, and with which status it ends.
+use Rattle.std.specs.Prelude.{◌≡◌, ◌≢◌, ◌⊎◌, ◌<◌, ◌≤◌, ℕ, List, [], ◌++◌, length, take, codes, Option, Some, None, IfSome, IsSomeAnd}
+use Rattle.std.specs.Io.KnownBytes.{append_known}
+use Rattle.std.specs.Fmt.{decimal}
+use Rattle.disp_outside.specs.Sink.{WritesPart}
+use Rattle.disp_model.specs.declared.plan.Event.{Event}
+use Rattle.disp_model.specs.declared.problem.Problem.{Problem}
+use Rattle.displib_reader.specs.Outcome.{IsReadAs, IsNoJson, IsNotPlain}
+use Rattle.dispatch_cli.specs.declared.limit.TheConstants.{MOST_BYTES}
+use Rattle.dispatch_cli.specs.declared.cause.Cause.{Cause}
+use Rattle.dispatch_cli.specs.declared.cause.Cause.TheVariants.{Words, Failed, TooLong, NotJson, NotPlain, Memory}
+use Rattle.dispatch_cli.specs.Words.{problem_named}
+use Rattle.dispatch_cli.specs.Earliest.{IsBest, IsEarliest}
+use Rattle.dispatch_cli.specs.Texts.{solution_text}
+
+-- what a name holds, where that is told: no file, or a file of these bytes
+abbrev pub Holdings : Type 0
+Holdings = List ℕ → Option (Option (List ℕ))
+
+-- how often readings of a name have failed
+abbrev pub Counts : Type 0
+Counts = List ℕ → ℕ
+
+-- the name holds these bytes, as far as is told
+abbrev pub HoldsBytes : Holdings → List ℕ → List ℕ → Type 0
+HoldsBytes holds name bytes = IfSome (holds name) (λ file. file ≡ Some bytes)
+
+-- the name holds a file that is too long, as far as is told
+abbrev pub HoldsTooMuch : Holdings → List ℕ → Type 0
+HoldsTooMuch holds name = IfSome (holds name) (λ file. IsSomeAnd file (λ bytes. MOST_BYTES < length bytes))
+
+-- ---- what is written
+
+-- the lines of a solved problem: the edition, the verdict with its cost, and the solution
+abbrev pub solved_text : List Event → ℕ → List ℕ
+solved_text plan cost = codes "edition 0\n" ++ (codes "optimal " ++ decimal cost ++ codes "\n") ++ (solution_text plan cost ++ codes "\n")
+
+-- the line for what stopped a run
+abbrev pub line_of : Cause → List ℕ
+line_of Words = codes "usage: dispatch solve PROBLEM\n"
+line_of Failed = codes "problem: Failed\n"
+line_of TooLong = codes "problem: TooLong\n"
+line_of NotJson = codes "problem: NotJson\n"
+line_of NotPlain = codes "problem: NotPlain\n"
+line_of Memory = codes "memory\n"
+
+-- the status for what stopped a run
+abbrev pub status_of : Cause → ℕ
+status_of Words = 2
+status_of Failed = 4
+status_of TooLong = 2
+status_of NotJson = 2
+status_of NotPlain = 2
+status_of Memory = 5
+
+-- ---- what is found
+
+-- the bytes are those of a plain problem, and the text is that of a plan that is valid for it, has the printed
+-- cost, and than which no valid plan costs less
+pub record IsAnswer (bytes : List ℕ) (text : List ℕ) : Type 0 where
+  pub problem : Problem
+  pub read : IsReadAs bytes problem
+  pub plan : List Event
+  pub cost : ℕ
+  pub best : IsBest problem plan cost
+  pub earliest : IsEarliest problem plan
+  pub text_is : text ≡ solved_text plan cost
+
+-- the words name a file, and the text is the answer to its bytes
+pub record IsSolved (words : List (List ℕ)) (holds : Holdings) (text : List ℕ) : Type 0 where
+  pub name : List ℕ
+  pub named : problem_named words ≡ Some name
+  pub bytes : List ℕ
+  pub held : HoldsBytes holds name bytes
+  pub short : length bytes ≤ MOST_BYTES
+  pub answer : IsAnswer bytes text
+
+-- why there is no answer to the bytes
+abbrev pub Denies : List ℕ → Cause → Type 0
+Denies bytes Words = ⊥
+Denies bytes Failed = ⊥
+Denies bytes TooLong = ⊥
+Denies bytes NotJson = IsNoJson bytes
+Denies bytes NotPlain = IsNotPlain bytes
+Denies bytes Memory = Unit {0}
+
+-- the words name a file, and its bytes are such
+pub record IsRefused (words : List (List ℕ)) (holds : Holdings) (No : List ℕ → Type 0) : Type 0 where
+  pub name : List ℕ
+  pub named : problem_named words ≡ Some name
+  pub bytes : List ℕ
+  pub held : HoldsBytes holds name bytes
+  pub short : length bytes ≤ MOST_BYTES
+  pub no : No bytes
+
+-- what stopped a run has happened
+abbrev pub Stops : List (List ℕ) → Holdings → Counts → Counts → Cause → Type 0
+Stops words holds old new Words = problem_named words ≡ None
+Stops words holds old new Failed = (name : List ℕ) × (problem_named words ≡ Some name) × (old name < new name)
+Stops words holds old new TooLong = (name : List ℕ) × (problem_named words ≡ Some name) × HoldsTooMuch holds name
+Stops words holds old new NotJson = IsRefused words holds IsNoJson
+Stops words holds old new NotPlain = IsRefused words holds IsNotPlain
+Stops words holds old new Memory = Unit {0}
+
+-- why a file was not fetched
+abbrev pub Misses : Holdings → Counts → Counts → List ℕ → Cause → Type 0
+Misses holds old new name Words = ⊥
+Misses holds old new name Failed = old name < new name
+Misses holds old new name TooLong = HoldsTooMuch holds name
+Misses holds old new name NotJson = ⊥
+Misses holds old new name NotPlain = ⊥
+Misses holds old new name Memory = Unit {0}
+
+-- the count of a name does not fall, and stays where the words do not give the name
+pub record Counted (words : List (List ℕ)) (old new : Counts) (name : List ℕ) : Type 0 where
+  pub never_falls : old name ≤ new name
+  pub stays : problem_named words ≢ Some name → new name ≡ old name
