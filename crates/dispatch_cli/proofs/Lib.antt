@@ -6,3 +6,4 @@ pub mod Least
 pub mod Costs
 pub mod Proved
 pub mod Joined
+pub mod Printed

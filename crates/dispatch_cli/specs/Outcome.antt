@@ -115,3 +115,78 @@ Misses holds old new name Memory = Unit {0}
 pub record Counted (words : List (List ℕ)) (old new : Counts) (name : List ℕ) : Type 0 where
   pub never_falls : old name ≤ new name
   pub stays : problem_named words ≢ Some name → new name ≡ old name
+
+-- ---- how a run ends
+
+-- all of the text went out
+abbrev pub Writes : Option (List ℕ) → Option (List ℕ) → List ℕ → Type 0
+Writes old new text = new ≡ append_known old text
+
+-- status 0: the lines of a solved problem were written
+pub record Solves (words : List (List ℕ)) (holds : Holdings) (old new : Option (List ℕ)) : Type 0 where
+  pub text : List ℕ
+  pub solved : IsSolved words holds text
+  pub written : Writes old new text
+
+-- status 2: the words or the file were refused, and the line for it was written, or some of it where a write failed
+pub record Refuses (words : List (List ℕ)) (holds : Holdings) (old_counts new_counts : Counts) (old_faults new_faults : ℕ) (old new : Option (List ℕ)) : Type 0 where
+  pub cause : Cause
+  pub stops : Stops words holds old_counts new_counts cause
+  pub status : status_of cause ≡ 2
+  pub part : WritesPart old new (line_of cause)
+  pub whole : new_faults ≡ old_faults → Writes old new (line_of cause)
+
+-- the named file could not be read, and the line for it was written, or some of it where a write failed
+pub record CannotRead (words : List (List ℕ)) (holds : Holdings) (old_counts new_counts : Counts) (old_faults new_faults : ℕ) (old new : Option (List ℕ)) : Type 0 where
+  pub stops : Stops words holds old_counts new_counts Failed
+  pub part : WritesPart old new (line_of Failed)
+  pub whole : new_faults ≡ old_faults → Writes old new (line_of Failed)
+
+-- a write of the lines of a solved problem failed
+pub record CannotWrite (words : List (List ℕ)) (holds : Holdings) (old_faults new_faults : ℕ) (old new : Option (List ℕ)) : Type 0 where
+  pub fault : old_faults < new_faults
+  pub text : List ℕ
+  pub solved : IsSolved words holds text
+  pub part : WritesPart old new text
+
+-- status 4: a reading of the named file or a write failed
+abbrev pub Fails : List (List ℕ) → Holdings → Counts → Counts → ℕ → ℕ → Option (List ℕ) → Option (List ℕ) → Type 0
+Fails words holds old_counts new_counts old_faults new_faults old new =
+    CannotRead words holds old_counts new_counts old_faults new_faults old new ⊎ CannotWrite words holds old_faults new_faults old new
+
+-- the text is what would have been written, or there was none yet
+abbrev pub IsDue : List (List ℕ) → Holdings → Counts → Counts → List ℕ → Type 0
+IsDue words holds old_counts new_counts text =
+    (text ≡ []) ⊎ (IsSolved words holds text ⊎ ((cause : Cause) × Stops words holds old_counts new_counts cause × (text ≡ line_of cause)))
+
+-- status 5: some of what would have been written went out, and some of the line for want of memory behind it
+pub record GivesUp (words : List (List ℕ)) (holds : Holdings) (old_counts new_counts : Counts) (old new : Option (List ℕ)) : Type 0 where
+  pub text : List ℕ
+  pub due : IsDue words holds old_counts new_counts text
+  pub between : Option (List ℕ)
+  pub part : WritesPart old between text
+  pub memory : WritesPart between new (line_of Memory)
+
+-- ---- for private clauses
+
+-- some of the text went out, and some of the line for want of memory behind it
+pub record WritesThenGivesUp (old new : Option (List ℕ)) (text : List ℕ) : Type 0 where
+  pub between : Option (List ℕ)
+  pub part : WritesPart old between text
+  pub memory : WritesPart between new (line_of Memory)
+
+-- how the writing of the lines of a solved problem ends
+pub record Finishes (old_faults new_faults : ℕ) (old new : Option (List ℕ)) (text : List ℕ) (status : ℕ) : Type 0 where
+  pub counted : old_faults ≤ new_faults
+  pub statuses : (status ≡ 0) ⊎ ((status ≡ 4) ⊎ (status ≡ 5))
+  pub solved : status ≡ 0 → Writes old new text × (new_faults ≡ old_faults)
+  pub failed : status ≡ 4 → WritesPart old new text × (old_faults < new_faults)
+  pub memory : status ≡ 5 → WritesThenGivesUp old new text
+
+-- how the writing of the line for what stopped a run ends
+pub record Halts (old_faults new_faults : ℕ) (old new : Option (List ℕ)) (cause : Cause) (status : ℕ) : Type 0 where
+  pub counted : old_faults ≤ new_faults
+  pub statuses : (status ≡ status_of cause) ⊎ (status ≡ 5)
+  pub part : status ≢ 5 → WritesPart old new (line_of cause)
+  pub whole : status ≢ 5 → new_faults ≡ old_faults → Writes old new (line_of cause)
+  pub memory : status ≡ 5 → WritesThenGivesUp old new (line_of cause)
