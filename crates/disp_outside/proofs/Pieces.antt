@@ -28,3 +28,7 @@ module _ {old new : Option (List ℕ)} {piece rest : List ℕ} (before : HasSent
         left = take_rest rest n ∙ ap (drop n) before.left ∙ drop-drop n before.count piece;
         sent = subst (Appends old next) (sym (take-add before.count n piece)) (Appends-trans old new next _ _ before.sent taken);
       }
+
+  -- no more is left than there was
+  pub rest_within : length rest ≤ length piece
+  rest_within = omega (arith, ap length before.left ∙ length-drop before.count piece)

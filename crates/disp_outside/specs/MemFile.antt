@@ -1,7 +1,7 @@
 -- A file in memory, some of whose readings break.
-use Rattle.std.specs.Prelude.{◌≡◌, ℕ, ◌+◌, Result, Ok, Err}
+use Rattle.std.specs.Prelude.{◌≡◌, ℕ, ◌+◌, Result, Err}
 use Rattle.disp_outside.specs.declared.shelf.FetchNo.{FetchNo}
-use Rattle.disp_outside.specs.declared.shelf.FetchNo.TheVariants.{Failed, TooLong, Memory}
+use Rattle.disp_outside.specs.declared.shelf.FetchNo.TheVariants.{Memory}
 
 -- the reading was counted, but for one without room
 abbrev pub IsCounted : {T : Type 0} → Result T FetchNo → ℕ → ℕ → Type 0

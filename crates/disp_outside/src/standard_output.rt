@@ -1,5 +1,5 @@
 // A sink over a writer, such as standard output.
-ghost use Rattle.std.specs.Prelude.{◌≡◌, ◌≤◌, ◌<◌, ◌↔◌, OnOk, IsErrOf};
+ghost use Rattle.std.specs.Prelude.{◌≡◌, ◌≤◌, ◌<◌, ◌↔◌, [], OnOk, IsErrOf};
 ghost use Rattle.std.specs.Io.KnownBytes.{append_known, Appends, Keeps};
 ghost use Rattle.disp_outside.specs.Sink.{WritesPart, PutsOut};
 
@@ -46,6 +46,8 @@ impl<W: Write + Send> Sink for StandardOutput<W> {
         ensures memory { IsErrOf result WriteNo.Memory → told_bytes self.new ≡ told_bytes self.old }
         ensures failed { IsErrOf result WriteNo.Failed ↔ (fault_count self.old < fault_count self.new) }
         ensures counted { fault_count self.old ≤ fault_count self.new }
+
+        ensures empty { bytes.now ≡ [] → ¬ IsErrOf result WriteNo.Failed }
 
         // What the writer gets.
         ensures gets { OnOk result (Appends (W.contents (writer_of self.old)) (W.contents (writer_of self.new)) bytes.now) }

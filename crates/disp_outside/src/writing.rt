@@ -1,5 +1,5 @@
 // Writing a whole piece to a writer that may take a part at a time.
-ghost use Rattle.std.specs.Prelude.{◌≡◌, ◌≤◌, ℕ, length, take, OnOk, OnErr, IfOk, IsErrOf};
+ghost use Rattle.std.specs.Prelude.{◌≡◌, ◌≤◌, ℕ, length, take, [], IsOk, OnOk, OnErr, IfOk, IsErrOf};
 ghost use Rattle.std.specs.Io.KnownBytes.{Appends, Keeps};
 ghost use Rattle.disp_outside.specs.Sink.{PutsOut};
 
@@ -37,6 +37,7 @@ pub fn write_whole<W: Write>(writer: &mut W, piece: &[u8]) -> Result<(), WriteNo
     ensures ok { OnOk result (Appends (W.contents writer.old) (W.contents writer.new) piece.now) }
     ensures part { OnErr result (PutsOut (W.contents writer.old) (W.contents writer.new) piece.now) }
     ensures memory { IsErrOf result WriteNo.Memory → Keeps (W.contents writer.old) (W.contents writer.new) }
+    ensures empty { piece.now ≡ [] → IsOk result }
 {
     let mut rest = piece;
     for _ in 0..MOST_TURNS {

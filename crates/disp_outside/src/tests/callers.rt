@@ -3,8 +3,8 @@ ghost use Rattle.std.specs.Prelude.{◌≡◌, ◌≢◌, ◌<◌, ◌↔◌, Li
 ghost use Rattle.std.specs.Io.KnownBytes.{append_known};
 
 use crate::{
-    BrokenWrite, FetchNo, Gate, MemShelf, MemSink, OpenGate, Point, Shelf, Sink, SteadyShelf,
-    SteadySink, WriteNo,
+    BrokenWrite, FetchNo, FileShelf, Gate, MemShelf, MemSink, OpenGate, Point, Shelf, Sink,
+    StandardOutput, SteadyShelf, SteadySink, WriteNo,
 };
 use std::alloc::Global;
 use std::test::Fail;
@@ -104,25 +104,29 @@ fn steady_doubles_never_fail(rt: HostRuntime) -> Result<(), Fail> {
     Ok(())
 }
 
-// Two threads share a gate, and each owns a shelf and a sink.
+// Two threads share a gate, and each has shelves and sinks of its own.
 #[test]
 fn threads_share_a_gate(rt: HostRuntime) -> Result<(), Fail> {
     let alloc = rt.alloc();
     let gate = OpenGate;
-    let (mut left, mut right) = (SteadyShelf::new(alloc), MemShelf::new(alloc));
-    let (mut left_out, mut right_out) = (SteadySink::new(alloc), MemSink::new(alloc, &[])?);
+    let (mut steady, mut memory) = (SteadyShelf::new(alloc), MemShelf::new(alloc));
+    let mut files = FileShelf::new(alloc, rt);
+    let (mut kept, mut told) = (SteadySink::new(alloc), MemSink::new(alloc, &[])?);
+    let mut printed = StandardOutput::new(rt.stdout());
     let (first, second) = thread::join(
         &rt,
         || {
             gate.reach(Point::Line, 0);
-            print_file(alloc, &mut left, &mut left_out, "a")
+            let first = print_file(alloc, &mut steady, &mut printed, "a");
+            (first, print_file(alloc, &mut memory, &mut kept, "a"))
         },
         || {
             gate.reach(Point::Fragment, 256);
-            print_file(alloc, &mut right, &mut right_out, "a")
+            print_file(alloc, &mut files, &mut told, "none/a")
         },
     );
-    assert_eq!(rt; first, Ok(()));
-    assert_eq!(rt; second, Err(PrintNo::Fetch(FetchNo::Failed)));
+    let failed = Err(PrintNo::Fetch(FetchNo::Failed));
+    assert_eq!(rt; first, (Ok(()), failed));
+    assert_eq!(rt; second, failed);
     Ok(())
 }
