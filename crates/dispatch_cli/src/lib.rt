@@ -19,3 +19,6 @@ pub use cause::Cause;
 pub use done::Done;
 pub use limit::MOST_BYTES;
 pub use program::dispatch;
+
+#[cfg(test)]
+mod tests;

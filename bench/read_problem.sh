@@ -1,0 +1,63 @@
+#!/usr/bin/env bash
+# Solves plain problems of 1, 10 and 100 MB with the built program, and reads the same files by
+# Python's `json.load`, in one run. Prints seconds, peak memory, and the ratios of the two.
+# Build first: (cd crates/dispatch && rt run -- solve data/problem.json)
+set -eu
+cd "$(dirname "$0")/.."
+program=crates/dispatch/out/dispatch
+[ -x "$program" ] || { echo "no $program: build it first"; exit 1; }
+folder=$(mktemp -d)
+trap 'rm -rf "$folder"' EXIT
+python3 - "$program" "$folder" "$@" <<'PYTHON'
+import os, resource, subprocess, sys, time
+
+program, folder = sys.argv[1:3]
+sizes = [int(word) for word in sys.argv[3:]] or [1, 10, 100]
+
+
+def write_problem(path, size):
+    """Trains of 1000 operations, with a component on each tenth, up to about so many bytes."""
+    with open(path, "w") as file:
+        file.write('{"trains":[')
+        trains, components, written = 0, [], 0
+        while written < size * 0.9:
+            operations = ",".join(
+                '{"start_lb":%d,"start_ub":null,"min_duration":%d,"resources":[],"successors":[%d]}' % (1000000000 + k * 3, 1000 + k % 60, k + 1)
+                for k in range(999)
+            )
+            text = ("," if trains else "") + "[" + operations + ',{"start_lb":7}]'
+            file.write(text)
+            written += len(text)
+            trains += 1
+        file.write('],"objective":[')
+        while written < size:
+            t = len(components) % trains
+            text = '{"type":"op_delay","train":%d,"operation":%d,"threshold":%d,"coeff":1}' % (t, len(components) % 1000, 500)
+            components.append(text)
+            written += len(text) + 1
+        file.write(",".join(components))
+        file.write("]}")
+    return trains
+
+
+def measure(words):
+    start = time.monotonic()
+    process = subprocess.Popen(words, stdout=subprocess.DEVNULL)
+    _, status, usage = os.wait4(process.pid, 0)
+    return time.monotonic() - start, usage.ru_maxrss * 1024, os.waitstatus_to_exitcode(status)
+
+
+load = "import json, sys; json.load(open(sys.argv[1]))"
+print("megabytes  program s  json.load s  ratio  program MB  json.load MB  ratio  MB a file MB  ns a byte")
+for megabytes in sizes:
+    path = os.path.join(folder, "problem.json")
+    write_problem(path, megabytes * 1000000)
+    size = os.path.getsize(path)
+    ours = [measure([program, "solve", path]) for _ in range(3)]
+    theirs = [measure([sys.executable, "-c", load, path]) for _ in range(3)]
+    assert all(run[2] == 0 for run in ours), "the program ended with status %d" % ours[0][2]
+    a, b = min(run[0] for run in ours), min(run[0] for run in theirs)
+    m, n = max(run[1] for run in ours), max(run[1] for run in theirs)
+    print("%9.1f  %9.3f  %11.3f  %5.2f  %10.1f  %12.1f  %5.2f  %12.1f  %9.1f"
+          % (size / 1e6, a, b, a / b, m / 1e6, n / 1e6, m / n, m / size, a / size * 1e9))
+PYTHON

@@ -1,0 +1,61 @@
+// A run on files in memory, and shelves that always refuse.
+use crate::dispatch;
+use disp_outside::{FetchNo, OpenGate, Shelf, SteadyShelf, SteadySink};
+use std::alloc::Global;
+use std::test::Fail;
+
+// The words as the program gets them.
+pub(crate) fn words_of(alloc: Global, words: &[&str]) -> Result<Vec<String>, Fail> {
+    let mut list = Vec::new(alloc);
+    for word in words {
+        list.push(String::from_str(alloc, word)?)?;
+    }
+    Ok(list)
+}
+
+// The status of `solve p` where p holds these bytes, and what was written.
+pub(crate) fn solve(rt: &HostRuntime, bytes: &[u8]) -> Result<(u8, Vec<u8>), Fail> {
+    let alloc = rt.alloc();
+    let words = words_of(alloc, &["solve", "p"])?;
+    let mut shelf = SteadyShelf::new(alloc);
+    shelf.place("p", bytes)?;
+    let mut out = SteadySink::new(alloc);
+    let done = dispatch(rt, alloc, &words, &mut shelf, &mut out, &OpenGate);
+    Ok((done.status, out.written().to_vec(alloc)?))
+}
+
+// Every file is too long.
+#[derive(Drop)]
+pub(crate) struct LongShelf;
+
+impl Shelf for LongShelf {
+    ghost use Rattle.std.specs.Prelude.{None, ⊤};
+
+    ghost knows = { λ _ _. ⊤ };
+
+    ghost holds = { λ _ _. None };
+
+    ghost reading_faults = { λ _ _. 0 };
+
+    fn fetch(&mut self, _alloc: Global, _name: &str, _limit: u64) -> Result<Vec<u8>, FetchNo> {
+        Err(FetchNo::TooLong)
+    }
+}
+
+// There is never room for a file.
+#[derive(Drop)]
+pub(crate) struct FullShelf;
+
+impl Shelf for FullShelf {
+    ghost use Rattle.std.specs.Prelude.{None, ⊤};
+
+    ghost knows = { λ _ _. ⊤ };
+
+    ghost holds = { λ _ _. None };
+
+    ghost reading_faults = { λ _ _. 0 };
+
+    fn fetch(&mut self, _alloc: Global, _name: &str, _limit: u64) -> Result<Vec<u8>, FetchNo> {
+        Err(FetchNo::Memory)
+    }
+}

@@ -1,0 +1,74 @@
+// What is printed where the outside fails, and the status.
+use super::doubles::{FullShelf, LongShelf, words_of};
+use crate::{Done, dispatch};
+use disp_outside::{BrokenWrite, MemShelf, MemSink, OpenGate, Shelf, SteadySink};
+use std::test::Fail;
+
+const PROBLEM: &str =
+    r#"{"trains":[[{"min_duration":5,"successors":[1]},{}]],"objective":[{"type":"op_delay","train":0,"operation":1,"threshold":3,"coeff":2,"increment":1}]}"#;
+
+// The status of `solve p` on the shelf, and what was written.
+fn run<S: Shelf>(rt: &HostRuntime, shelf: &mut S) -> Result<(Done, Vec<u8>), Fail> {
+    let alloc = rt.alloc();
+    let words = words_of(alloc, &["solve", "p"])?;
+    let mut out = SteadySink::new(alloc);
+    let done = dispatch(rt, alloc, &words, shelf, &mut out, &OpenGate);
+    Ok((done, out.written().to_vec(alloc)?))
+}
+
+#[test]
+fn a_file_that_cannot_be_had_is_told(rt: HostRuntime) -> Result<(), Fail> {
+    let alloc = rt.alloc();
+    let mut missing = MemShelf::new(alloc);
+    let mut broken = MemShelf::new(alloc);
+    broken.place("p", PROBLEM.as_bytes(), &[1])?;
+    let rows = [
+        (run(&rt, &mut missing)?, 4, "problem: Failed\n"),
+        (run(&rt, &mut broken)?, 4, "problem: Failed\n"),
+        (run(&rt, &mut LongShelf)?, 2, "problem: TooLong\n"),
+        (run(&rt, &mut FullShelf)?, 5, "memory\n"),
+    ];
+    for (got, status, line) in rows {
+        assert_eq!(rt; got.0.status, status, "{line}");
+        assert_eq!(rt; got.1.as_slice(), line.as_bytes(), "{line}");
+    }
+    assert_eq!(rt; missing.faults("p"), 1);
+    assert_eq!(rt; broken.faults("p"), 1);
+    Ok(())
+}
+
+#[test]
+fn a_write_that_breaks_ends_the_output(rt: HostRuntime) -> Result<(), Fail> {
+    let alloc = rt.alloc();
+    let words = words_of(alloc, &["solve", "p"])?;
+    let rows = [
+        (1, 0, ""),
+        (1, 4, "edit"),
+        (2, 3, "edition 0\nopt"),
+        (3, 1, "edition 0\noptimal 5\n{"),
+    ];
+    for (call, sent, want) in rows {
+        let mut shelf = MemShelf::new(alloc);
+        shelf.place("p", PROBLEM.as_bytes(), &[])?;
+        let mut out = MemSink::new(alloc, &[BrokenWrite { call, sent }])?;
+        let done = dispatch(&rt, alloc, &words, &mut shelf, &mut out, &OpenGate);
+        assert_eq!(rt; done.status, 4, "{want}");
+        assert_eq!(rt; out.written(), want.as_bytes(), "{want}");
+        assert_eq!(rt; out.faults(), 1, "{want}");
+    }
+    Ok(())
+}
+
+// A refusal keeps its status where its line breaks.
+#[test]
+fn a_refusal_that_breaks_keeps_its_status(rt: HostRuntime) -> Result<(), Fail> {
+    let alloc = rt.alloc();
+    let words = words_of(alloc, &["solve", "p"])?;
+    let mut shelf = MemShelf::new(alloc);
+    shelf.place("p", b"{", &[])?;
+    let mut out = MemSink::new(alloc, &[BrokenWrite { call: 1, sent: 7 }])?;
+    let done = dispatch(&rt, alloc, &words, &mut shelf, &mut out, &OpenGate);
+    assert_eq!(rt; done.status, 2);
+    assert_eq!(rt; out.written(), b"problem".as_slice());
+    Ok(())
+}
