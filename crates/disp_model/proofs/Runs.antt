@@ -66,7 +66,7 @@ lasts_from_runs trains plan spaced i e at =
     let train = slice_index_or trains e.train [] in
     let rest = drop (i + 1) plan in
     let parts : run_of e.train plan ≡ run_of e.train (take i plan) ++ run_of e.train (e ∷ rest) =
-      ap (run_of e.train) (split_at plan i e at) ∙ filter-append (λ g. nat_eq g.train e.train) (take i plan) (e ∷ rest) in
+    ap (run_of e.train) (split_at plan i e at) ∙ filter-append (λ g. nat_eq g.train e.train) (take i plan) (e ∷ rest) in
     let here : Spaced train (run_of e.train (e ∷ rest)) = Spaced-suffix train (run_of e.train (take i plan)) (run_of e.train (e ∷ rest)) (subst (Spaced train) parts (spaced e.train)) in
     rw (ending_time train i e e.train (i + 1) rest) (spaced_lasts train e (run_of e.train rest) (subst (Spaced train) (own_first e rest) here))
 
@@ -82,7 +82,7 @@ drop_behind (g ∷ before) e rest =
 
 spaced_more : (train : List Operation) (e : Event) (run : List Event) → e.time + duration_of train e.operation ≤ next_time train e run → Spaced train run → Spaced train (e ∷ run)
 spaced_more train e [] h rest = tt
-spaced_more train e (f ∷ run) h rest = (h , rest)
+spaced_more train e (f ∷ run) h rest = (h, rest)
 
 runs_at : (trains : List (List Operation)) (t : ℕ) (before : List Event) (e : Event) (rest : List Event) (b : Bool) → nat_eq e.train t ≡ b
     → Lasts trains (before ++ e ∷ rest) → Spaced (slice_index_or trains t []) (run_of t rest) → Spaced (slice_index_or trains t []) (cond b (e ∷ run_of t rest) (run_of t rest))
@@ -91,11 +91,11 @@ runs_at trains t before e rest true is lasts spaced =
     let same : e.train ≡ t = eqb-true e.train t is in
     let train = slice_index_or trains e.train [] in
     let ends : (end_of trains (before ++ e ∷ rest) (length before) e).time ≡ next_time train e (run_of e.train rest) =
-      ap (λ (l : List Event). (ending train (length before) e (first_of e.train (length before + 1) l)).time) (drop_behind before e rest)
-        ∙ ending_time train (length before) e e.train (length before + 1) rest in
+    ap (λ (l : List Event). (ending train (length before) e (first_of e.train (length before + 1) l)).time) (drop_behind before e rest)
+    ∙ ending_time train (length before) e e.train (length before + 1) rest in
     let lasting : e.time + duration_of train e.operation ≤ next_time train e (run_of e.train rest) = rw ends at (lasts (length before) e (get_behind before e rest)) in
     subst (λ (u : ℕ). Spaced (slice_index_or trains u []) (e ∷ run_of u rest)) same
-      (spaced_more train e (run_of e.train rest) lasting (subst (λ (u : ℕ). Spaced (slice_index_or trains u []) (run_of u rest)) (sym same) spaced))
+    (spaced_more train e (run_of e.train rest) lasting (subst (λ (u : ℕ). Spaced (slice_index_or trains u []) (run_of u rest)) (sym same) spaced))
 
 runs_from : (trains : List (List Operation)) (t : ℕ) (before rest : List Event) → Lasts trains (before ++ rest) → Spaced (slice_index_or trains t []) (run_of t rest)
 runs_from trains t before [] lasts = tt

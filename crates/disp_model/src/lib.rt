@@ -21,3 +21,6 @@ pub use plan::{Event, Plan};
 pub use problem::Problem;
 pub use text::Text;
 pub use train::{Component, Listing, Op, Operation, Train};
+
+#[cfg(test)]
+mod tests;

@@ -14,3 +14,6 @@ mod train;
 
 pub use fault::ProblemNo;
 pub use problem::read_problem;
+
+#[cfg(test)]
+mod tests;

@@ -101,27 +101,27 @@ fn what_is_no_json_is_refused(rt: HostRuntime) -> Result<(), Fail> {
     Ok(())
 }
 
+// The words get the line of usage.
+fn usage_is_told(rt: &HostRuntime, words: &[&str]) -> Result<(), Fail> {
+    let alloc = rt.alloc();
+    let words = words_of(alloc, words)?;
+    let mut shelf = SteadyShelf::new(alloc);
+    let mut out = SteadySink::new(alloc);
+    let done = dispatch(rt, alloc, &words, &mut shelf, &mut out, &OpenGate);
+    assert_eq!(rt; done.status, 2, "{words:?}");
+    assert_eq!(rt;
+        out.written(),
+        b"usage: dispatch solve PROBLEM\n".as_slice(),
+        "{words:?}"
+    );
+    Ok(())
+}
+
 #[test]
 fn other_words_are_refused(rt: HostRuntime) -> Result<(), Fail> {
-    let alloc = rt.alloc();
-    let rows = [
-        [].as_slice(),
-        ["solve"].as_slice(),
-        ["solve", "-p"].as_slice(),
-        ["solve", "p", "q"].as_slice(),
-        ["verify", "p"].as_slice(),
-    ];
-    for row in rows {
-        let words = words_of(alloc, row)?;
-        let mut shelf = SteadyShelf::new(alloc);
-        let mut out = SteadySink::new(alloc);
-        let done = dispatch(&rt, alloc, &words, &mut shelf, &mut out, &OpenGate);
-        assert_eq!(rt; done.status, 2, "{row:?}");
-        assert_eq!(rt;
-            out.written(),
-            b"usage: dispatch solve PROBLEM\n".as_slice(),
-            "{row:?}"
-        );
-    }
-    Ok(())
+    usage_is_told(&rt, &[])?;
+    usage_is_told(&rt, &["solve"])?;
+    usage_is_told(&rt, &["solve", "-p"])?;
+    usage_is_told(&rt, &["solve", "p", "q"])?;
+    usage_is_told(&rt, &["verify", "p"])
 }
