@@ -1,5 +1,5 @@
 -- Operations of a train, and the routes through it, by the operations' places in the train's list.
-use Rattle.std.specs.Prelude.{◌≡◌, ℕ, ◌<◌, List, [], ◌∷◌, length, Contains, slice_get, unwrap_or, Option}
+use Rattle.std.specs.Prelude.{◌≡◌, ℕ, ◌<◌, List, [], ◌∷◌, length, Contains, slice_get}
 use Rattle.std.specs.Option.{option_map_or}
 use Rattle.disp_model.specs.declared.train.Operation.{Operation}
 

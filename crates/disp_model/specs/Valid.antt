@@ -1,5 +1,5 @@
 -- When a plan is valid for a problem and a list of fixings.
-use Rattle.std.specs.Prelude.{◌≡◌, ◌≢◌, ℕ, ◌+◌, ◌<◌, ◌≤◌, List, [], length, All, Option, Some, slice_get, slice_index_or, IsSome, IfSome, map}
+use Rattle.std.specs.Prelude.{◌≡◌, ◌≢◌, ℕ, ◌+◌, ◌<◌, ◌≤◌, List, [], length, All, Option, Some, slice_get, slice_index_or, IsSome, IfSome}
 use Rattle.std.specs.List.{Any}
 use Rattle.std.specs.List.Sorted.{IsNonDecreasingBy}
 use Rattle.disp_model.specs.declared.plan.Event.{Event}
@@ -8,7 +8,7 @@ use Rattle.disp_model.specs.declared.train.Listing.{Listing}
 use Rattle.disp_model.specs.declared.fixing.Fixing.{Fixing}
 use Rattle.disp_model.specs.declared.problem.Problem.{Problem}
 use Rattle.disp_model.specs.Train.{IsRoute}
-use Rattle.disp_model.specs.Plan.{run_of, operations_of, end_of, Ending}
+use Rattle.disp_model.specs.Plan.{operations_of, end_of, Ending}
 use Rattle.disp_model.specs.Fixing.{IsMet}
 
 -- the train t of a problem

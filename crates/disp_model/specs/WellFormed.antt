@@ -1,11 +1,11 @@
 -- What holds of every problem (format; the limits are this project's choice).
-use Rattle.std.specs.Prelude.{◌≡◌, ◌≢◌, ℕ, zero, suc, ◌+◌, ◌*◌, ◌<◌, ◌≤◌, List, [], ◌∷◌, length, sum_by, max, All, Contains, slice_get, Some, map, fold}
+use Rattle.std.specs.Prelude.{◌≡◌, ◌≢◌, ℕ, zero, suc, ◌+◌, ◌*◌, ◌<◌, ◌≤◌, List, [], ◌∷◌, length, sum_by, max, All, slice_get, Some}
 use Rattle.std.specs.Option.{ForSome}
 use Rattle.disp_model.specs.declared.train.Operation.{Operation}
 use Rattle.disp_model.specs.declared.train.Component.{Component}
 use Rattle.disp_model.specs.declared.train.Listing.{Listing}
 use Rattle.disp_model.specs.declared.limits.TheConstants.{GREATEST_NUMBER, MOST_TRAINS, MOST_OPERATIONS, MOST_COMPONENTS, GREATEST_COST}
-use Rattle.disp_model.specs.Train.{next_of, IsEntry, IsExit, IsSuccessor}
+use Rattle.disp_model.specs.Train.{IsEntry, IsExit, IsSuccessor}
 
 -- the greatest release time of the resources listed, or 0
 abbrev pub greatest_release : List Listing → ℕ
