@@ -4,3 +4,14 @@ pub mod Plan
 pub mod Fixing
 pub mod Valid
 pub mod Cost
+pub mod Routes
+pub mod Follows
+pub mod Arcs
+pub mod Walks
+pub mod Nodes
+pub mod Trees
+pub mod Replies
+pub mod Earliest
+pub mod History
+pub mod Replay
+pub mod Legal

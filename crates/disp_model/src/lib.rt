@@ -4,23 +4,37 @@
 // judges: the crates above do, and their contracts cite these definitions.
 #![tactic(auto)]
 
+mod answer;
+mod decision;
+mod entry;
 mod fixing;
 mod limits;
 mod list;
 mod memory;
 mod plan;
 mod problem;
+mod reply;
 mod text;
 mod train;
+mod tree;
 
+pub use answer::{Alone, Answer, Unfinished};
+pub use decision::{Choice, Decision};
+pub use entry::{Entry, Mark, Split, Standing, Unasked};
 pub use fixing::Fixing;
-pub use limits::{GREATEST_COST, GREATEST_NUMBER, MOST_COMPONENTS, MOST_OPERATIONS, MOST_TRAINS};
+pub use limits::{
+    GREATEST_COST, GREATEST_EVENT_TIME, GREATEST_NUMBER, MOST_CALLERS, MOST_COMPONENTS,
+    MOST_EVENTS, MOST_FILE_BYTES, MOST_FIXINGS, MOST_LINE_BYTES, MOST_LINES, MOST_OPERATIONS,
+    MOST_TRAINS,
+};
 pub use list::{Copied, List};
 pub use memory::Memory;
 pub use plan::{Event, Plan};
 pub use problem::Problem;
+pub use reply::{Refusal, Reply};
 pub use text::Text;
 pub use train::{Component, Listing, Op, Operation, Train};
+pub use tree::{ComponentWalk, Leaf, Tree, TreeNode, Verdict};
 
 #[cfg(test)]
 mod tests;

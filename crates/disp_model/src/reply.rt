@@ -1,0 +1,44 @@
+use crate::list::Copied;
+use crate::memory::Memory;
+
+/// Why a fixing is refused.
+#[derive(Clone, Copy, Debug, PartialEq, Eq)]
+pub enum Refusal {
+    /// There is no such train.
+    NoTrain,
+    /// There is no such operation of the train.
+    NoOperation,
+    /// The chosen operation is no successor.
+    NoSuccessor,
+    /// The time is above 2147483647.
+    TooLarge,
+    /// The time is below the operation's lower.
+    BelowLower(u32),
+    /// The time is above the operation's upper.
+    AboveUpper(u32),
+    /// The operation is fixed to start at another time.
+    StartedAt(u64),
+    /// The operation is fixed to go on to another one.
+    ChosenIs(u64),
+    /// No route of the train agrees with the fixings and this one.
+    NoRoute,
+    /// There are so many fixings, and no more are taken.
+    Full(u32),
+}
+
+/// The reply to a fixing.
+#[derive(Clone, Copy, Debug, PartialEq, Eq)]
+pub enum Reply {
+    /// It is taken, and makes the edition of this number.
+    Accepted(u32),
+    /// It was taken before, as the fixing of this number.
+    Known(u32),
+    /// It is refused, and nothing changes.
+    Refused(Refusal),
+}
+
+impl Copied for Reply {
+    fn copy(&self) -> Result<Reply, Memory> {
+        Ok(*self)
+    }
+}
