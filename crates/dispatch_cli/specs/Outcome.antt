@@ -6,7 +6,7 @@ use Rattle.disp_outside.specs.Sink.{WritesPart}
 use Rattle.disp_model.specs.declared.plan.Event.{Event}
 use Rattle.disp_model.specs.declared.problem.Problem.{Problem}
 use Rattle.displib_reader.specs.Outcome.{IsReadAs, IsNoJson, IsNotPlain}
-use Rattle.dispatch_cli.specs.declared.limit.TheConstants.{MOST_BYTES}
+use Rattle.disp_model.specs.declared.limits.TheConstants.{MOST_FILE_BYTES}
 use Rattle.dispatch_cli.specs.declared.cause.Cause.{Cause}
 use Rattle.dispatch_cli.specs.declared.cause.Cause.TheVariants.{Words, Failed, TooLong, NotJson, NotPlain, Memory}
 use Rattle.dispatch_cli.specs.Words.{problem_named}
@@ -27,7 +27,7 @@ HoldsBytes holds name bytes = IfSome (holds name) (λ file. file ≡ Some bytes)
 
 -- the name holds a file that is too long, as far as is told
 abbrev pub HoldsTooMuch : Holdings → List ℕ → Type 0
-HoldsTooMuch holds name = IfSome (holds name) (λ file. IsSomeAnd file (λ bytes. MOST_BYTES < length bytes))
+HoldsTooMuch holds name = IfSome (holds name) (λ file. IsSomeAnd file (λ bytes. MOST_FILE_BYTES < length bytes))
 
 -- ---- what is written
 
@@ -72,7 +72,7 @@ pub record IsSolved (words : List (List ℕ)) (holds : Holdings) (text : List �
   pub named : problem_named words ≡ Some name
   pub bytes : List ℕ
   pub held : HoldsBytes holds name bytes
-  pub short : length bytes ≤ MOST_BYTES
+  pub short : length bytes ≤ MOST_FILE_BYTES
   pub answer : IsAnswer bytes text
 
 -- why there is no answer to the bytes
@@ -90,7 +90,7 @@ pub record IsRefused (words : List (List ℕ)) (holds : Holdings) (No : List ℕ
   pub named : problem_named words ≡ Some name
   pub bytes : List ℕ
   pub held : HoldsBytes holds name bytes
-  pub short : length bytes ≤ MOST_BYTES
+  pub short : length bytes ≤ MOST_FILE_BYTES
   pub no : No bytes
 
 -- what stopped a run has happened

@@ -8,7 +8,6 @@ mod cause;
 mod cost;
 mod done;
 mod earliest;
-mod limit;
 mod print;
 mod program;
 mod run;
@@ -17,7 +16,6 @@ mod words;
 
 pub use cause::Cause;
 pub use done::Done;
-pub use limit::MOST_BYTES;
 pub use program::dispatch;
 
 #[cfg(test)]

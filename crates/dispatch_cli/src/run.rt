@@ -6,10 +6,9 @@ ghost use Rattle.dispatch_cli.specs.Outcome.{IsAnswer, IsSolved, Denies, Misses,
 
 use crate::cause::Cause;
 use crate::earliest::earliest_plan;
-use crate::limit::MOST_BYTES;
 use crate::solution::write_solution;
 use crate::words::problem_name;
-use disp_model::{Event, Memory, Problem};
+use disp_model::{Event, MOST_FILE_BYTES, Memory, Problem};
 use disp_outside::{FetchNo, Shelf};
 use displib_reader::{ProblemNo, read_problem};
 use std::alloc::Global;
@@ -49,7 +48,7 @@ fn answer_lines(alloc: Global, bytes: &[u8]) -> Result<Vec<String>, Cause>
 /// The bytes of a file.
 fn fetch<S: Shelf>(alloc: Global, name: &str, shelf: &mut S) -> Result<Vec<u8>, Cause>
     ensures bytes { IfOk result (λ bytes. HoldsBytes (S.holds shelf.old) name.now bytes.items) }
-    ensures short { IfOk result (λ bytes. length bytes.items ≤ MOST_BYTES) }
+    ensures short { IfOk result (λ bytes. length bytes.items ≤ MOST_FILE_BYTES) }
     ensures no { IfErr result (Misses (S.holds shelf.old) (S.reading_faults shelf.old) (S.reading_faults shelf.new) name.now) }
 
     ensures counted { S.reading_faults shelf.old name.now ≤ S.reading_faults shelf.new name.now }
@@ -57,7 +56,7 @@ fn fetch<S: Shelf>(alloc: Global, name: &str, shelf: &mut S) -> Result<Vec<u8>, 
     ensures others { (other : List ℕ) → other ≢ name.now → S.reading_faults shelf.new other ≡ S.reading_faults shelf.old other }
     ensures held { (other : List ℕ) → S.holds shelf.new other ≡ S.holds shelf.old other }
 {
-    match shelf.fetch(alloc, name, MOST_BYTES) {
+    match shelf.fetch(alloc, name, MOST_FILE_BYTES) {
         Ok(bytes) => Ok(bytes),
         Err(FetchNo::Failed) => Err(Cause::Failed),
         Err(FetchNo::TooLong) => Err(Cause::TooLong),
