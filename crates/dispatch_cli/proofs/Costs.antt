@@ -1,19 +1,17 @@
 -- What components cost at starts, and in a plan.
-use Rattle.std.proofs.Common.{◌≡◌, ℕ, zero, suc, ◌+◌, ◌-◌, ◌*◌, ◌<◌, ◌≤◌, List, [], ◌∷◌, length, get_or, map, max, cond, Option, Some, None, refl, sym, ap, subst, ◌∙◌, arith, rules, inl, inr, mul-le-mul_left}
-use Rattle.std.specs.Prelude.{nat_eq, nat_le, slice_index_or, slice_get, All, sum_by}
+use Rattle.std.proofs.Common.{◌≡◌, ℕ, zero, suc, ◌+◌, ◌-◌, ◌*◌, ◌<◌, ◌≤◌, List, [], ◌∷◌, length, get_or, max, Some, refl, arith, inl, inr, mul-le-mul_left}
+use Rattle.std.specs.Prelude.{slice_index_or, sum_by}
 use Rattle.std.specs.List.{AllByRecursion}
 use Rattle.std.proofs.lemmas.Bool.{cases_lt, eq-eqb, le-leb, lt-leb}
 use Rattle.std.proofs.lemmas.List.Sums.{sum_by-cons}
-use Rattle.disp_model.specs.declared.plan.Event.{Event}
 use Rattle.disp_model.specs.declared.train.Operation.{Operation}
 use Rattle.disp_model.specs.declared.train.Component.{Component}
 use Rattle.disp_model.specs.declared.limits.TheConstants.{GREATEST_NUMBER}
-use Rattle.disp_model.specs.WellFormed.{horizon, span_of, most_of, greatest_release, HasFitNumbers}
-use Rattle.disp_model.specs.Plan.{start_of, run_of}
-use Rattle.disp_model.specs.Cost.{cost_at, cost_in, cost_of}
+use Rattle.disp_model.specs.WellFormed.{horizon, span_of, most_of, HasFitNumbers}
+use Rattle.disp_model.specs.Cost.{cost_at}
 use Rattle.dispatch_cli.specs.Earliest.{starts_from, run_from}
 use Rattle.dispatch_cli.proofs.Events.{apart}
-use Rattle.dispatch_cli.proofs.Least.{start_in, start_in_run}
+use Rattle.dispatch_cli.proofs.Least.{start_in}
 
 -- an operation starts at its start in the run at the starts
 pub start_in_run_from : (t k i : ℕ) (starts : List ℕ) → i < length starts → start_in (run_from t k starts) (k + i) ≡ Some (get_or starts i 0)

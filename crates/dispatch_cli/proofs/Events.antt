@@ -1,19 +1,18 @@
 -- The events at the earliest starts: the run of each train, its order, and its route.
-use Rattle.std.proofs.Common.{◌≡◌, ℕ, zero, suc, ◌+◌, ◌<◌, ◌≤◌, List, [], ◌∷◌, ◌++◌, length, get_or, drop, map, max, Bool, true, false, cond, Option, Some, None, refl, sym, ap, subst, ◌∙◌, arith, rules, inl, inr, drop-cons, append-nil}
-use Rattle.std.specs.Prelude.{nat_eq, filter, slice_get, All, IsSome, IfSome, Contains}
-use Rattle.std.specs.List.{AllByRecursion}
+use Rattle.std.proofs.Common.{◌≡◌, ℕ, zero, suc, ◌+◌, ◌<◌, List, [], ◌∷◌, length, get_or, drop, map, max, false, Some, None, refl, ap, ◌∙◌, arith, inl, inr, append-nil}
+use Rattle.std.specs.Prelude.{nat_eq, slice_get, Contains}
 use Rattle.std.specs.List.Sorted.{IsSortedBy}
-use Rattle.std.proofs.lemmas.Bool.{cases_Bool, cases_lt, eq-eqb, eqb-true, lt-ltb, le-ltb}
+use Rattle.std.proofs.lemmas.Bool.{cases_Bool, eq-eqb, eqb-true}
 use Rattle.std.proofs.lemmas.List.Elements.{filter-append}
-use Rattle.std.proofs.lemmas.Option.{slice_get_within, none-some}
+use Rattle.std.proofs.lemmas.Option.{none-some}
 use Rattle.disp_model.specs.declared.plan.Event.{Event}
 use Rattle.disp_model.specs.declared.train.Operation.{Operation}
-use Rattle.disp_model.specs.Train.{duration_of, next_of, IsSuccessor, IsEntry, IsExit, GoesOn, IsRoute}
+use Rattle.disp_model.specs.Train.{duration_of, next_of, IsExit, GoesOn, IsRoute}
 use Rattle.disp_model.specs.Plan.{run_of}
 use Rattle.disp_model.proofs.Runs.{Spaced}
-use Rattle.displib_reader.specs.Plain.{IsPlainTrain, next_place}
+use Rattle.displib_reader.specs.Plain.{IsPlainTrain}
 use Rattle.displib_reader.proofs.Chain.{successor-is, next_is_successor}
-use Rattle.dispatch_cli.specs.Earliest.{starts_from, starts_of, run_from, events_from}
+use Rattle.dispatch_cli.specs.Earliest.{starts_from, run_from, events_from}
 use Rattle.dispatch_cli.proofs.Ordered.{comes_before, not_before, sorted_more, sorted_one, sorted_none}
 
 -- ---- the run of each train

@@ -1,17 +1,17 @@
 -- No valid plan starts an operation of a plain train before its earliest start.
-use Rattle.std.proofs.Common.{◌≡◌, ℕ, zero, suc, ◌+◌, ◌-◌, ◌*◌, ◌<◌, ◌≤◌, List, [], ◌∷◌, ◌++◌, length, get_or, drop, map, max, Bool, true, false, cond, ◌&&◌, Option, Some, None, refl, sym, ap, subst, ◌∙◌, arith, rules, inl, inr, zero-add}
-use Rattle.std.specs.Prelude.{nat_eq, filter, slice_get, slice_index_or, All, IsSome, IfSome, Contains}
+use Rattle.std.proofs.Common.{◌≡◌, ℕ, zero, suc, ◌+◌, ◌<◌, ◌≤◌, List, [], ◌∷◌, length, get_or, drop, map, max, Bool, true, false, cond, ◌&&◌, Option, Some, None, refl, sym, ap, subst, ◌∙◌, arith, zero-add}
+use Rattle.std.specs.Prelude.{nat_eq, slice_get, IsSome, IfSome}
 use Rattle.std.specs.List.{AllByRecursion}
 use Rattle.std.proofs.Math.Seq.{drop-length}
-use Rattle.std.proofs.lemmas.Bool.{false≢true, cases_Bool, cases_lt, eq-eqb, eqb-true}
-use Rattle.std.proofs.lemmas.Option.{none-some, same_Some, get_or_from_slice_get, slice_get_within}
+use Rattle.std.proofs.lemmas.Bool.{false≢true, eq-eqb, eqb-true}
+use Rattle.std.proofs.lemmas.Option.{same_Some}
 use Rattle.std.proofs.lemmas.List.Elements.{recursion_from_All}
 use Rattle.disp_model.specs.declared.plan.Event.{Event}
 use Rattle.disp_model.specs.declared.train.Operation.{Operation}
 use Rattle.disp_model.specs.declared.problem.Problem.{Problem}
 use Rattle.disp_model.specs.declared.fixing.Fixing.{Fixing}
-use Rattle.disp_model.specs.Train.{duration_of, IsSuccessor, IsEntry, IsExit, GoesOn, IsRoute}
-use Rattle.disp_model.specs.Plan.{run_of, start_of, operations_of}
+use Rattle.disp_model.specs.Train.{duration_of, GoesOn, IsRoute}
+use Rattle.disp_model.specs.Plan.{run_of, start_of}
 use Rattle.disp_model.specs.Valid.{train_at, operation_of, MayStart, IsValid}
 use Rattle.disp_model.proofs.Runs.{Spaced}
 use Rattle.displib_reader.specs.Plain.{IsPlainTrain}

@@ -1,10 +1,10 @@
 -- The events at the earliest starts, in order, are a valid plan of least cost.
-use Rattle.std.proofs.Common.{◌≡◌, ℕ, zero, suc, ◌+◌, ◌<◌, ◌≤◌, List, [], ◌∷◌, length, get_or, map, Option, Some, None, refl, sym, ap, subst, ◌∙◌, arith, rules, zero-add, Vec, Global}
-use Rattle.std.specs.Prelude.{nat_eq, slice_get, slice_index_or, All, IsSome, IfSome, sum_by, is_some, true}
+use Rattle.std.proofs.Common.{◌≡◌, ℕ, zero, suc, ◌+◌, ◌<◌, ◌≤◌, List, [], ◌∷◌, length, get_or, map, Option, Some, None, refl, sym, ap, subst, ◌∙◌, arith, zero-add, Vec, Global}
+use Rattle.std.specs.Prelude.{nat_eq, slice_get, slice_index_or, All, IsSome, IfSome, sum_by}
 use Rattle.std.specs.List.{AllByRecursion}
 use Rattle.std.proofs.lemmas.List.{length-map}
 use Rattle.std.proofs.lemmas.Bool.{false≢true}
-use Rattle.std.proofs.lemmas.Option.{none-some, same_Some, get_or_from_slice_get, slice_get_within, slice_get-get_or}
+use Rattle.std.proofs.lemmas.Option.{same_Some, get_or_from_slice_get, slice_get_within, slice_get-get_or}
 use Rattle.std.proofs.lemmas.List.Elements.{All-from_recursion, recursion_from_All}
 use Rattle.std.specs.List.Sorted.{IsSortedBy}
 use Rattle.std.proofs.lemmas.List.Sorted.{All-permutation}
@@ -15,11 +15,11 @@ use Rattle.disp_model.specs.declared.problem.Problem.{Problem}
 use Rattle.disp_model.specs.Train.{duration_of, IsRoute}
 use Rattle.disp_model.specs.WellFormed.{IsComponent, HasFitNumbers, horizon, most_of}
 use Rattle.disp_model.specs.declared.limits.TheConstants.{GREATEST_COST, MOST_OPERATIONS, MOST_TRAINS}
-use Rattle.disp_model.specs.Plan.{run_of, start_of, end_of, operations_of}
-use Rattle.disp_model.specs.Valid.{train_at, operation_of, MayStart, IsValid, KeepApart, IsReleased}
-use Rattle.disp_model.specs.Cost.{cost_at, cost_in, cost_of, IsLeast}
+use Rattle.disp_model.specs.Plan.{run_of, start_of, end_of}
+use Rattle.disp_model.specs.Valid.{train_at, operation_of, MayStart, IsValid, KeepApart}
+use Rattle.disp_model.specs.Cost.{cost_at, cost_in, cost_of}
 use Rattle.disp_model.proofs.Runs.{Spaced, Lasts, lasts_from_runs, runs_are_spaced}
-use Rattle.displib_reader.specs.Plain.{IsPlain, IsPlainTrain}
+use Rattle.displib_reader.specs.Plain.{IsPlain}
 use Rattle.dispatch_cli.specs.Earliest.{starts_from, starts_of, run_from, events_from, IsInOrder, cost_at_starts, HasStart, IsBest}
 use Rattle.dispatch_cli.proofs.Sorting.{filter_of_sorted}
 use Rattle.dispatch_cli.proofs.Ordered.{comes_before, event_order, times_rise}

@@ -1,6 +1,6 @@
 -- Reading each of a list: what is done, and what is left.
-use Rattle.std.proofs.Common.{◌≡◌, ℕ, suc, ◌+◌, ◌<◌, ◌≤◌, List, [], ◌∷◌, ◌++◌, length, get_or, drop, map, Option, Some, None, refl, sym, ap, ◌∙◌, append_assoc, arith, add-one, drop-cons}
-use Rattle.displib_reader.specs.Field.{◌>>=◌, with_first, each}
+use Rattle.std.proofs.Common.{◌≡◌, ℕ, suc, ◌+◌, ◌<◌, List, [], ◌∷◌, ◌++◌, length, get_or, drop, map, Option, Some, None, refl, sym, ap, ◌∙◌, append_assoc, add-one, drop-cons}
+use Rattle.displib_reader.specs.Field.{with_first, each}
 
 -- what is done, before what is left
 abbrev pub with_front : {B : Type 0} → List B → Option (List B) → Option (List B)

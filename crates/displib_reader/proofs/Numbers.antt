@@ -1,23 +1,17 @@
 -- Numbers within the limit, and the one number that a list of successors is.
-use Rattle.std.proofs.Common.{◌≡◌, ℕ, zero, suc, ◌+◌, ◌<◌, ◌≤◌, List, [], ◌∷◌, ◌++◌, length, Option, Some, None, Bool, true, false, not, cond, refl, sym, ap, subst, ◌∙◌, arith, rules, inl, inr, option_map, true≢false}
-use Rattle.std.specs.Prelude.{nat_eq, filter, codes, All, ⊤, nat_le, option_and_then}
-use Rattle.std.specs.List.{list_all, flat_map, AllByRecursion}
-use Rattle.std.specs.Str.{bytes_eq}
-use Rattle.std.specs.Option.{option_map_or, ForSome}
+use Rattle.std.proofs.Common.{◌≡◌, ℕ, ◌≤◌, List, [], ◌∷◌, length, Option, Some, None, Bool, true, false, not, cond, refl, sym, subst, ◌∙◌, arith, inl, inr}
+use Rattle.std.specs.Prelude.{nat_eq, filter, nat_le, option_and_then}
+use Rattle.std.specs.List.{list_all, AllByRecursion}
+use Rattle.std.specs.Option.{option_map_or}
 use Rattle.std.proofs.lemmas.Bool.{cases_Bool, eq-eqb, eqb-true, and_parts, leb-true}
 use Rattle.std.proofs.lemmas.Option.{none-some, same_Some}
-use Rattle.std.proofs.lemmas.List.Elements.{All-from_recursion, recursion_from_All}
 use Rattle.serde_json.specs.Data.{Data}
-use Rattle.serde_json.specs.Find.{as_array, as_object, as_u64, as_number}
-use Rattle.disp_model.specs.declared.train.Operation.{Operation}
-use Rattle.disp_model.specs.declared.train.Listing.{Listing}
-use Rattle.disp_model.specs.declared.train.Component.{Component}
+use Rattle.serde_json.specs.Find.{as_u64, as_number}
 use Rattle.disp_model.specs.declared.limits.TheConstants.{GREATEST_NUMBER}
-use Rattle.disp_model.specs.WellFormed.{HasFitNumbers}
-use Rattle.displib_reader.specs.Field.{◌>>=◌, with_first, each, whole_of, fit, number_or, number_at, optional_number, array_at, array_or_empty, values_of, text_at, field}
-use Rattle.displib_reader.specs.ProblemOf.{once, operation_of, listing_of, train_of, names_of_operation, names_of_train, members_of, component_of}
-use Rattle.displib_reader.specs.Plain.{is_number, only_next, none_of, absent, open_ended, lists_nothing, only_successor, plain_operation, plain_train, HasFitCosts}
-use Rattle.displib_reader.proofs.Steps.{bind_some, each_some, each_cons, each_along, each_all, each_nothing}
+use Rattle.displib_reader.specs.Field.{each, whole_of, fit, number_or, field}
+use Rattle.displib_reader.specs.ProblemOf.{once}
+use Rattle.displib_reader.specs.Plain.{is_number, only_next}
+use Rattle.displib_reader.proofs.Steps.{bind_some, each_some, each_cons}
 
 -- ---- numbers within the limit
 

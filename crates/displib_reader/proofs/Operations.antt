@@ -1,23 +1,16 @@
 -- The plain reader of an operation gives the operation of the value.
-use Rattle.std.proofs.Common.{◌≡◌, ℕ, zero, suc, ◌+◌, ◌<◌, ◌≤◌, List, [], ◌∷◌, ◌++◌, length, Option, Some, None, Bool, true, false, not, cond, refl, sym, ap, subst, ◌∙◌, arith, rules, inl, inr, option_map, true≢false}
-use Rattle.std.specs.Prelude.{nat_eq, filter, codes, All, ⊤, nat_le, option_and_then}
-use Rattle.std.specs.List.{list_all, flat_map, AllByRecursion}
-use Rattle.std.specs.Str.{bytes_eq}
-use Rattle.std.specs.Option.{option_map_or, ForSome}
-use Rattle.std.proofs.lemmas.Bool.{cases_Bool, eq-eqb, eqb-true, and_parts, leb-true}
+use Rattle.std.proofs.Common.{◌≡◌, ℕ, ◌≤◌, List, [], ◌∷◌, length, Option, Some, None, refl, sym, ap, subst, ◌∙◌, arith}
+use Rattle.std.specs.Prelude.{nat_eq, codes, ⊤}
 use Rattle.std.proofs.lemmas.Option.{none-some, same_Some}
-use Rattle.std.proofs.lemmas.List.Elements.{All-from_recursion, recursion_from_All}
 use Rattle.serde_json.specs.Data.{Data}
-use Rattle.serde_json.specs.Find.{as_array, as_object, as_u64, as_number}
+use Rattle.serde_json.specs.Find.{as_object}
 use Rattle.disp_model.specs.declared.train.Operation.{Operation}
 use Rattle.disp_model.specs.declared.train.Listing.{Listing}
-use Rattle.disp_model.specs.declared.train.Component.{Component}
-use Rattle.disp_model.specs.declared.limits.TheConstants.{GREATEST_NUMBER}
 use Rattle.disp_model.specs.WellFormed.{HasFitNumbers}
-use Rattle.displib_reader.specs.Field.{◌>>=◌, with_first, each, whole_of, fit, number_or, number_at, optional_number, array_at, array_or_empty, values_of, text_at, field}
-use Rattle.displib_reader.specs.ProblemOf.{once, operation_of, listing_of, train_of, names_of_operation, names_of_train, members_of, component_of}
-use Rattle.displib_reader.specs.Plain.{is_number, only_next, none_of, absent, open_ended, lists_nothing, only_successor, plain_operation, plain_train, HasFitCosts}
-use Rattle.displib_reader.proofs.Steps.{bind_some, each_some, each_cons, each_along, each_all, each_nothing}
+use Rattle.displib_reader.specs.Field.{each, whole_of, number_or, optional_number, array_or_empty}
+use Rattle.displib_reader.specs.ProblemOf.{once, operation_of, listing_of, names_of_operation}
+use Rattle.displib_reader.specs.Plain.{only_next, none_of, absent, open_ended, lists_nothing, only_successor, plain_operation}
+use Rattle.displib_reader.proofs.Steps.{bind_some, each_some}
 use Rattle.displib_reader.proofs.Numbers.{number_fits, only_next_reads, reads_only_next}
 
 -- an operation that lists nothing, has no latest start, and goes on to one operation at most

@@ -1,9 +1,8 @@
 -- The problem of a JSON value, in the DISPLIB 2025 format. Keys that are not named here do not matter.
-use Rattle.std.specs.Prelude.{◌≡◌, ℕ, ◌==◌, List, [], ◌∷◌, Bool, not, Option, Some, None, option_map, is_some, filter, codes, if◌then◌else◌, nat_eq, ⊤}
+use Rattle.std.specs.Prelude.{◌≡◌, ℕ, List, [], ◌∷◌, Bool, not, Option, Some, None, option_map, filter, codes, if◌then◌else◌, nat_eq}
 use Rattle.std.specs.List.{flat_map, filter_map, position_or_len}
 use Rattle.std.specs.Str.{bytes_eq}
-use Rattle.std.specs.Option.{option_map_or}
-use Rattle.serde_json.specs.Data.{Data, Members}
+use Rattle.serde_json.specs.Data.{Data}
 use Rattle.serde_json.specs.Find.{as_array, as_object}
 use Rattle.disp_model.specs.declared.train.Listing.{Listing}
 use Rattle.disp_model.specs.declared.train.Operation.{Operation}

@@ -2,6 +2,7 @@
 use super::doubles::{solve, words_of};
 use crate::dispatch;
 use disp_outside::{OpenGate, SteadyShelf, SteadySink};
+use std::process::Abort;
 use std::test::Fail;
 
 const NOT_PLAIN: &str = "problem: NotPlain\n";
@@ -102,7 +103,7 @@ fn what_is_no_json_is_refused(rt: HostRuntime) -> Result<(), Fail> {
 }
 
 // The words get the line of usage.
-fn usage_is_told(rt: &HostRuntime, words: &[&str]) -> Result<(), Fail> {
+fn usage_is_told(rt: &(impl Abort + AllocGlobal), words: &[&str]) -> Result<(), Fail> {
     let alloc = rt.alloc();
     let words = words_of(alloc, words)?;
     let mut shelf = SteadyShelf::new(alloc);

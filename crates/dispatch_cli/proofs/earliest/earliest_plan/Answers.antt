@@ -1,5 +1,4 @@
-use Rattle.std.proofs.Common.{◌≡◌, List, ℕ, map, ◌∙◌, sym}
-use Rattle.disp_model.specs.declared.train.Component.{Component}
+use Rattle.std.proofs.Common.{◌≡◌, map, ◌∙◌, sym}
 use Rattle.dispatch_cli.specs.Earliest.{starts_of, events_from, IsInOrder}
 use Rattle.dispatch_cli.proofs.Proved.{there_at, fits_at, best_at, operations_at}
 use Rattle.dispatch_cli.proofs.earliest.earliest_plan.Goals as goal

@@ -1,4 +1,4 @@
-use Rattle.std.proofs.Common.{refl, ap, Err, ◌∙◌}
+use Rattle.std.proofs.Common.{ap, Err, ◌∙◌}
 use Rattle.std.proofs.lemmas.Result.{err_from_is_err_and}
 use Rattle.dispatch_cli.proofs.Printed.{part_of_lines, lines_more, stays}
 use Rattle.dispatch_cli.proofs.print.print.Goals as goal

@@ -1,4 +1,4 @@
-use Rattle.std.proofs.Common.{rules, arith, sym, subst, ◌≤◌, ◌≡◌, true, ℕ, length}
+use Rattle.std.proofs.Common.{rules, arith, sym, subst, ◌≤◌, ℕ}
 use Rattle.std.specs.Prelude.{sum_by, All}
 use Rattle.disp_model.specs.WellFormed.{most_of, operation_count, IsComponent}
 use Rattle.disp_model.specs.declared.limits.TheConstants.{GREATEST_COST, MOST_OPERATIONS}

@@ -1,6 +1,4 @@
-use Rattle.std.proofs.Common.{rules, List, []}
-use Rattle.disp_model.specs.declared.train.Operation.{Operation}
-use Rattle.disp_model.specs.declared.train.Component.{Component}
+use Rattle.std.proofs.Common.{rules}
 use Rattle.displib_reader.specs.Plain.{IsPlain}
 use Rattle.displib_reader.specs.Outcome.{AreWithinLimits}
 use Rattle.displib_reader.proofs.Problems.{plain_parts}
