@@ -1,5 +1,5 @@
 -- The plan of earliest starts at a node, and the choice that is picked there.
-use Rattle.std.specs.Prelude.{◌≡◌, ◌≢◌, ◌⊎◌, ℕ, ◌+◌, ◌<◌, ◌≤◌, List, [], ◌∷◌, ◌++◌, length, take, drop, Contains, Option, Some, None, slice_get}
+use Rattle.std.specs.Prelude.{◌≡◌, ◌≢◌, ◌⊎◌, ℕ, ◌<◌, List, ◌∷◌, ◌++◌, length, take, drop, Contains, Option, Some, None, slice_get}
 use Rattle.disp_model.specs.declared.train.Op.{Op}
 use Rattle.disp_model.specs.declared.fixing.Fixing.{Fixing}
 use Rattle.disp_model.specs.declared.decision.Decision.{Decision}
@@ -11,7 +11,7 @@ use Rattle.disp_model.specs.declared.problem.Problem.{Problem}
 use Rattle.disp_model.specs.Fixing.{after}
 use Rattle.disp_model.specs.Valid.{IsValid, KeepApart}
 use Rattle.disp_model.specs.Routes.{IsAllowed, HasOneRoute, IsForced, Starts}
-use Rattle.disp_model.specs.Arcs.{HasArc, Conflicts}
+use Rattle.disp_model.specs.Arcs.{HasArc}
 use Rattle.disp_model.specs.Walks.{IsLongest, HasCycle}
 
 abbrev pub op_of : Event → Op

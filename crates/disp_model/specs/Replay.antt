@@ -1,5 +1,5 @@
 -- The tree that a history grew, by the splits of its entries.
-use Rattle.std.specs.Prelude.{◌≡◌, ◌⊎◌, ℕ, ◌+◌, ◌<◌, ◌==◌, List, [], ◌∷◌, ◌++◌, length, take, Contains, Option, Some, None, MatchOption, if◌then◌else◌}
+use Rattle.std.specs.Prelude.{ℕ, ◌+◌, ◌<◌, ◌==◌, List, [], ◌∷◌, ◌++◌, length, take, Option, Some, None, MatchOption, if◌then◌else◌}
 use Rattle.disp_model.specs.declared.decision.Decision.{Decision}
 use Rattle.disp_model.specs.declared.decision.Choice.{Choice}
 use Rattle.disp_model.specs.declared.reply.Reply.{Reply}
@@ -11,7 +11,7 @@ use Rattle.disp_model.specs.declared.problem.Problem.{Problem}
 use Rattle.disp_model.specs.Trees.{children_of}
 use Rattle.disp_model.specs.Nodes.{IsDead, IsBound}
 use Rattle.disp_model.specs.Earliest.{IsPicked}
-use Rattle.disp_model.specs.History.{edition_of, newest, IsBestCost}
+use Rattle.disp_model.specs.History.{edition_of, IsBestCost}
 
 -- a node of the grown tree: a branch, or a leaf with its number and the decisions above it
 pub data Place : Type 0 where
@@ -38,8 +38,8 @@ split_places problem split unused [] = []
 split_places problem split unused (branch choice ∷ places) = branch choice ∷ split_places problem split unused places
 split_places problem split unused (leaf number above ∷ places) =
     if number == split.node
-      then branch split.choice ∷ leaves_for unused above (children_of problem split.choice) ++ places
-      else leaf number above ∷ split_places problem split unused places
+    then branch split.choice ∷ leaves_for unused above (children_of problem split.choice) ++ places
+    else leaf number above ∷ split_places problem split unused places
 
 abbrev pub after_split : Problem → Growth → Split → Growth
 after_split problem growth split = record {

@@ -1,5 +1,5 @@
 -- The reply to a fixing: that of the first row that holds.
-use Rattle.std.specs.Prelude.{◌≡◌, ◌⊎◌, ℕ, ◌+◌, ◌<◌, ◌==◌, ◌&&◌, Bool, true, false, List, [], ◌∷◌, ◌++◌, length, Option, Some, None, MatchOption, slice_get, if◌then◌else◌}
+use Rattle.std.specs.Prelude.{◌≡◌, ◌⊎◌, ℕ, ◌+◌, ◌<◌, ◌==◌, ◌&&◌, Bool, false, List, [], ◌∷◌, ◌++◌, length, Option, Some, None, MatchOption, slice_get, if◌then◌else◌}
 use Rattle.std.specs.Option.{option_map}
 use Rattle.disp_model.specs.declared.train.Op.{Op}
 use Rattle.disp_model.specs.declared.train.Operation.{Operation}
@@ -41,18 +41,18 @@ Row holds answer reply others = (holds × (reply ≡ answer)) ⊎ ((holds → �
 abbrev pub Closes : Problem → List Fixing → ℕ → Fixing → Reply → Type 0
 Closes problem fixings t fixing reply =
     Row (HasRoute problem (fixings ++ fixing ∷ []) [] t → ⊥) (Refused NoRoute) reply
-      (Row (length fixings ≡ MOST_FIXINGS) (Refused (Full MOST_FIXINGS)) reply (reply ≡ Accepted (length fixings + 1)))
+    (Row (length fixings ≡ MOST_FIXINGS) (Refused (Full MOST_FIXINGS)) reply (reply ≡ Accepted (length fixings + 1)))
 
 -- of a started operation, from the rows on its time on
 abbrev pub RepliesToStart : Problem → List Fixing → ℕ → ℕ → ℕ → Operation → Reply → Type 0
 RepliesToStart problem fixings t o time operation reply =
     Row (GREATEST_NUMBER < time) (Refused TooLarge) reply
-      (Row (time < operation.lower) (Refused (BelowLower operation.lower)) reply
-        (Upper operation.upper))
+    (Row (time < operation.lower) (Refused (BelowLower operation.lower)) reply
+    (Upper operation.upper))
   where
     Rest : Type 0
     Rest =
-      MatchOption (number_of (Started t o time) fixings)
+        MatchOption (number_of (Started t o time) fixings)
         (MatchOption (fixed_start fixings (record { train = t; op = o })) (Closes problem fixings t (Started t o time) reply) (λ kept. reply ≡ Refused (StartedAt kept)))
         (λ k. reply ≡ Known k)
 
@@ -64,15 +64,15 @@ RepliesToStart problem fixings t o time operation reply =
 abbrev pub RepliesToChoice : Problem → List Fixing → ℕ → ℕ → ℕ → Reply → Type 0
 RepliesToChoice problem fixings t o next reply =
     Row (IsSuccessor (train_at problem t) o next → ⊥) (Refused NoSuccessor) reply
-      (MatchOption (number_of (Chosen t o next) fixings)
-        (MatchOption (fixed_next fixings (record { train = t; op = o })) (Closes problem fixings t (Chosen t o next) reply) (λ kept. reply ≡ Refused (ChosenIs kept)))
-        (λ k. reply ≡ Known k))
+    (MatchOption (number_of (Chosen t o next) fixings)
+    (MatchOption (fixed_next fixings (record { train = t; op = o })) (Closes problem fixings t (Chosen t o next) reply) (λ kept. reply ≡ Refused (ChosenIs kept)))
+    (λ k. reply ≡ Known k))
 
 -- the reply to a fixing, with the fixings accepted before (this project)
 abbrev pub IsReply : Problem → List Fixing → Fixing → Reply → Type 0
 IsReply problem fixings (Started t o time) reply =
     MatchOption (slice_get problem.trains t) (reply ≡ Refused NoTrain)
-      (λ train. MatchOption (slice_get train o) (reply ≡ Refused NoOperation) (λ operation. RepliesToStart problem fixings t o time operation reply))
+    (λ train. MatchOption (slice_get train o) (reply ≡ Refused NoOperation) (λ operation. RepliesToStart problem fixings t o time operation reply))
 IsReply problem fixings (Chosen t o next) reply =
     MatchOption (slice_get problem.trains t) (reply ≡ Refused NoTrain)
-      (λ train. MatchOption (slice_get train o) (reply ≡ Refused NoOperation) (λ operation. RepliesToChoice problem fixings t o next reply))
+    (λ train. MatchOption (slice_get train o) (reply ≡ Refused NoOperation) (λ operation. RepliesToChoice problem fixings t o next reply))

@@ -10,7 +10,6 @@ use Rattle.disp_model.specs.declared.problem.Problem.{Problem}
 use Rattle.disp_model.specs.Train.{IsRoute}
 use Rattle.disp_model.specs.Valid.{train_at}
 use Rattle.disp_model.specs.Fixing.{after}
-use Rattle.disp_model.specs.Plan.{operations_of}
 
 -- the route has the operation that a fixing of its train names, followed as a chosen one says (this project)
 abbrev pub AgreesWithFixing : ℕ → List ℕ → Fixing → Type 0
