@@ -1,15 +1,15 @@
 -- What is left when a lock is closed by its last pass.
-use Rattle.std.proofs.Common.{◌≡◌, ◌≢◌, ℕ, zero, suc, ◌+◌, ◌<◌, ◌≤◌, ◌⊎◌, Bool, true, false, List, [], ◌∷◌, ◌++◌, length, get_or, sym, refl, ap, ◌∙◌, subst, inl, inr, ⊎_elim, arith, Option, None, Some}
+use Rattle.std.proofs.Common.{◌≡◌, ◌≢◌, ℕ, zero, suc, ◌<◌, ◌≤◌, true, false, List, length, get_or, sym, ap, ◌∙◌, subst, ⊎_elim, arith, Option, Some}
 use Rattle.std.specs.Prelude.{Contains}
-use Rattle.std.proofs.lemmas.Bool.{both_ways, cases_lt}
+use Rattle.std.proofs.lemmas.Bool.{both_ways}
 use mathlib.Core.Logic.{dite}
-use mathlib.Core.Option.{none, some, some-injective, some-ne-none}
+use mathlib.Core.Option.{some, some-injective}
 use native.Mathlib.Decide.{ℕ_discrete}
 use lib.ListN.{get_elem?}
 use Rattle.atomic_table.specs.Table.{State, Final, Seen}
 use Rattle.turn_lock.specs.declared.pass.View.{View}
 use Rattle.turn_lock.specs.View.{IsLast}
-use Rattle.turn_lock.specs.Order.{Fits, Roster, Held, Ordered}
+use Rattle.turn_lock.specs.Order.{Ordered}
 use Rattle.turn_lock.proofs.Beginnings.{either_bool, contains_none, starts_whole}
 use Rattle.turn_lock.proofs.Rosters.{one_view}
 
@@ -28,7 +28,7 @@ module _ {S E : Type 0} (entries : S → List E) (named : E → Option ℕ) wher
         (λ (live : u.spent ≡ false). ⊎_elim
         (λ (uf : u.first ≡ true). absurd (apart (q.only_first j u there uf ∙ sym whole)))
         (λ (ug : u.first ≡ false). let g : Contains v.given u.caller = subst (λ (z : View E). Contains z.given u.caller) (sym same) (q.given j u there ug live) in
-            absurd (q.out j u there ug live (subst (λ (z : View E). Contains z.back u.caller) same (last.1 u.caller g))))
+        absurd (q.out j u there ug live (subst (λ (z : View E). Contains z.back u.caller) same (last.1 u.caller g))))
         (either_bool u.first))
         (either_bool u.spent)
 
@@ -46,9 +46,9 @@ module _ {S E : Type 0} (entries : S → List E) (named : E → Option ℕ) wher
     seen_all : v.seen ≡ r.history
     seen_all = let f = r.roster.fits i v at in starts_whole r.history v.seen f.seen (reaches (length r.history) (λ place short. f.within place (mine_all place short)))
       where
-      reaches : (n : ℕ) → ((place : ℕ) → place < n → place < length v.seen) → n ≤ length v.seen
-      reaches zero all = omega arith
-      reaches (suc n) all = let last_one = all n (omega arith) in omega arith
+        reaches : (n : ℕ) → ((place : ℕ) → place < n → place < length v.seen) → n ≤ length v.seen
+        reaches zero all = omega arith
+        reaches (suc n) all = let last_one = all n (omega arith) in omega arith
 
     leaves : (state : S) → entries state ≡ r.history → Leaves v state
     leaves state is = let f = r.roster.fits i v at in let size : length (entries state) ≡ length r.history = ap length is in record {
@@ -66,5 +66,5 @@ module _ {S E : Type 0} (entries : S → List E) (named : E → Option ℕ) wher
   pub gives_state : (v : View E) (found : Option S) (state : S) → (t : S) × (found ≡ Some t) × Leaves v t → found ≡ Some state → Leaves v state
   gives_state v found state h is = subst (Leaves v) (same_some h.0 state (sym h.1 ∙ is)) h.2
     where
-    same_some : (a b : S) → Some a ≡ Some b → a ≡ b
-    same_some a b e = cc
+      same_some : (a b : S) → Some a ≡ Some b → a ≡ b
+      same_some a b e = cc

@@ -1,6 +1,6 @@
 -- Each step of a lock keeps its rule.
-use Rattle.std.proofs.Common.{◌≡◌, ◌≢◌, ℕ, zero, suc, ◌+◌, ◌%◌, ◌^◌, ◌<◌, ◌≤◌, ◌⊎◌, eqb, Bool, true, false, List, [], ◌∷◌, ◌++◌, map, length, get_or, set, sym, refl, ap, ◌∙◌, subst, inl, inr, ⊎_elim, arith, le_refl, length-set, get_or-set_same, get_or-set_other, length-append, eq-eqb, ne_eqb, Option, None, Some}
-use Rattle.std.specs.Prelude.{Contains, slice_get, if◌then◌else◌}
+use Rattle.std.proofs.Common.{◌≡◌, ◌≢◌, ℕ, zero, suc, ◌+◌, ◌%◌, ◌<◌, ◌≤◌, eqb, true, false, List, [], ◌∷◌, ◌++◌, length, get_or, set, sym, refl, ap, ◌∙◌, subst, ⊎_elim, arith, le_refl, length-set, get_or-set_same, get_or-set_other, length-append, eq-eqb, ne_eqb, Option, None, Some}
+use Rattle.std.specs.Prelude.{Contains, if◌then◌else◌}
 use Rattle.std.proofs.lemmas.Bool.{both_ways, cond_both}
 use mathlib.Core.Logic.{dite}
 use mathlib.Core.Option.{none, some, some-injective, some-ne-none}
@@ -8,12 +8,12 @@ use native.Mathlib.Decide.{ℕ_discrete}
 use lib.ListN.{get_elem?}
 use lib.Seq.{set-get_or}
 use prog.Atomic.{either}
-use Rattle.atomic_table.specs.Table.{State, Me, step, keeps, takes, gives, stepped, Allows, Splits, Joins, opening}
+use Rattle.atomic_table.specs.Table.{State, step, keeps, takes, gives, stepped, Allows, Splits, Joins, opening}
 use Rattle.atomic_table.proofs.Lists.{set_here, set_else, at_longer}
 use Rattle.turn_lock.specs.declared.pass.View.{View}
-use Rattle.turn_lock.specs.View.{StartsWith, AreApart, first_view, giving, given_view, joining, spent_view}
+use Rattle.turn_lock.specs.View.{StartsWith, first_view, giving, given_view, joining, spent_view}
 use Rattle.turn_lock.specs.Section.{IsOf, OwnsPlaces, Begins}
-use Rattle.turn_lock.specs.Steps.{missed, holding, entered, counted, released, Sat, Took, Missed, Takes, Enters, Counts, Releases, Settles}
+use Rattle.turn_lock.specs.Steps.{missed, holding, entered, counted, released, Sat, Takes, Enters, Counts, Releases, Settles}
 use Rattle.turn_lock.specs.Order.{Fits, Roster, Held, Ordered}
 use Rattle.turn_lock.proofs.Beginnings.{either_bool, contains_none, starts_none, starts_refl, starts_length}
 use Rattle.turn_lock.proofs.Rosters.{inside, one_view, each_after, at_end, SameRole, owns, begins, roster_set}
@@ -36,12 +36,12 @@ module _ {E : Type 0} where
   pub held_same : (lock : ℕ) (l : List (View E)) → Held lock l → (i : ℕ) (v w : View E) → get_elem? l i ≡ some v → w.holding ≡ v.holding → Held lock (set l i w)
   held_same lock l k i v w at same = let P : ℕ → View E → Type 0 = λ j u. (o : View E) × (get_elem? l j ≡ some o) × (u.holding ≡ o.holding) in
       let old : (j : ℕ) (u : View E) → get_elem? (set l i w) j ≡ some u → P j u = each_after P l i w (v, at, same) (λ j u _ e. (u, e, refl)) in record {
-    nobody = λ free j u e. let o = old j u e in o.2 ∙ k.nobody free j o.0 o.1;
-    somebody = λ taken. let t = k.somebody taken in dite (ℕ_discrete t.0 i)
-        (λ is. (i, w, set_here l i w (inside l i v at), same ∙ subst (λ (z : View E). z.holding ≡ true) (one_view l i t.0 v t.1 at t.2 is) t.3))
-        (λ other. (t.0, t.1, set_else l i t.0 w other ∙ t.2, t.3));
-    one = λ j m u x a b p q. let o = old j u a in let n = old m x b in k.one j m o.0 n.0 o.1 n.1 (sym o.2 ∙ p) (sym n.2 ∙ q);
-  }
+        nobody = λ free j u e. let o = old j u e in o.2 ∙ k.nobody free j o.0 o.1;
+        somebody = λ taken. let t = k.somebody taken in dite (ℕ_discrete t.0 i)
+            (λ is. (i, w, set_here l i w (inside l i v at), same ∙ subst (λ (z : View E). z.holding ≡ true) (one_view l i t.0 v t.1 at t.2 is) t.3))
+            (λ other. (t.0, t.1, set_else l i t.0 w other ∙ t.2, t.3));
+        one = λ j m u x a b p q. let o = old j u a in let n = old m x b in k.one j m o.0 n.0 o.1 n.1 (sym o.2 ∙ p) (sym n.2 ∙ q);
+      }
 
   -- a view comes that does not hold
   held_longer : (lock : ℕ) (l : List (View E)) (g : View E) → g.holding ≡ false → Held lock l → Held lock (l ++ g ∷ [])
@@ -134,30 +134,30 @@ module _ {S E : Type 0} (entries : S → List E) (named : E → Option ℕ) wher
       let here : get_or (set s.words 0 1) 0 0 ≡ 1 = get_or-set_same s.words 0 1 0 (omega arith) in
       let there : get_or (set s.words 0 1) 1 0 ≡ count s = get_or-set_other s.words 0 1 1 0 (λ e. omega arith) in
       let mine : (j : ℕ) (u : View E) → get_elem? (set s.views i w) j ≡ some u → u.holding ≡ true → j ≡ i =
-          each_after (λ j u. u.holding ≡ true → j ≡ i) s.views i w (λ _. refl) (λ j u _ e has. absurd (both_ways u.holding (r.held.nobody free j u e) has)) in record {
-    history = r.history;
-    two_words = length-set s.words 0 1 ∙ two;
-    one_slot = length-set s.homes 0 none ∙ r.one_slot;
-    binary = omega arith;
-    counted = there ∙ r.counted;
-    home = λ z. absurd (omega arith);
-    held = record {
-      nobody = λ z. absurd (omega arith);
-      somebody = λ _. (i, w, set_here s.views i w (inside s.views i v at), refl);
-      one = λ j m u x a b p q. mine j u a p ∙ sym (mine m x b q);
-    };
-    roster = roster_set named r.history s.views r.roster i v w at (record { first = refl; spent = refl; caller = refl; given = refl; back = refl }) refl record {
-      seen = f.seen;
-      count = f.count;
-      held = λ _. is;
-      within = f.within;
-      names = f.names;
-      others_back = f.others_back;
-      spent = λ gone. absurd (both_ways v.spent live gone);
-      met_apart = f.met_apart;
-      met_one = f.met_one;
-    };
-  }
+      each_after (λ j u. u.holding ≡ true → j ≡ i) s.views i w (λ _. refl) (λ j u _ e has. absurd (both_ways u.holding (r.held.nobody free j u e) has)) in record {
+        history = r.history;
+        two_words = length-set s.words 0 1 ∙ two;
+        one_slot = length-set s.homes 0 none ∙ r.one_slot;
+        binary = omega arith;
+        counted = there ∙ r.counted;
+        home = λ z. absurd (omega arith);
+        held = record {
+          nobody = λ z. absurd (omega arith);
+          somebody = λ _. (i, w, set_here s.views i w (inside s.views i v at), refl);
+          one = λ j m u x a b p q. mine j u a p ∙ sym (mine m x b q);
+        };
+        roster = roster_set named r.history s.views r.roster i v w at (record { first = refl; spent = refl; caller = refl; given = refl; back = refl }) refl record {
+          seen = f.seen;
+          count = f.count;
+          held = λ _. is;
+          within = f.within;
+          names = f.names;
+          others_back = f.others_back;
+          spent = λ gone. absurd (both_ways v.spent live gone);
+          met_apart = f.met_apart;
+          met_one = f.met_one;
+        };
+      }
 
   pub takes_turn : (slots i : ℕ) (me : Sat S E) → me.0.spent ≡ false → Allows Rule slots i me 0 (λ n. either (eqb n 0) 1 n) (Takes entries named (step slots 0 0 1 none) me)
   takes_turn slots i me live s r _ at _ = let v : View E = me.0 in let x : ℕ = lock s in let f = r.roster.fits i v at in dite (ℕ_discrete x 0)
@@ -174,9 +174,17 @@ module _ {S E : Type 0} (entries : S → List E) (named : E → Option ℕ) wher
         tt,
         subst (λ b. Rule (stepped s 0 (either b 1 x) i me.1 (missed v) keeps)) (sym (ne_eqb x 0 busy))
             (unmoved s r 0 i me.1 v (missed v) at (record { first = refl; spent = refl; caller = refl; given = refl; back = refl }) refl refl record {
-          seen = f.seen; count = f.count; held = f.held; within = f.within; names = f.names; others_back = f.others_back; spent = f.spent; met_apart = f.met_apart; met_one = f.met_one
-        }),
-        ((λ free. absurd (busy free)), λ _. (refl, refl)),
+              seen = f.seen;
+              count = f.count;
+              held = f.held;
+              within = f.within;
+              names = f.names;
+              others_back = f.others_back;
+              spent = f.spent;
+              met_apart = f.met_apart;
+              met_one = f.met_one;
+            }),
+        ((λ free. absurd (busy free)), λ _. ((refl, refl), (let b = r.binary in omega arith))),
       ))
 
   -- the count rises by the entry that the state in hand has more
@@ -188,7 +196,7 @@ module _ {S E : Type 0} (entries : S → List E) (named : E → Option ℕ) wher
       let grown : after ≡ h ++ e ∷ [] = is ∙ ap (λ l. l ++ e ∷ []) same_held in
       let w : View E = entered v after in
       let roster : Roster named after (set s.views i w) = subst (λ (l : List E). Roster named l (set s.views i (entered v l))) (sym grown)
-          (roster_add named h s.views r.roster i v e at has live (others_idle (lock s) s.views r.held i v at has) of) in
+      (roster_add named h s.views r.roster i v e at has live (others_idle (lock s) s.views r.held i v at has) of) in
       let size : length after ≡ length h + 1 = ap length grown ∙ length-append h (e ∷ []) in let was = r.counted in let two = r.two_words in
       let next : (count s + 1) % 18446744073709551616 ≡ length after = omega arith in
       let n : ℕ = (count s + 1) % 18446744073709551616 in
@@ -219,29 +227,29 @@ module _ {S E : Type 0} (entries : S → List E) (named : E → Option ℕ) wher
       let here : get_or (set s.words 0 0) 0 0 ≡ 0 = get_or-set_same s.words 0 0 0 (omega arith) in
       let there : get_or (set s.words 0 0) 1 0 ≡ count s = get_or-set_other s.words 0 1 0 0 (λ e. omega arith) in
       let idle : (j : ℕ) (u : View E) → get_elem? (set s.views i w) j ≡ some u → u.holding ≡ false = each_after (λ _ u. u.holding ≡ false) s.views i w refl (others_idle (lock s) s.views r.held i v at has) in record {
-    history = r.history;
-    two_words = length-set s.words 0 0 ∙ two;
-    one_slot = length-set s.homes 0 (some (Some state)) ∙ slot;
-    binary = omega arith;
-    counted = there ∙ r.counted;
-    home = λ _. (state, set_here s.homes 0 (some (Some state)) (omega arith), is ∙ f.held has);
-    held = record {
-      nobody = λ _. idle;
-      somebody = λ z. absurd (omega arith);
-      one = λ j m u x a b p q. absurd (both_ways u.holding (idle j u a) p);
-    };
-    roster = roster_set named r.history s.views r.roster i v w at (record { first = refl; spent = refl; caller = refl; given = refl; back = refl }) refl record {
-      seen = f.seen;
-      count = f.count;
-      held = λ z. absurd (both_ways false refl z);
-      within = f.within;
-      names = f.names;
-      others_back = f.others_back;
-      spent = λ gone. absurd (both_ways v.spent live gone);
-      met_apart = f.met_apart;
-      met_one = f.met_one;
-    };
-  }
+        history = r.history;
+        two_words = length-set s.words 0 0 ∙ two;
+        one_slot = length-set s.homes 0 (some (Some state)) ∙ slot;
+        binary = omega arith;
+        counted = there ∙ r.counted;
+        home = λ _. (state, set_here s.homes 0 (some (Some state)) (omega arith), is ∙ f.held has);
+        held = record {
+          nobody = λ _. idle;
+          somebody = λ z. absurd (omega arith);
+          one = λ j m u x a b p q. absurd (both_ways u.holding (idle j u a) p);
+        };
+        roster = roster_set named r.history s.views r.roster i v w at (record { first = refl; spent = refl; caller = refl; given = refl; back = refl }) refl record {
+          seen = f.seen;
+          count = f.count;
+          held = λ z. absurd (both_ways false refl z);
+          within = f.within;
+          names = f.names;
+          others_back = f.others_back;
+          spent = λ gone. absurd (both_ways v.spent live gone);
+          met_apart = f.met_apart;
+          met_one = f.met_one;
+        };
+      }
 
   pub releases : (slots i : ℕ) (v : View E) (state : S) → v.holding ≡ true → v.spent ≡ false → entries state ≡ v.held
       → (c : List (ℕ × Option S)) → c ≡ (0, Some state) ∷ [] → Allows Rule slots i (v, c) 0 (λ _. 0) (λ _. Releases entries named (step slots 0 0 0 none) (v, c) 0)

@@ -1,18 +1,16 @@
 -- What the roster of a lock says of one pass, and how it is kept.
-use Rattle.std.proofs.Common.{◌≡◌, ◌≢◌, ℕ, zero, suc, ◌+◌, ◌<◌, ◌≤◌, ◌⊎◌, Bool, true, false, List, [], ◌∷◌, ◌++◌, length, get_or, set, sym, refl, ap, ◌∙◌, subst, inl, inr, ⊎_elim, arith, Option, None, Some}
+use Rattle.std.proofs.Common.{◌≡◌, ◌≢◌, ℕ, zero, suc, ◌<◌, ◌⊎◌, true, false, List, [], ◌∷◌, ◌++◌, length, set, sym, refl, ap, ◌∙◌, subst, inl, inr, ⊎_elim, arith, Option, Some}
 use Rattle.std.specs.Prelude.{Contains, slice_get}
-use Rattle.std.proofs.lemmas.Bool.{both_ways}
 use Rattle.std.proofs.lemmas.Option.{slice_get_within}
 use mathlib.Core.Logic.{dite}
-use mathlib.Core.Option.{none, some, some-injective, some-ne-none}
+use mathlib.Core.Option.{some, some-injective, some-ne-none}
 use native.Mathlib.Decide.{ℕ_discrete}
 use lib.ListN.{get_elem?}
 use Rattle.atomic_table.proofs.Lists.{at_set, set_here, set_else}
 use Rattle.turn_lock.specs.declared.pass.View.{View}
-use Rattle.turn_lock.specs.View.{StartsWith, AreApart}
-use Rattle.turn_lock.specs.Section.{BeginsWith, Begins, OwnsAt, OwnsPlaces}
-use Rattle.turn_lock.specs.Order.{Fits, Roster, Held}
-use Rattle.turn_lock.proofs.Beginnings.{either_bool, contains_none, starts_length, starts_get, starts_back}
+use Rattle.turn_lock.specs.Section.{Begins, OwnsPlaces}
+use Rattle.turn_lock.specs.Order.{Fits, Roster}
+use Rattle.turn_lock.proofs.Beginnings.{either_bool, contains_none, starts_get}
 
 module _ {A : Type 0} where
   pub inside : (l : List A) (i : ℕ) (v : A) → get_elem? l i ≡ some v → i < length l

@@ -1,12 +1,12 @@
 -- What the steps of a section tell, put together.
-use Rattle.std.proofs.Common.{◌≡◌, ◌≢◌, ℕ, suc, ◌+◌, ◌<◌, ◌≤◌, ◌⊎◌, Bool, true, false, List, [], ◌∷◌, ◌++◌, length, sym, refl, ap, ◌∙◌, subst, inl, inr, ⊎_elim, arith, le_refl, length-append, Option, None, Some}
-use Rattle.std.specs.Prelude.{Contains, MatchBool, nat_lt, if◌then◌else◌}
-use Rattle.std.proofs.lemmas.Bool.{both_ways, cases_lt, lt-ltb, le-ltb}
-use Rattle.atomic_table.specs.Table.{Me, step}
+use Rattle.std.proofs.Common.{◌≡◌, ℕ, ◌+◌, ◌≤◌, Bool, true, false, List, [], ◌∷◌, ◌++◌, length, sym, ap, ◌∙◌, subst, inl, inr, arith, length-append, Option, Some}
+use Rattle.std.specs.Prelude.{MatchBool, nat_lt, if◌then◌else◌}
+use Rattle.std.proofs.lemmas.Bool.{lt-ltb, le-ltb}
+use Rattle.atomic_table.specs.Table.{step}
 use Rattle.turn_lock.specs.declared.pass.View.{View}
-use Rattle.turn_lock.specs.Section.{Begins, BeginsWith, AddsEntry, AddsOne, OwnsPlaces, places_after, Ran}
+use Rattle.turn_lock.specs.Section.{Begins, AddsEntry, AddsOne, OwnsPlaces, places_after, Ran}
 use Rattle.turn_lock.proofs.Beginnings.{nil_of}
-use Rattle.turn_lock.specs.Steps.{Sat, entered, counted, released, holding, missed, HasCounted, GaveBack, Left, Enters, Counts, Took}
+use Rattle.turn_lock.specs.Steps.{Sat, released, holding, HasCounted, GaveBack, Left, Enters, Counts}
 
 module _ {E : Type 0} (named : E → Option ℕ) where
   -- the turn given back, of what was counted
@@ -66,10 +66,10 @@ module _ {E : Type 0} (named : E → Option ℕ) where
       let step : w ≡ f (record v { tries = tries; holding = true; held = h }) = k.knows ∙ ap f e in
       let same_tries : w.tries ≡ tries = ap (λ (z : View E). z.tries) step in
       let none_left : v.held ≡ [] = nil_of v.held none_held in record {
-    begins = subst (λ (z : View E). Begins named z before) e k.begins;
-    adds = subst (λ (z : View E). AddsOne named z.caller before after) e k.adds;
-    knows = step ∙ (λ i. record v { seen = after; mine = places_after v.mine before after; count = w.count; tries = sym same_tries i; holding = sym idle i; held = sym none_left i });
-    count = let c = k.count in let s : u.count ≡ v.count = ap (λ (z : View E). z.count) e in omega arith;
-    tries = omega arith;
-    owns = k.owns;
-  }
+        begins = subst (λ (z : View E). Begins named z before) e k.begins;
+        adds = subst (λ (z : View E). AddsOne named z.caller before after) e k.adds;
+        knows = step ∙ (λ i. record v { seen = after; mine = places_after v.mine before after; count = w.count; tries = sym same_tries i; holding = sym idle i; held = sym none_left i });
+        count = let c = k.count in let s : u.count ≡ v.count = ap (λ (z : View E). z.count) e in omega arith;
+        tries = omega arith;
+        owns = k.owns;
+      }

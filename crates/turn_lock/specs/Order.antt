@@ -1,10 +1,9 @@
 -- The rule of a lock: one history, which the stored state has while the lock is free, and of which each pass has seen a beginning.
-use Rattle.std.specs.Prelude.{◌≡◌, ◌≢◌, ℕ, ◌+◌, ◌<◌, ◌≤◌, ◌⊎◌, Bool, true, false, List, [], ◌∷◌, ◌++◌, Option, None, Some, Contains, length, slice_get, slice_index}
+use Rattle.std.specs.Prelude.{◌≡◌, ℕ, ◌<◌, ◌≤◌, ◌⊎◌, true, false, List, [], Option, Some, Contains, length, slice_get, slice_index}
 use mathlib.Core.Option.{some}
 use lib.ListN.{get_elem?}
 use Rattle.atomic_table.specs.Table.{State}
 use Rattle.turn_lock.specs.declared.pass.View.{View}
-use Rattle.turn_lock.specs.declared.pass.Meeting.{Meeting}
 use Rattle.turn_lock.specs.View.{StartsWith, AreApart}
 
 module _ {E : Type 0} (named : E → Option ℕ) where

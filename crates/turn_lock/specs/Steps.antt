@@ -1,5 +1,5 @@
 -- What each step tells.
-use Rattle.std.specs.Prelude.{◌≡◌, ◌≢◌, ℕ, ◌+◌,  ◌≤◌, Bool, true, false, List, [], ◌∷◌, ◌++◌, Option, Some, length, if◌then◌else◌}
+use Rattle.std.specs.Prelude.{◌≡◌, ◌≢◌, ℕ, ◌+◌, ◌≤◌, Bool, true, false, List, [], ◌∷◌, ◌++◌, Option, Some, length, if◌then◌else◌}
 use Rattle.atomic_table.specs.Table.{Me, Step, rest}
 use Rattle.turn_lock.specs.declared.pass.View.{View}
 use Rattle.turn_lock.specs.View.{StartsWith, AreApart}
@@ -62,7 +62,7 @@ module _ {S E : Type 0} (entries : S → List E) (named : E → Option ℕ) wher
   Missed m m' = (m'.1 ≡ m.1) × (m'.0 ≡ missed m.0)
 
   abbrev pub Takes : Step (Option S) → Sat S E → ℕ → Sat S E → Type 0
-  Takes st m r m' = (r ≡ 0 → Took m m') × (r ≢ 0 → Missed m m')
+  Takes st m r m' = (r ≡ 0 → Took m m') × (r ≢ 0 → Missed m m' × (r ≡ 1))
 
   abbrev pub Enters : Step (Option S) → Sat S E → ℕ → Sat S E → Type 0
   Enters st m r m' = (m'.1 ≡ m.1) × ((state : S) → m.1 ≡ (0, Some state) ∷ [] → m'.0 ≡ entered m.0 (entries state)) × OwnsPlaces named m'.0

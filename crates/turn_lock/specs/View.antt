@@ -1,5 +1,5 @@
 -- What passes know, and how steps change that.
-use Rattle.std.specs.Prelude.{◌≡◌, ℕ, ◌+◌, ◌<◌, ◌≤◌, Bool, true, false, List, [], ◌∷◌, ◌++◌, Contains, length, max, nat_lt, if◌then◌else◌}
+use Rattle.std.specs.Prelude.{◌≡◌, ℕ, true, false, List, [], ◌∷◌, ◌++◌, Contains, length, max, nat_lt, if◌then◌else◌}
 use Rattle.turn_lock.specs.declared.pass.View.{View}
 use Rattle.turn_lock.specs.declared.pass.Meeting.{Meeting}
 
@@ -17,16 +17,52 @@ module _ {E : Type 0} where
 
   abbrev pub first_view : ℕ → View E
   first_view caller = record {
-    first = true; spent = false; caller = caller; seen = []; mine = []; count = 0; tries = 0; given = []; back = []; holding = false; held = []; met = no_meeting }
+    first = true;
+    spent = false;
+    caller = caller;
+    seen = [];
+    mine = [];
+    count = 0;
+    tries = 0;
+    given = [];
+    back = [];
+    holding = false;
+    held = [];
+    met = no_meeting;
+  }
 
   -- what a pass begins with that this one gives to a caller
   abbrev pub given_view : View E → ℕ → View E
   given_view v caller = record {
-    first = false; spent = false; caller = caller; seen = v.seen; mine = []; count = v.count; tries = 0; given = []; back = []; holding = false; held = []; met = no_meeting }
+    first = false;
+    spent = false;
+    caller = caller;
+    seen = v.seen;
+    mine = [];
+    count = v.count;
+    tries = 0;
+    given = [];
+    back = [];
+    holding = false;
+    held = [];
+    met = no_meeting;
+  }
 
   abbrev pub spent_view : View E
   spent_view = record {
-    first = false; spent = true; caller = 0; seen = []; mine = []; count = 0; tries = 0; given = []; back = []; holding = false; held = []; met = no_meeting }
+    first = false;
+    spent = true;
+    caller = 0;
+    seen = [];
+    mine = [];
+    count = 0;
+    tries = 0;
+    given = [];
+    back = [];
+    holding = false;
+    held = [];
+    met = no_meeting;
+  }
 
   -- after a pass was given to the caller
   abbrev pub giving : View E → ℕ → View E
@@ -41,8 +77,12 @@ module _ {E : Type 0} where
   -- after the other pass was joined
   abbrev pub joining : View E → View E → View E
   joining v w = record v {
-    seen = longer_of v.seen w.seen; mine = v.mine ++ w.mine; count = max v.count w.count; back = v.back ++ w.caller ∷ [];
-    met = record { kept = v.mine; brought = w.mine; longer = longer_of v.seen w.seen; shorter = shorter_of v.seen w.seen } }
+    seen = longer_of v.seen w.seen;
+    mine = v.mine ++ w.mine;
+    count = max v.count w.count;
+    back = v.back ++ w.caller ∷ [];
+    met = record { kept = v.mine; brought = w.mine; longer = longer_of v.seen w.seen; shorter = shorter_of v.seen w.seen };
+  }
 
   -- each pass that was given is joined again
   abbrev pub IsLast : View E → Type 0

@@ -69,7 +69,9 @@ impl<S: History, A: Allocator> Turn<S, A> {
         ensures owns { OwnsPlaces S.named (view pass.new) }
     {
         let Pass { seat } = other;
-        self.table.shared.join_seat::<TakeBack>(&mut pass.seat, seat);
+        self.table
+            .shared
+            .join_seat::<TakeBack>(&mut pass.seat, seat);
         self.table.shared.load::<Settle>(&mut pass.seat, LOCK);
     }
 
@@ -106,7 +108,8 @@ impl<S: History, A: Allocator> Turn<S, A> {
         ensures ran { IfOk result (λ answer. RunsOnce S.entries S.named F.FnOnce section (view pass.old) answer (view pass.new) × ((view pass.new).tries ≡ (view pass.old).tries)) }
         ensures busy { IfErr result (λ _. view pass.new ≡ missed (view pass.old)) }
     {
-        if self.take(&mut pass.seat) {
+        let taken = self.take(&mut pass.seat);
+        if taken {
             Ok(self.run(&mut pass.seat, section))
         } else {
             Err(Busy)

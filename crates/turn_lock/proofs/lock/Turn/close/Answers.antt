@@ -1,4 +1,4 @@
-use Rattle.std.proofs.Common.{rules, ◌≡◌, None, Some, sym, ◌∙◌}
+use Rattle.std.proofs.Common.{◌≡◌, None, Some, sym, ◌∙◌}
 use Rattle.turn_lock.proofs.Closing.{closes, gives_state}
 use Rattle.turn_lock.proofs.lock.Turn.close.Goals as goal
 

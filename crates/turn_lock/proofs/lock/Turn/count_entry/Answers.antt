@@ -1,7 +1,6 @@
 use Rattle.std.proofs.Common.{rules}
 use Rattle.std.proofs.lemmas.Bool.{MatchBool-at_true}
 use Rattle.turn_lock.proofs.Keeps.{counts, enters}
-use Rattle.turn_lock.proofs.Tells.{counted_entry, counted_none}
 use Rattle.turn_lock.proofs.lock.Turn.count_entry.Goals as goal
 
 pub fetch_add-requires : goal.fetch_add-requires

@@ -1,6 +1,5 @@
 use Rattle.std.proofs.Common.{rules, ap, sym, ◌∙◌}
 use Rattle.turn_lock.proofs.Keeps.{releases}
-use Rattle.turn_lock.proofs.Tells.{gives_back}
 use Rattle.turn_lock.proofs.lock.Turn.give_back.Goals as goal
 
 pub store-requires : goal.store-requires

@@ -1,4 +1,4 @@
-use Rattle.std.proofs.Common.{rules, ◌≡◌, [], ◌∷◌, ◌++◌, Some, ap, ◌∙◌, sym, subst}
+use Rattle.std.proofs.Common.{◌≡◌, [], ◌∷◌, ◌++◌, Some, ap, ◌∙◌, sym, subst}
 use Rattle.atomic_table.specs.Table.{opening}
 use Rattle.turn_lock.specs.Order.{Ordered}
 use Rattle.turn_lock.specs.View.{first_view}

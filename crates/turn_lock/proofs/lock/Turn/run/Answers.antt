@@ -1,4 +1,4 @@
-use Rattle.std.proofs.Common.{rules, ◌≡◌, ℕ, arith, sym, ap, ◌∙◌, subst, length, ◌<◌, ◌^◌}
+use Rattle.std.proofs.Common.{rules, ◌≡◌, arith, sym, ap, ◌∙◌, subst}
 use Rattle.std.specs.Prelude.{nat_lt}
 use Rattle.std.specs.Fn.{FnOnceReturnsAtMut}
 use Rattle.turn_lock.specs.Section.{Begins, AddsOne}

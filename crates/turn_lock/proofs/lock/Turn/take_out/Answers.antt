@@ -1,4 +1,4 @@
-use Rattle.std.proofs.Common.{rules, ◌≡◌, [], ◌∷◌, Some, sym, refl, subst}
+use Rattle.std.proofs.Common.{rules, ◌≡◌, ◌∷◌, Some, sym, refl, subst}
 use Rattle.atomic_table.specs.Table.{rest}
 use Rattle.turn_lock.proofs.lock.Turn.take_out.Goals as goal
 

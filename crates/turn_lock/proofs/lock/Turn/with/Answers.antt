@@ -1,4 +1,3 @@
-use Rattle.std.proofs.Common.{rules}
 use Rattle.turn_lock.proofs.Tells.{ran_of}
 use Rattle.turn_lock.proofs.lock.Turn.with.Goals as goal
 

@@ -7,5 +7,5 @@ abbrev pub invariant-loop : goal.invariant-loop
 invariant-loop g l = record {
   lock : own_lock l.pass ≡ own_lock l.initial.pass;
   tried : view l.pass ≡ record (view l.initial.pass) { tries = (view l.pass).tries };
-  more : (view l.initial.pass).tries ≤ (view l.pass).tries
+  more : (view l.initial.pass).tries ≤ (view l.pass).tries;
 }
