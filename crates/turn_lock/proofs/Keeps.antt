@@ -268,17 +268,18 @@ module _ {S E : Type 0} (entries : S → List E) (named : E → Option ℕ) wher
     roster = roster_split named r.history s.views r.roster i v caller at is other new;
   }
 
-  pub joins : (i : ℕ) (v : View E) (j : ℕ) (w : View E) → v.first ≡ true → w.first ≡ false → w.spent ≡ false → w.holding ≡ false → Joins Rule i v j w (joining v w) spent_view
-  joins i v j w is of live idle s r at apart still = let there : get_elem? s.views j ≡ some w = sym (set_else s.views i j (joining v w) apart) ∙ still in record {
-    history = r.history;
-    two_words = r.two_words;
-    one_slot = r.one_slot;
-    binary = r.binary;
-    counted = r.counted;
-    home = r.home;
-    held = held_same (lock s) (set s.views i (joining v w)) (held_same (lock s) s.views r.held i v (joining v w) at refl) j w spent_view still (sym idle);
-    roster = roster_join named r.history s.views r.roster i v j w at there apart is of live;
-  }
+  pub joins : (i : ℕ) (v : View E) (j : ℕ) (w : View E) → v.first ≡ true → w.spent ≡ false → w.holding ≡ false → Joins Rule i v j w (joining v w) spent_view
+  joins i v j w is live idle s r at apart still = let there : get_elem? s.views j ≡ some w = sym (set_else s.views i j (joining v w) apart) ∙ still in
+      let of : w.first ≡ false = ⊎_elim (λ (t : w.first ≡ true). absurd (apart (r.roster.only_first j w there t ∙ sym (r.roster.only_first i v at is)))) (λ (t : w.first ≡ false). t) (either_bool w.first) in record {
+        history = r.history;
+        two_words = r.two_words;
+        one_slot = r.one_slot;
+        binary = r.binary;
+        counted = r.counted;
+        home = r.home;
+        held = held_same (lock s) (set s.views i (joining v w)) (held_same (lock s) s.views r.held i v (joining v w) at refl) j w spent_view still (sym idle);
+        roster = roster_join named r.history s.views r.roster i v j w at there apart is of live;
+      }
 
   only_one : (a b : View E) (j : ℕ) → get_elem? (a ∷ []) j ≡ some b → (j ≡ 0) × (a ≡ b)
   only_one a b zero e = (refl, some-injective a b e)

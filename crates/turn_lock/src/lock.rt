@@ -25,6 +25,7 @@ impl<S: History, A: Allocator> Turn<S, A> {
     ghost use Rattle.turn_lock.specs.Turn.{lock_of, own_lock, view};
 
     /// A lock round a state with an empty history, and the first pass, which is this caller's.
+    /// Where there is no memory, the state is dropped.
     pub fn new(alloc: A, state: S, caller: u64) -> Result<(Turn<S, A>, Pass<S>), Memory>
     where
         A: Clone,
@@ -61,7 +62,6 @@ impl<S: History, A: Allocator> Turn<S, A> {
         requires lock { own_lock pass.old ≡ lock_of self.now }
         requires first { (view pass.old).first ≡ true }
         requires other_lock { own_lock other ≡ lock_of self.now }
-        requires given { (view other).first ≡ false }
         ensures lock { own_lock pass.new ≡ own_lock pass.old }
         ensures view { view pass.new ≡ joining (view pass.old) (view other) }
         ensures apart { AreApart (view pass.old).mine (view other).mine }

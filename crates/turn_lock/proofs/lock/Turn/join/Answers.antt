@@ -10,7 +10,7 @@ join_seat-requires g c = (
   search rules,
   nil_of _ c.args.other.bare,
   search rules,
-  joins _ _ _ _ _ _ c.requires.first c.requires.given c.args.other.live c.args.other.idle.0,
+  joins _ _ _ _ _ _ c.requires.first c.args.other.live c.args.other.idle.0,
 )
 
 pub load-requires : goal.load-requires
