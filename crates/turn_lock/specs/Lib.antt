@@ -1,0 +1,5 @@
+pub mod View
+pub mod Section
+pub mod Order
+pub mod Steps
+pub mod Turn

@@ -1,0 +1,77 @@
+-- What each step tells.
+use Rattle.std.specs.Prelude.{◌≡◌, ◌≢◌, ℕ, ◌+◌, ◌≤◌, Bool, true, false, List, [], ◌∷◌, ◌++◌, Option, Some, length, if◌then◌else◌}
+use Rattle.atomic_table.specs.Table.{Me, Step, rest}
+use Rattle.turn_lock.specs.declared.pass.View.{View}
+use Rattle.turn_lock.specs.View.{StartsWith, AreApart}
+use Rattle.turn_lock.specs.Section.{Begins, OwnsPlaces, AddsOne, places_after}
+
+module _ {E : Type 0} where
+  -- after a try that found the lock taken
+  abbrev pub missed : View E → View E
+  missed v = record v { tries = v.tries + 1 }
+
+  -- with the turn, while the history is this
+  abbrev pub holding : View E → List E → View E
+  holding v history = record v { holding = true; held = history }
+
+  -- after the history that ends with its new entry was counted
+  abbrev pub entered : View E → List E → View E
+  entered v history = record v { seen = history; held = history; mine = v.mine ++ length v.held ∷ [] }
+
+  -- after this count was read
+  abbrev pub counted : View E → ℕ → View E
+  counted v count = record v { count = count; seen = (if v.holding then v.held else v.seen) }
+
+  -- a seat that is not spent has the turn
+  abbrev pub HasTurn : View E → Type 0
+  HasTurn v = (v.holding ≡ true) × (v.spent ≡ false)
+
+  abbrev pub released : View E → View E
+  released v = record v { holding = false; held = [] }
+
+module _ {E : Type 0} (named : E → Option ℕ) where
+  -- what is left of a view with the turn once the history, which has become `after`, is counted
+  pub record HasCounted (v : View E) (grew : Bool) (after : List E) (w : View E) : Type 0 where
+    pub knows : w ≡ record v { seen = after; held = after; mine = (if grew then v.mine ++ length v.held ∷ [] else v.mine); count = w.count }
+    pub count : v.count ≤ w.count
+    pub owns : OwnsPlaces named w
+
+  -- what is left of a view with the turn once the turn is given back, and the history has become `after`
+  pub record GaveBack (v : View E) (grew : Bool) (after : List E) (w : View E) : Type 0 where
+    pub knows : w ≡ record v { seen = after; mine = (if grew then v.mine ++ length v.held ∷ [] else v.mine); count = w.count; holding = false; held = [] }
+    pub count : v.count ≤ w.count
+    pub owns : OwnsPlaces named w
+
+  -- the same, of a section that took the history there
+  pub record Left (v : View E) (before after : List E) (w : View E) : Type 0 where
+    pub begins : Begins named v before
+    pub adds : AddsOne named v.caller before after
+    pub knows : w ≡ record v { seen = after; mine = places_after v.mine before after; count = w.count; holding = false; held = [] }
+    pub count : v.count ≤ w.count
+    pub owns : OwnsPlaces named w
+
+abbrev pub Sat : Type 0 → Type 0 → Type 0
+Sat S E = Me (Option S) (View E)
+
+module _ {S E : Type 0} (entries : S → List E) (named : E → Option ℕ) where
+  -- the turn was taken, and the state with it
+  abbrev pub Took : Sat S E → Sat S E → Type 0
+  Took m m' = (state : S) × (m'.1 ≡ (0, Some state) ∷ m.1) × (m'.0 ≡ holding m.0 (entries state)) × Begins named m.0 (entries state)
+
+  abbrev pub Missed : Sat S E → Sat S E → Type 0
+  Missed m m' = (m'.1 ≡ m.1) × (m'.0 ≡ missed m.0)
+
+  abbrev pub Takes : Step (Option S) → Sat S E → ℕ → Sat S E → Type 0
+  Takes st m r m' = (r ≡ 0 → Took m m') × (r ≢ 0 → Missed m m' × (r ≡ 1))
+
+  abbrev pub Enters : Step (Option S) → Sat S E → ℕ → Sat S E → Type 0
+  Enters st m r m' = (m'.1 ≡ m.1) × ((state : S) → m.1 ≡ (0, Some state) ∷ [] → m'.0 ≡ entered m.0 (entries state)) × OwnsPlaces named m'.0
+
+  abbrev pub Counts : Step (Option S) → Sat S E → ℕ → Sat S E → Type 0
+  Counts st m r m' = (m'.1 ≡ m.1) × (m'.0 ≡ counted m.0 r) × (length m.0.seen ≤ r) × (m.0.count ≤ r) × OwnsPlaces named m'.0
+
+  abbrev pub Releases : Step (Option S) → Sat S E → ℕ → Sat S E → Type 0
+  Releases st m r m' = (m'.1 ≡ rest m.1) × (m'.0 ≡ released m.0)
+
+  abbrev pub Settles : Step (Option S) → Sat S E → ℕ → Sat S E → Type 0
+  Settles st m r m' = (m'.1 ≡ m.1) × (m'.0 ≡ m.0) × OwnsPlaces named m.0 × AreApart m.0.met.kept m.0.met.brought × StartsWith m.0.met.longer m.0.met.shorter

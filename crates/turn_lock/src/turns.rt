@@ -1,0 +1,120 @@
+//! How the lock is taken, used and given back.
+ghost use Rattle.std.specs.Prelude.{◌≡◌};
+
+use crate::History;
+use crate::lock::Turn;
+use crate::pass::View;
+use crate::steps::{COUNT, Enter, Give, LOCK, Look, Receiver, Release, Take};
+use atomic_table::Seat;
+use std::alloc::Allocator;
+
+impl<S: History, A: Allocator> Turn<S, A> {
+    ghost use Rattle.std.specs.Prelude.{◌≡◌, ℕ, ◌+◌, ◌<◌, ◌≤◌, ◌^◌, [], ◌∷◌, ◌++◌, None, Some, false, true, MatchBool, Contains, length};
+    ghost use Rattle.turn_lock.specs.View.{given_view, giving};
+    ghost use Rattle.turn_lock.specs.Section.{MayRun, Begins, AddsEntry};
+    ghost use Rattle.std.specs.Fn.{FnOnceReturnsAtMut};
+    ghost use Rattle.turn_lock.specs.Steps.{Took, Missed, HasTurn, HasCounted, Left, GaveBack};
+    ghost use Rattle.turn_lock.specs.Turn.{lock_of};
+
+    // A seat for the caller, which the call names by its type argument.
+    pub(crate) fn give<C: Receiver>(
+        &self,
+        seat: &mut Seat<Option<S>, View<S::Entry>>,
+        caller: u64,
+    ) -> Seat<Option<S>, View<S::Entry>>
+        requires named { caller ≡ C.caller }
+        requires table { seat.old.table_id ≡ lock_of self.now }
+        requires first { (seat.old.me.0.first ≡ true) × (seat.old.me.0.spent ≡ false) }
+        requires new_caller { (caller ≡ seat.old.me.0.caller → ⊥) × (Contains seat.old.me.0.given caller → ⊥) }
+        ensures table { (seat.new.table_id ≡ seat.old.table_id) × (result.table_id ≡ seat.old.table_id) }
+        ensures left { seat.new.me ≡ (giving seat.old.me.0 caller, seat.old.me.1) }
+        ensures right { result.me ≡ (given_view seat.old.me.0 caller, []) }
+    {
+        self.table.shared.split_seat::<Give<C>>(seat)
+    }
+
+    // Tries once to take the turn, and the state with it.
+    pub(crate) fn take(&self, seat: &mut Seat<Option<S>, View<S::Entry>>) -> bool
+        requires table { seat.old.table_id ≡ lock_of self.now }
+        requires idle { (seat.old.me.0.holding ≡ false) × (seat.old.me.0.spent ≡ false) }
+        ensures table { seat.new.table_id ≡ seat.old.table_id }
+        ensures turn { MatchBool result (Took S.entries S.named seat.old.me seat.new.me) (Missed S.entries S.named seat.old.me seat.new.me) }
+    {
+        self.table.shared.compare_exchange::<Take>(seat, LOCK, 0, 1) == 0
+    }
+
+    // Runs the section with the turn, and gives the turn back.
+    pub(crate) fn run<R, F: FnOnce(&mut S) -> R>(
+        &self,
+        seat: &mut Seat<Option<S>, View<S::Entry>>,
+        section: F,
+    ) -> R
+        requires table { seat.old.table_id ≡ lock_of self.now }
+        requires turn { HasTurn seat.old.me.0 }
+        requires carries { (state : S) × (seat.old.me.1 ≡ (0, Some state) ∷ []) × (S.entries state ≡ seat.old.me.0.held) }
+        requires begins { Begins S.named seat.old.me.0 seat.old.me.0.held }
+        requires section { MayRun S.entries S.named F.FnOnce section seat.old.me.0 }
+        ensures table { (seat.new.table_id ≡ seat.old.table_id) × (seat.new.me.1 ≡ []) }
+        ensures ran { (before : S) × (after : S) × FnOnceReturnsAtMut F.FnOnce section before result after × Left S.named seat.old.me.0 (S.entries before) (S.entries after) seat.new.me.0 }
+    {
+        let mut state = self.take_out(seat);
+        let before = state.count();
+        let answer = section(&mut state);
+        let grew = before < state.count();
+        self.put_in(seat, state);
+        self.give_back(seat, grew);
+        answer
+    }
+
+    // Counts what was added, and gives the turn and the state back.
+    fn give_back(&self, seat: &mut Seat<Option<S>, View<S::Entry>>, grew: bool)
+        requires table { seat.old.table_id ≡ lock_of self.now }
+        requires turn { HasTurn seat.old.me.0 }
+        requires carries { (state : S) × (seat.old.me.1 ≡ (0, Some state) ∷ []) × (length (S.entries state) < 2 ^ 64) × MatchBool grew (AddsEntry S.named seat.old.me.0.caller seat.old.me.0.held (S.entries state)) (S.entries state ≡ seat.old.me.0.held) }
+        ensures table { (seat.new.table_id ≡ seat.old.table_id) × (seat.new.me.1 ≡ []) }
+        ensures left { (state : S) → seat.old.me.1 ≡ (0, Some state) ∷ [] → GaveBack S.named seat.old.me.0 grew (S.entries state) seat.new.me.0 }
+    {
+        self.count_entry(seat, grew);
+        self.table.shared.store::<Release>(seat, LOCK, 0);
+        self.table.shared.wake_one(LOCK);
+    }
+
+    // Counts the entry that was added, if one was, and sees the whole history.
+    fn count_entry(&self, seat: &mut Seat<Option<S>, View<S::Entry>>, grew: bool)
+        requires table { seat.old.table_id ≡ lock_of self.now }
+        requires turn { HasTurn seat.old.me.0 }
+        requires carries { (state : S) × (seat.old.me.1 ≡ (0, Some state) ∷ []) × (length (S.entries state) < 2 ^ 64) × MatchBool grew (AddsEntry S.named seat.old.me.0.caller seat.old.me.0.held (S.entries state)) (S.entries state ≡ seat.old.me.0.held) }
+        ensures table { (seat.new.table_id ≡ seat.old.table_id) × (seat.new.me.1 ≡ seat.old.me.1) }
+        ensures counted { (state : S) → seat.old.me.1 ≡ (0, Some state) ∷ [] → HasCounted S.named seat.old.me.0 grew (S.entries state) seat.new.me.0 }
+    {
+        if grew {
+            self.table.shared.fetch_add::<Enter>(seat, COUNT, 1);
+        } else {
+            self.table.shared.load::<Look>(seat, COUNT);
+        }
+    }
+
+    fn take_out(&self, seat: &mut Seat<Option<S>, View<S::Entry>>) -> S
+        requires table { seat.old.table_id ≡ lock_of self.now }
+        requires carries { (state : S) × (seat.old.me.1 ≡ (0, Some state) ∷ []) }
+        ensures table { seat.new.table_id ≡ seat.old.table_id }
+        ensures view { seat.new.me.0 ≡ seat.old.me.0 }
+        ensures state { seat.old.me.1 ≡ (0, Some result) ∷ [] }
+        ensures slot { seat.new.me.1 ≡ (0, None) ∷ [] }
+    {
+        match self.table.shared.exchange(seat, 0, None) {
+            Some(state) => state,
+            None => unreachable!(),
+        }
+    }
+
+    fn put_in(&self, seat: &mut Seat<Option<S>, View<S::Entry>>, state: S)
+        requires table { seat.old.table_id ≡ lock_of self.now }
+        requires slot { seat.old.me.1 ≡ (0, None) ∷ [] }
+        ensures table { seat.new.table_id ≡ seat.old.table_id }
+        ensures view { seat.new.me.0 ≡ seat.old.me.0 }
+        ensures slot { seat.new.me.1 ≡ (0, Some state) ∷ [] }
+    {
+        self.table.shared.exchange(seat, 0, Some(state));
+    }
+}
