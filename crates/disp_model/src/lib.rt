@@ -8,6 +8,7 @@ mod answer;
 mod decision;
 mod entry;
 mod fixing;
+mod laws;
 mod limits;
 mod list;
 mod memory;
@@ -22,6 +23,7 @@ pub use answer::{Alone, Answer, Unfinished};
 pub use decision::{Choice, Decision};
 pub use entry::{Entry, Mark, Split, Standing, Unasked};
 pub use fixing::Fixing;
+pub use laws::branching_covers;
 pub use limits::{
     GREATEST_COST, GREATEST_EVENT_TIME, GREATEST_NUMBER, MOST_CALLERS, MOST_COMPONENTS,
     MOST_EVENTS, MOST_FILE_BYTES, MOST_FIXINGS, MOST_LINE_BYTES, MOST_LINES, MOST_OPERATIONS,
