@@ -106,14 +106,14 @@ goes_on_from : (train : List Operation) (p : ℕ) (before : List ℕ) (o : ℕ) 
 goes_on_from train p [] o rest goes = goes.1
 goes_on_from train p (q ∷ before) o rest goes = goes_on_from train q before o rest goes.1
 
-route_from : (train : List Operation) (before : List ℕ) (o : ℕ) (rest : List ℕ) → IsRoute train (before ++ o ∷ rest) → GoesOn train o rest
+pub route_from : (train : List Operation) (before : List ℕ) (o : ℕ) (rest : List ℕ) → IsRoute train (before ++ o ∷ rest) → GoesOn train o rest
 route_from train [] o rest route = route.1
 route_from train (p ∷ before) o rest route = goes_on_from train p before o rest route.1
 
-own_operations : (t : ℕ) (e : Event) (rest : List Event) → e.train ≡ t → operations_of t (e ∷ rest) ≡ e.operation ∷ operations_of t rest
+pub own_operations : (t : ℕ) (e : Event) (rest : List Event) → e.train ≡ t → operations_of t (e ∷ rest) ≡ e.operation ∷ operations_of t rest
 own_operations t e rest same = rw (same, eq-eqb t t refl) refl
 
-operations_append : (t : ℕ) (xs ys : List Event) → operations_of t (xs ++ ys) ≡ operations_of t xs ++ operations_of t ys
+pub operations_append : (t : ℕ) (xs ys : List Event) → operations_of t (xs ++ ys) ≡ operations_of t xs ++ operations_of t ys
 operations_append t xs ys = ap (map (λ e. e.operation)) (filter-append (λ e. nat_eq e.train t) xs ys) ∙ map-append (λ e. e.operation) (run_of t xs) (run_of t ys)
 
 -- an event of a train is among its operations
@@ -126,7 +126,7 @@ started_is_in o plan i e h =
     in_middle o [] p rest same = inl same
     in_middle o (q ∷ before) p rest same = inr (in_middle o before p rest same)
 
-named_train : (problem : Problem) (e : Event) → IsSome (operation_of problem e) → e.train < length problem.trains
+pub named_train : (problem : Problem) (e : Event) → IsSome (operation_of problem e) → e.train < length problem.trains
 named_train problem e some =
     elim (cases_lt e.train (length problem.trains)) [
       | inl lt ↦ lt
@@ -135,7 +135,7 @@ named_train problem e some =
           absurd (false≢true (subst (λ (train : List Operation). IsSome (slice_get train e.operation)) none some))
     ]
 
-get_later : (plan : List Event) (i j : ℕ) (f : Event) → i < j → slice_get plan j ≡ Some f → (k : ℕ) × (slice_get (drop (i + 1) plan) k ≡ Some f)
+pub get_later : (plan : List Event) (i j : ℕ) (f : Event) → i < j → slice_get plan j ≡ Some f → (k : ℕ) × (slice_get (drop (i + 1) plan) k ≡ Some f)
 get_later [] i j f lt at = absurd (none-some f at)
 get_later (g ∷ plan) i zero f lt at = absurd (omega arith)
 get_later (g ∷ plan) zero (suc j) f lt at = (j , at)
@@ -157,7 +157,7 @@ started_once problem fixings plan o i j e f valid lt first second =
       (subst (λ (p : ℕ). GoesOn (train_at problem t) p (operations_of t (drop (i + 1) plan))) first.1.operation goes)
       (started_is_in o (drop (i + 1) plan) later.0 f (later.1 , second.1))
 
-one_place : (problem : Problem) (fixings : List Fixing) (plan : List Event) (o : Op) (i j : ℕ) (e f : Event) → IsValid problem fixings plan → IsStartedAt plan o i e → IsStartedAt plan o j f → i ≡ j
+pub one_place : (problem : Problem) (fixings : List Fixing) (plan : List Event) (o : Op) (i j : ℕ) (e f : Event) → IsValid problem fixings plan → IsStartedAt plan o i e → IsStartedAt plan o j f → i ≡ j
 one_place problem fixings plan o i j e f valid first second =
     elim (cases_lt i j) [
       | inl lt ↦ absurd (started_once problem fixings plan o i j e f valid lt first second)
