@@ -147,7 +147,7 @@ kept_is p (m ∷ ls) l h =
 any_from : (l : Listing) (ks : List Listing) → list_any (λ k. k.resource == l.resource) ks ≡ true → Any (λ k. k.resource ≡ l.resource) ks
 any_from l ks h = let a = Any-from_list_any (λ k. nat_eq k.resource l.resource) ks h in (a.0 , a.1 , a.2 , a.3 , eqb-true a.1.resource l.resource a.4)
 
-some_is : {X : Type 0} (found : Option X) → IsSome found → (x : X) × (found ≡ Some x)
+pub some_is : {X : Type 0} (found : Option X) → IsSome found → (x : X) × (found ≡ Some x)
 some_is None some = absurd (false≢true some)
 some_is (Some x) some = (x , refl)
 
