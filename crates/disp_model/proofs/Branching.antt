@@ -26,7 +26,7 @@ use Rattle.disp_model.specs.Trees.{IsChoice, children_of}
 use Rattle.disp_model.proofs.Paths.{IsIn, is_in, contains_in, in_or_not, goes_to_next, never_again}
 use Rattle.disp_model.proofs.Runs.{split_at}
 
-contains_map : {X Y : Type 0} (f : X → Y) (xs : List X) (x : X) → Contains xs x → Contains (map f xs) (f x)
+pub contains_map : {X Y : Type 0} (f : X → Y) (xs : List X) (x : X) → Contains xs x → Contains (map f xs) (f x)
 contains_map f [] x (k , lt , e) = absurd (omega arith)
 contains_map f (y ∷ xs) x (zero , lt , e) = (0 , omega arith , ap f e)
 contains_map f (y ∷ xs) x (suc k , lt , e) = let c = contains_map f xs x (k , omega arith , e) in (suc c.0 , omega (arith, c.1) , c.2)
