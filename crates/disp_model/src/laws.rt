@@ -1,13 +1,24 @@
 // Laws over the definitions, each the contract of a function without a body, for every crate to cite.
-ghost use Rattle.std.specs.Prelude.{List, [], ◌∷◌, ◌++◌, Contains};
+ghost use Rattle.std.specs.Prelude.{◌≡◌, ◌+◌, ◌<◌, ◌≤◌, ℕ, List, [], ◌∷◌, ◌++◌, Contains, Some, slice_get, length};
 ghost use Rattle.disp_model.specs.declared.problem.Problem.{Problem};
+ghost use Rattle.disp_model.specs.declared.train.Component.{Component};
+ghost use Rattle.disp_model.specs.declared.train.Op.{Op};
 ghost use Rattle.disp_model.specs.declared.fixing.Fixing.{Fixing};
 ghost use Rattle.disp_model.specs.declared.plan.Event.{Event};
 ghost use Rattle.disp_model.specs.declared.decision.Decision.{Decision};
 ghost use Rattle.disp_model.specs.declared.decision.Choice.{Choice};
+ghost use Rattle.disp_model.specs.declared.tree.ComponentWalk.{ComponentWalk};
+ghost use Rattle.disp_model.specs.declared.tree.TreeNode.{TreeNode};
+ghost use Rattle.disp_model.specs.declared.tree.Verdict.TheVariants.{Optimal, Infeasible};
+ghost use Rattle.disp_model.specs.Plan.{operations_of};
+ghost use Rattle.disp_model.specs.Cost.{cost_at, cost_of, IsInfeasible};
 ghost use Rattle.disp_model.specs.Valid.{IsValid};
 ghost use Rattle.disp_model.specs.Follows.{Follows};
-ghost use Rattle.disp_model.specs.Trees.{IsChoice, children_of};
+ghost use Rattle.disp_model.specs.Routes.{Starts, IsAllowed, IsForced};
+ghost use Rattle.disp_model.specs.Arcs.{IsArc};
+ghost use Rattle.disp_model.specs.Walks.{upper_of, IsWalk, EndsIn, IsLongest, HasCycle};
+ghost use Rattle.disp_model.specs.Nodes.{IsDead, IsBound};
+ghost use Rattle.disp_model.specs.Trees.{IsChoice, children_of, HaveDistinct, WalksCost, Accepts};
 
 /// Branching covers: a valid plan that follows the decisions follows them with one of the choice's
 /// children added.
@@ -15,5 +26,79 @@ pub fn branching_covers()
     ensures { (problem : Problem) (fixings : List Fixing) (plan : List Event) (decisions : List Decision) (choice : Choice)
         → IsValid problem fixings plan → Follows plan decisions → IsChoice problem choice
         → (child : Decision) × Contains (children_of problem choice) child × Follows plan (decisions ++ child ∷ []) }
+{
+}
+
+/// In a valid plan that follows the decisions the run of each train is an allowed route.
+pub fn runs_are_allowed()
+    ensures { (problem : Problem) (fixings : List Fixing) (plan : List Event) (decisions : List Decision) (t : ℕ)
+        → IsValid problem fixings plan → Follows plan decisions → t < length problem.trains
+        → IsAllowed problem fixings decisions t (operations_of t plan) }
+{
+}
+
+/// In a valid plan that follows the decisions each forced operation is run.
+pub fn forced_are_run()
+    ensures { (problem : Problem) (fixings : List Fixing) (plan : List Event) (decisions : List Decision) (o : Op)
+        → IsValid problem fixings plan → Follows plan decisions → IsForced problem fixings decisions o
+        → (i : ℕ) × (e : Event) × (slice_get plan i ≡ Some e) × Starts o e }
+{
+}
+
+/// In a valid plan that follows the decisions the end of an arc stands behind its beginning, and starts
+/// at least the arc's length after it.
+pub fn arcs_hold()
+    ensures { (problem : Problem) (fixings : List Fixing) (plan : List Event) (decisions : List Decision) (u v : Op) (arc_length i j : ℕ) (e f : Event)
+        → IsValid problem fixings plan → Follows plan decisions → IsArc problem fixings decisions u v arc_length
+        → slice_get plan i ≡ Some e → Starts u e → slice_get plan j ≡ Some f → Starts v f
+        → (i < j) × (e.time + arc_length ≤ f.time) }
+{
+}
+
+/// In a valid plan that follows the decisions a walk is no longer than the start of its end, and no
+/// longer than that end's upper.
+pub fn walks_hold()
+    ensures starts { (problem : Problem) (fixings : List Fixing) (plan : List Event) (decisions : List Decision) (walk : List Op) (total : ℕ) (o : Op) (j : ℕ) (f : Event)
+        → IsValid problem fixings plan → Follows plan decisions → IsWalk problem fixings decisions walk total → EndsIn walk o
+        → slice_get plan j ≡ Some f → Starts o f → total ≤ f.time }
+    ensures uppers { (problem : Problem) (fixings : List Fixing) (plan : List Event) (decisions : List Decision) (walk : List Op) (total : ℕ) (o : Op) (upper : ℕ)
+        → IsValid problem fixings plan → Follows plan decisions → IsWalk problem fixings decisions walk total → EndsIn walk o
+        → upper_of problem fixings o ≡ Some upper → total ≤ upper }
+{
+}
+
+/// A node whose decisions a valid plan follows is not dead: each train has an allowed route, the arcs
+/// have no cycle, and no forced operation's longest walk is longer than its upper.
+pub fn followed_is_not_dead()
+    ensures { (problem : Problem) (fixings : List Fixing) (plan : List Event) (decisions : List Decision)
+        → IsValid problem fixings plan → Follows plan decisions → IsDead problem fixings decisions → ⊥ }
+{
+}
+
+/// Costs grow: a component costs no less at a later start; walks to distinct components cost together no
+/// more than a valid plan that follows the decisions.
+pub fn costs_grow()
+    ensures later { (c : Component) (earlier later : ℕ) → earlier ≤ later → cost_at c earlier ≤ cost_at c later }
+    ensures together { (problem : Problem) (fixings : List Fixing) (plan : List Event) (decisions : List Decision) (walks : List ComponentWalk) (sum : ℕ)
+        → IsValid problem fixings plan → Follows plan decisions → HaveDistinct walks → WalksCost problem fixings decisions walks sum
+        → sum ≤ cost_of problem.components plan }
+{
+}
+
+/// A node's bound is at most the cost of every valid plan that follows its decisions.
+pub fn bound_holds()
+    ensures { (problem : Problem) (fixings : List Fixing) (plan : List Event) (decisions : List Decision) (bound : ℕ)
+        → IsValid problem fixings plan → Follows plan decisions → IsBound problem fixings decisions bound
+        → bound ≤ cost_of problem.components plan }
+{
+}
+
+/// A tree's yes: where a tree is accepted for 'optimal' with a cost no valid plan costs less, and where
+/// it is accepted for 'infeasible' no plan is valid.
+pub fn trees_say_yes()
+    ensures optimal { (problem : Problem) (fixings : List Fixing) (cost : ℕ) (tree : List TreeNode) (plan : List Event)
+        → Accepts problem fixings (Optimal cost) tree → IsValid problem fixings plan → cost ≤ cost_of problem.components plan }
+    ensures infeasible { (problem : Problem) (fixings : List Fixing) (tree : List TreeNode)
+        → Accepts problem fixings Infeasible tree → IsInfeasible problem fixings }
 {
 }

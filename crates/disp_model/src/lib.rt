@@ -23,7 +23,10 @@ pub use answer::{Alone, Answer, Unfinished};
 pub use decision::{Choice, Decision};
 pub use entry::{Entry, Mark, Split, Standing, Unasked};
 pub use fixing::Fixing;
-pub use laws::branching_covers;
+pub use laws::{
+    arcs_hold, bound_holds, branching_covers, costs_grow, followed_is_not_dead, forced_are_run,
+    runs_are_allowed, trees_say_yes, walks_hold,
+};
 pub use limits::{
     GREATEST_COST, GREATEST_EVENT_TIME, GREATEST_NUMBER, MOST_CALLERS, MOST_COMPONENTS,
     MOST_EVENTS, MOST_FILE_BYTES, MOST_FIXINGS, MOST_LINE_BYTES, MOST_LINES, MOST_OPERATIONS,

@@ -23,15 +23,6 @@ start_in_run_from t k (suc i) (s ∷ starts) within =
     let more : k + suc i ≡ (k + 1) + i = omega arith in
     rw (more, apart k ((k + 1) + i) (λ e. omega arith)) (start_in_run_from t (k + 1) i starts (omega arith))
 
--- a later start costs no less
-pub costs_grow : (c : Component) (s t : ℕ) → s ≤ t → cost_at c s ≤ cost_at c t
-costs_grow c s t le =
-    let product : c.coeff * (s - c.threshold) ≤ c.coeff * (t - c.threshold) = mul-le-mul_left c.coeff (omega arith) in
-    elim (cases_lt s c.threshold) [
-      | inl lt ↦ rw (lt-leb c.threshold s lt) (omega (arith, product))
-      | inr ge ↦ rw (le-leb c.threshold s ge, le-leb c.threshold t (omega arith)) (omega (arith, product))
-    ]
-
 -- a start within the horizon costs no more than at the horizon
 pub cost_within : (c : Component) (s last : ℕ) → s ≤ last → cost_at c s ≤ most_of last c
 cost_within c s last le =

@@ -18,6 +18,7 @@ use Rattle.disp_model.specs.declared.limits.TheConstants.{GREATEST_COST, MOST_OP
 use Rattle.disp_model.specs.Plan.{run_of, start_of, end_of}
 use Rattle.disp_model.specs.Valid.{train_at, operation_of, MayStart, IsValid, KeepApart}
 use Rattle.disp_model.specs.Cost.{cost_at, cost_in, cost_of}
+use Rattle.disp_model.proofs.Costs.{costs_grow}
 use Rattle.disp_model.proofs.Runs.{Spaced, Lasts, lasts_from_runs, runs_are_spaced}
 use Rattle.displib_reader.specs.Plain.{IsPlain}
 use Rattle.dispatch_cli.specs.Earliest.{starts_from, starts_of, run_from, events_from, IsInOrder, cost_at_starts, HasStart, IsBest}
@@ -26,7 +27,7 @@ use Rattle.dispatch_cli.proofs.Ordered.{comes_before, event_order, times_rise}
 use Rattle.dispatch_cli.proofs.Events.{run_at, earliest_run_sorted, earliest_run_spaced, earliest_run_is_route, starts_count}
 use Rattle.dispatch_cli.proofs.Windows.{IsGood, all_good}
 use Rattle.dispatch_cli.proofs.Least.{start_in, start_in_run, starts_later}
-use Rattle.dispatch_cli.proofs.Costs.{sum_at, start_in_run_from, costs_grow, cost_within, start_within_horizon, sums_compare, sums_agree}
+use Rattle.dispatch_cli.proofs.Costs.{sum_at, start_in_run_from, cost_within, start_within_horizon, sums_compare, sums_agree}
 
 starts_at : (trains : List (List Operation)) (t : ℕ) → get_or (starts_of trains) t [] ≡ starts_from 0 (slice_index_or trains t [])
 starts_at [] t = refl
