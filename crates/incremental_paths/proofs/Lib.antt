@@ -1,0 +1,5 @@
+pub mod Members
+pub mod Steps
+pub mod Ranks
+pub mod SweptLengths
+pub mod SweptMarks

@@ -1,0 +1,18 @@
+//! Path lengths over nodes with lowers, under arcs that are added and withdrawn.
+//!
+//! A node's length is the greatest length of a walk that ends there (`specs/Walks.antt`), over the
+//! arcs that are kept and the lowers raised so far. An arc that would close a cycle is refused,
+//! exactly then. No call but `new`, `add`, `walk` and `between` takes memory.
+#![tactic(auto)]
+
+mod arc;
+mod faults;
+mod lengths;
+mod marks;
+mod paths;
+mod ranked;
+mod trace;
+
+pub use arc::Arc;
+pub use faults::{AddNo, Memory};
+pub use paths::Paths;

@@ -1,0 +1,134 @@
+ghost use Rattle.std.specs.Prelude.{ℕ, ◌≡◌, ◌<◌, ◌≤◌, ◌↔◌, ◌^◌, List, [], length, All, IfOk, IfErr, OnOk, OnErr, IsErrOf, ◌≢◌};
+ghost use Rattle.incremental_paths.specs.Walks.{IsWalkTo, walk_length, HasNoNodeTwice, IsLongest, HasCycle, WalksAreShort};
+ghost use Rattle.incremental_paths.specs.Network.{IsNode, with_arc, without_last, raised};
+
+use crate::arc::Arc;
+use crate::faults::{AddNo, Memory};
+use crate::lengths::compute_lengths;
+use crate::marks::mark_from;
+use crate::ranked::{Ranked, keep_below, rank_with};
+use crate::trace::trace_walk;
+use std::alloc::Global;
+use std::marker::Model;
+
+/// Nodes with their lowers and lengths, and the arcs that are kept between them.
+#[derive(Debug, Drop)]
+pub struct Paths {
+    lowers: Vec<u64>,
+    arcs: Vec<Arc>,
+    ranked: Vec<Ranked>,
+    lengths: Vec<u64>,
+    marks: Vec<bool>,
+}
+
+impl Model for Paths {
+    ghost use Rattle.incremental_paths.specs.Network.{Network};
+    ghost use Rattle.incremental_paths.specs.Kept.{AreKept};
+
+    ghost Value = { Network };
+
+    ghost view = { λ p. record { lowers = p.lowers.items; arcs = p.arcs.items } };
+
+    ghost invariant = { λ p. AreKept p.lowers.items p.arcs.items p.ranked.items p.lengths.items p.marks.items };
+}
+
+impl Paths {
+    /// Nodes with these lowers, and no arcs.
+    pub fn new(alloc: Global, lowers: &[u64]) -> Result<Self, Memory>
+        requires { length lowers.now < 2 ^ 32 }
+        ensures { IfOk result (λ paths. paths ≡ record { lowers = lowers.now; arcs = [] }) }
+    {
+        Ok(Paths {
+            lowers: lowers.to_vec(alloc)?,
+            arcs: Vec::new(alloc),
+            ranked: Vec::new(alloc),
+            lengths: lowers.to_vec(alloc)?,
+            marks: vec![in alloc; false; lowers.len()]?,
+        })
+    }
+
+    /// Adds an arc behind the others. Fails where it would close a cycle, also one of length 0, and
+    /// for want of memory.
+    pub fn add(&mut self, from: u32, to: u32, length: u64) -> Result<(), AddNo>
+        requires from { IsNode self.old from }
+        requires to { IsNode self.old to }
+        requires short { let new = with_arc self.old (record { from = from; to = to; length = length }) in
+            (HasCycle new.arcs → ⊥) → WalksAreShort new.lowers new.arcs }
+
+        ensures ok { OnOk result (self.new ≡ with_arc self.old (record { from = from; to = to; length = length })) }
+        ensures closes { IsErrOf result (AddNo.Closes from to)
+            ↔ (let new = with_arc self.old (record { from = from; to = to; length = length }) in HasCycle new.arcs) }
+        ensures faults { IfErr result (λ no. no ≢ AddNo.Memory → no ≡ AddNo.Closes from to) }
+        ensures err { OnErr result (self.new ≡ self.old) }
+    {
+        mark_from(&self.ranked, to, &mut self.marks);
+        if self.marks[from as usize] {
+            return Err(AddNo::Closes { from, to });
+        }
+        let arc = Arc { from, to, length };
+        let place = self.arcs.len();
+        let alloc = *self.arcs.allocator();
+        let ranked = rank_with(alloc, &self.ranked, &self.marks, Ranked { place, arc })
+            .map_err(Memory::from)?;
+        self.arcs.push(arc).map_err(Memory::from)?;
+        self.ranked = ranked;
+        compute_lengths(&self.ranked, &self.lowers, &mut self.lengths);
+        Ok(())
+    }
+
+    /// Takes the last `k` arcs away.
+    pub fn withdraw(&mut self, k: u32)
+        requires { let kept = self.old.arcs in k ≤ length kept }
+        ensures { self.new ≡ without_last self.old k }
+    {
+        let left = self.arcs.len() - k as usize;
+        self.arcs.truncate(left);
+        keep_below(&mut self.ranked, left);
+        compute_lengths(&self.ranked, &self.lowers, &mut self.lengths);
+    }
+
+    /// Raises a node's lower to `lower`, unless it is greater.
+    pub fn raise(&mut self, node: u32, lower: u64)
+        requires node { IsNode self.old node }
+        requires short { let new = raised self.old node lower in
+            (HasCycle new.arcs → ⊥) → WalksAreShort new.lowers new.arcs }
+        ensures { self.new ≡ raised self.old node lower }
+    {
+        let at = node as usize;
+        if self.lowers[at] < lower {
+            self.lowers[at] = lower;
+            compute_lengths(&self.ranked, &self.lowers, &mut self.lengths);
+        }
+    }
+
+    /// The greatest length of a walk that ends in the node.
+    pub fn length(&self, node: u32) -> u64
+        requires { IsNode self.now node }
+        ensures longest { IsLongest self.now.lowers self.now.arcs node result }
+        ensures of_all_walks { (nodes : List ℕ) → IsWalkTo self.now.lowers self.now.arcs node nodes
+            → walk_length self.now.lowers self.now.arcs nodes ≤ result }
+    {
+        self.lengths[node as usize]
+    }
+
+    /// The arcs that are kept, in the order in which they were added.
+    pub fn arcs(&self) -> &[Arc]
+        ensures all { result.now ≡ self.now.arcs }
+        ensures nodes { All (λ arc. IsNode self.now arc.from × IsNode self.now arc.to) self.now.arcs }
+        ensures no_cycle { HasCycle self.now.arcs → ⊥ }
+    {
+        &self.arcs
+    }
+
+    /// A walk to the node that is as long as the node's length.
+    pub fn walk(&self, node: u32) -> Result<Vec<u32>, Memory>
+        requires { IsNode self.now node }
+        ensures walk { IfOk result (λ nodes. IsWalkTo self.now.lowers self.now.arcs node nodes.items) }
+        ensures once { IfOk result (λ nodes. HasNoNodeTwice nodes.items) }
+        ensures longest { IfOk result (λ nodes.
+            IsLongest self.now.lowers self.now.arcs node (walk_length self.now.lowers self.now.arcs nodes.items)) }
+    {
+        let alloc = *self.arcs.allocator();
+        Ok(trace_walk(alloc, &self.ranked, &self.lowers, &self.lengths, node)?)
+    }
+}
