@@ -12,10 +12,10 @@ use Rattle.incremental_paths.specs.Kept.{IsRanked, AreRanked, arcs_of}
 use Rattle.incremental_paths.proofs.Members.{IsPart, Contains-map, Contains-map_from, Contains-cons_cases, Contains-nil, Contains-filter, Contains-here, Contains-there}
 use Rattle.incremental_paths.proofs.Steps.{Rises}
 
-All-from_contains : {X : Type 0} (xs : List X) (P : X → Type 0) → ((x : X) → Contains xs x → P x) → All P xs
+pub All-from_contains : {X : Type 0} (xs : List X) (P : X → Type 0) → ((x : X) → Contains xs x → P x) → All P xs
 All-from_contains xs P each = All-weaker (Contains xs) P each xs (All-contains_itself xs)
 
-from_filter : {X : Type 0} (p : X → Bool) (xs : List X) (x : X) → Contains (filter p xs) x → Contains xs x × (p x ≡ true)
+pub from_filter : {X : Type 0} (p : X → Bool) (xs : List X) (x : X) → Contains (filter p xs) x → Contains xs x × (p x ≡ true)
 from_filter p xs x c =
     (All-contains (Contains xs) (filter p xs) x (All-filter p (Contains xs) xs (All-contains_itself xs)) c
     , All-contains (λ y. p y ≡ true) (filter p xs) x (filter_passes p xs) c)
@@ -103,16 +103,16 @@ Contains_get arcs k a e = (k, slice_get_within arcs k a e, get_or_from_slice_get
 get_Contains : (arcs : List Arc) (a : Arc) → (c : Contains arcs a) → slice_get arcs c.0 ≡ Some a
 get_Contains arcs a c = slice_get-get_or arcs c.0 a c.1 ∙ ap Some c.2
 
-get_append : (arcs more : List Arc) (k : ℕ) (a : Arc) → slice_get arcs k ≡ Some a → slice_get (arcs ++ more) k ≡ Some a
+pub get_append : (arcs more : List Arc) (k : ℕ) (a : Arc) → slice_get arcs k ≡ Some a → slice_get (arcs ++ more) k ≡ Some a
 get_append [] more k a e = absurd (none-some a e)
 get_append (b ∷ arcs) more zero a e = e
 get_append (b ∷ arcs) more (suc k) a e = get_append arcs more k a e
 
-get_last : (arcs : List Arc) (new : Arc) → slice_get (arcs ++ new ∷ []) (length arcs) ≡ Some new
+pub get_last : (arcs : List Arc) (new : Arc) → slice_get (arcs ++ new ∷ []) (length arcs) ≡ Some new
 get_last [] new = refl
 get_last (b ∷ arcs) new = get_last arcs new
 
-get_push : (arcs : List Arc) (new : Arc) (k : ℕ) (a : Arc) → slice_get (arcs ++ new ∷ []) k ≡ Some a → (slice_get arcs k ≡ Some a) ⊎ ((k ≡ length arcs) × (new ≡ a))
+pub get_push : (arcs : List Arc) (new : Arc) (k : ℕ) (a : Arc) → slice_get (arcs ++ new ∷ []) k ≡ Some a → (slice_get arcs k ≡ Some a) ⊎ ((k ≡ length arcs) × (new ≡ a))
 get_push [] new zero a e = inr (refl, same_Some new a e)
 get_push [] new (suc k) a e = absurd (none-some a e)
 get_push (b ∷ arcs) new zero a e = inl e

@@ -24,9 +24,10 @@ pub fn trace_walk(
     let mut nodes = Vec::new(alloc);
     nodes.push(node)?;
     let mut at = node;
-    for r in ranked.iter().rev() {
-        let arc = r.arc;
-        if arc.to == at && lengths[arc.from as usize] + arc.length == lengths[at as usize] {
+    for i in (0..ranked.len()).rev() {
+        let arc = ranked[i].arc;
+        let reached = lengths[arc.from as usize] + arc.length;
+        if arc.to == at && reached == lengths[at as usize] {
             nodes.push(arc.from)?;
             at = arc.from;
         }
