@@ -5,3 +5,4 @@ pub mod Adds
 pub mod SweptLengths
 pub mod SweptMarks
 pub mod Traced
+pub mod KeptFields

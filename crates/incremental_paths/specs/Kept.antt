@@ -25,6 +25,10 @@ pub record AreLengths (lowers : List ℕ) (arcs : List Arc) (lengths : List ℕ)
   pub reached : (v : ℕ) → v < length lowers → (nodes : List ℕ) × IsWalkTo lowers arcs v nodes × (walk_length lowers arcs nodes ≡ slice_index lengths v)
   pub greatest : (v : ℕ) (nodes : List ℕ) → IsWalkTo lowers arcs v nodes → walk_length lowers arcs nodes ≤ slice_index lengths v
 
+-- no walk is longer than 2 ^ 64 - 1
+abbrev pub WalksFit : List ℕ → List Arc → Type 0
+WalksFit lowers arcs = (v : ℕ) (nodes : List ℕ) → IsWalkTo lowers arcs v nodes → walk_length lowers arcs nodes < 2 ^ 64
+
 pub record AreKept (lowers : List ℕ) (arcs : List Arc) (ranked : List Ranked) (lengths : List ℕ) (marks : List Bool) : Type 0 where
   pub few : length lowers < 2 ^ 32
   pub a_length_each : length lengths ≡ length lowers
@@ -32,14 +36,11 @@ pub record AreKept (lowers : List ℕ) (arcs : List Arc) (ranked : List Ranked) 
   pub within : AreWithin (length lowers) ranked
   pub ranked_arcs : AreRanked arcs ranked
   pub longest : AreLengths lowers arcs lengths
+  pub fit : WalksFit lowers arcs
 
 -- the arcs alone
 abbrev pub arcs_of : List Ranked → List Arc
 arcs_of ranked = map (λ r. r.arc) ranked
-
--- no walk is longer than 2 ^ 64 - 1
-abbrev pub WalksFit : List ℕ → List Arc → Type 0
-WalksFit lowers arcs = (v : ℕ) (nodes : List ℕ) → IsWalkTo lowers arcs v nodes → walk_length lowers arcs nodes < 2 ^ 64
 
 -- the node is marked
 abbrev pub is_marked : List Bool → ℕ → Bool

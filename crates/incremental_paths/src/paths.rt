@@ -39,10 +39,10 @@ impl Paths {
         ensures { IfOk result (λ paths. paths ≡ record { lowers = lowers.now; arcs = [] }) }
     {
         Ok(Paths {
-            lowers: lowers.to_vec(alloc)?,
+            lowers: Vec::from_slice(alloc, lowers)?,
             arcs: Vec::new(alloc),
             ranked: Vec::new(alloc),
-            lengths: lowers.to_vec(alloc)?,
+            lengths: Vec::from_slice(alloc, lowers)?,
             marks: vec![in alloc; false; lowers.len()]?,
         })
     }
