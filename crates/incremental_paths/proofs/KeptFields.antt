@@ -6,10 +6,11 @@ use Rattle.std.proofs.lemmas.List.Elements.{All-nil, All-filter, All-contains, C
 use Rattle.incremental_paths.specs.declared.arc.Arc.{Arc}
 use Rattle.incremental_paths.specs.declared.ranked.Ranked.{Ranked}
 use Rattle.incremental_paths.specs.Walks.{IsWalkTo, walk_length, HasNoNodeTwice, IsLongest, HasCycle, WalksAreShort, Follows, last_from, IsJoined}
-use Rattle.incremental_paths.specs.Kept.{AreKept, AreRanked, AreWithin, AreLengths, AreMarks, WalksFit, arcs_of, is_marked}
+use Rattle.incremental_paths.specs.Kept.{AreKept, AreRanked, AreWithin, AreLengths, AreMarks, WalksFit, arcs_of, is_marked, rank_with_lem}
 use Rattle.incremental_paths.proofs.Members.{IsPart, Contains-nil, Contains-map, Contains-map_from, joined, joining}
 use Rattle.incremental_paths.proofs.Steps.{Rises, Follows_part, walk_part, walk_length_part, walk_no_node_twice, no_cycle}
 use Rattle.incremental_paths.proofs.Ranks.{rank, arcs_rise, to_arcs, from_arcs, from_filter, ranked_none, ranked_take, All-from_contains}
+use Rattle.incremental_paths.proofs.Adds.{ranked_with}
 use Rattle.incremental_paths.proofs.SweptLengths.{swept_all, swept_none, lengths_part}
 
 fits_part : (lowers : List ℕ) (xs ys : List Arc) → IsPart xs ys → WalksFit lowers ys → WalksFit lowers xs
@@ -79,6 +80,18 @@ module _ (lowers : List ℕ) (arcs : List Arc) (ranked : List Ranked) (lengths :
       let part : IsPart (arcs_of ranked) (arcs ++ new ∷ []) = λ a c. Contains-append_left arcs (new ∷ []) a (to_arcs arcs ranked kept.ranked_arcs a c) in
       (new.to ∷ h.0, (Follows_part (arcs_of ranked) (arcs ++ new ∷ []) part new.to h.0 h.1
       , joined (arcs ++ new ∷ []) new (last_from new.to h.0) new.to (Contains-push arcs new) (sym h.2) refl))
+
+module _ (lowers : List ℕ) (arcs : List Arc) (ranked : List Ranked) (lengths : List ℕ) (marks : List Bool) (kept : AreKept lowers arcs ranked lengths marks) (new : Arc) (to_marks : List Bool) (marked : AreMarks ranked new.to to_marks) (free : is_marked to_marks new.from ≡ false) where
+  pub added_ranked : AreRanked (arcs ++ new ∷ []) (rank_with_lem to_marks ranked (record { place = length arcs; arc = new }))
+  added_ranked = ranked_with arcs ranked kept.ranked_arcs to_marks new marked free
+
+  pub added_no_cycle : HasCycle (arcs ++ new ∷ []) → ⊥
+  added_no_cycle =
+      let all = rank_with_lem to_marks ranked (record { place = length arcs; arc = new }) in
+      no_cycle (arcs ++ new ∷ []) (rank all) (arcs_rise (arcs ++ new ∷ []) all added_ranked)
+
+  pub added_fit : ((HasCycle (arcs ++ new ∷ []) → ⊥) → WalksAreShort lowers (arcs ++ new ∷ [])) → WalksFit lowers (arcs ++ new ∷ [])
+  added_fit short v nodes walk = omega (arith, short added_no_cycle v nodes walk)
 
 lone_fits : (lowers : List ℕ) → ((v : ℕ) → get_or lowers v 0 < 2 ^ 64) → WalksFit lowers []
 lone_fits lowers each v [] walk = absurd walk

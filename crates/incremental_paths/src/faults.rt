@@ -53,6 +53,22 @@ impl fmt::Display for AddNo {
 
 impl Error for AddNo {}
 
+impl From<AllocError> for AddNo {
+    ghost from_gives = { λ _ no. no ≡ OutOfMemory };
+
+    fn from(_fault: AllocError) -> AddNo {
+        AddNo::Memory
+    }
+}
+
+impl<T: Drop> From<AllocFailed<T>> for AddNo {
+    ghost from_gives = { λ _ no. no ≡ OutOfMemory };
+
+    fn from(_fault: AllocFailed<T>) -> AddNo {
+        AddNo::Memory
+    }
+}
+
 impl From<Memory> for AddNo {
     ghost from_gives = { λ _ no. no ≡ OutOfMemory };
 

@@ -68,9 +68,8 @@ impl Paths {
         let arc = Arc { from, to, length };
         let place = self.arcs.len();
         let alloc = *self.arcs.allocator();
-        let ranked = rank_with(alloc, &self.ranked, &self.marks, Ranked { place, arc })
-            .map_err(Memory::from)?;
-        self.arcs.push(arc).map_err(Memory::from)?;
+        let ranked = rank_with(alloc, &self.ranked, &self.marks, Ranked { place, arc })?;
+        self.arcs.push(arc)?;
         self.ranked = ranked;
         compute_lengths(&self.ranked, &self.lowers, &mut self.lengths);
         Ok(())
