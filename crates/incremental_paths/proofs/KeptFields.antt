@@ -1,14 +1,15 @@
 -- What the fields of `Paths` say of its walks, and how each call keeps it.
-use Rattle.std.proofs.Common.{◌≡◌, ◌≢◌, ℕ, zero, suc, ◌+◌, ◌-◌, ◌<◌, ◌≤◌, ◌^◌, Bool, true, false, List, [], ◌∷◌, ◌++◌, length, get_or, set, take, drop, filter, replicate, refl, sym, ap, ◌∙◌, subst, arith, Contains, nat_lt}
-use Rattle.std.specs.Prelude.{All, slice_index}
+use Rattle.std.proofs.Common.{◌≡◌, ◌≢◌, ℕ, zero, suc, ◌+◌, ◌-◌, ◌<◌, ◌≤◌, ◌^◌, Bool, true, false, List, [], ◌∷◌, ◌++◌, length, get_or, set, take, drop, filter, replicate, refl, sym, ap, ◌∙◌, subst, arith, Contains, nat_lt, Option, None, Some, Vec, Global}
+use Rattle.std.specs.Prelude.{All, slice_index, IfSome, IfNone}
+use Rattle.std.proofs.lemmas.Option.{IfSome_then}
 use Rattle.std.proofs.lemmas.List.{take_at, length-replicate}
 use Rattle.std.proofs.lemmas.List.Elements.{All-nil, All-filter, All-contains, Contains-append_left, Contains-push}
 use Rattle.incremental_paths.specs.declared.arc.Arc.{Arc}
 use Rattle.incremental_paths.specs.declared.ranked.Ranked.{Ranked}
-use Rattle.incremental_paths.specs.Walks.{IsWalkTo, walk_length, HasNoNodeTwice, IsLongest, HasCycle, WalksAreShort, Follows, last_from, IsJoined}
+use Rattle.incremental_paths.specs.Walks.{IsWalkTo, walk_length, HasNoNodeTwice, IsLongest, HasCycle, WalksAreShort, Follows, last_from, Leads, IsJoined}
 use Rattle.incremental_paths.specs.Kept.{AreKept, AreRanked, AreWithin, AreLengths, AreMarks, WalksFit, arcs_of, is_marked, rank_with_lem}
 use Rattle.incremental_paths.proofs.Members.{IsPart, Contains-nil, Contains-map, Contains-map_from, joined, joining}
-use Rattle.incremental_paths.proofs.Steps.{Rises, Follows_part, walk_part, walk_length_part, walk_no_node_twice, no_cycle}
+use Rattle.incremental_paths.proofs.Steps.{Rises, Follows_part, leads_part, walk_part, walk_length_part, walk_no_node_twice, no_cycle}
 use Rattle.incremental_paths.proofs.Ranks.{rank, arcs_rise, to_arcs, from_arcs, from_filter, ranked_none, ranked_take, All-from_contains}
 use Rattle.incremental_paths.proofs.Adds.{ranked_with}
 use Rattle.incremental_paths.proofs.SweptLengths.{swept_all, swept_none, lengths_part}
@@ -50,6 +51,14 @@ module _ (lowers : List ℕ) (arcs : List Arc) (ranked : List Ranked) (lengths :
       let ge = kept.longest.greatest v nodes (kept_walk v nodes walk) in
       let same : walk_length lowers arcs nodes ≡ get_or lengths v 0 = omega (arith, le, ge, is_long) in
       rw same (kept_longest v lt)
+
+  -- a way along the ranked arcs is one along the arcs, and there is none where there is none along those
+  pub kept_way : (u v : ℕ) (found : Option (Vec ℕ Global)) → IfSome found (λ way. Leads (arcs_of ranked) u v way.items) → IfSome found (λ way. Leads arcs u v way.items)
+  kept_way u v found way = IfSome_then found way (λ x leads. leads_part (arcs_of ranked) arcs (to_arcs arcs ranked kept.ranked_arcs) u v x.items leads)
+
+  pub kept_no_way : (u v : ℕ) (found : Option (Vec ℕ Global)) → IfNone found ((way : List ℕ) → Leads (arcs_of ranked) u v way → ⊥) → IfNone found ((way : List ℕ) → Leads arcs u v way → ⊥)
+  kept_no_way u v None none = λ way leads. none way (leads_part arcs (arcs_of ranked) (from_arcs arcs ranked kept.ranked_arcs) u v way leads)
+  kept_no_way u v (Some x) none = tt
 
   -- the first n arcs fit where all of them do
   pub kept_fits_take : (n : ℕ) → WalksFit lowers (arcs_of (filter (λ r. nat_lt r.place n) ranked))

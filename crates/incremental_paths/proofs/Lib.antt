@@ -6,3 +6,4 @@ pub mod SweptLengths
 pub mod SweptMarks
 pub mod Traced
 pub mod KeptFields
+pub mod TracedWays

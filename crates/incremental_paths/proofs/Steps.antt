@@ -3,7 +3,7 @@ use Rattle.std.proofs.Common.{◌≡◌, ◌≢◌, ℕ, zero, suc, ◌+◌, ◌
 use Rattle.std.specs.Prelude.{All, AllPairs, slice_index}
 use Rattle.std.proofs.lemmas.List.Elements.{All-cons, All-nil, All-weaker}
 use Rattle.incremental_paths.specs.declared.arc.Arc.{Arc}
-use Rattle.incremental_paths.specs.Walks.{IsJoined, longest_arc, Follows, last_from, IsWalkTo, steps_length, walk_length, HasNoNodeTwice, IsCycle, HasCycle}
+use Rattle.incremental_paths.specs.Walks.{IsJoined, longest_arc, Follows, last_from, Leads, IsWalkTo, steps_length, walk_length, HasNoNodeTwice, IsCycle, HasCycle}
 use Rattle.incremental_paths.proofs.Members.{IsPart, joined, joining, joined_part, longest_part}
 
 pub Follows_part : (xs ys : List Arc) → IsPart xs ys → (u : ℕ) (rest : List ℕ) → Follows xs u rest → Follows ys u rest
@@ -21,6 +21,10 @@ walk_part lowers xs ys part v (u ∷ rest) w = (w.0, Follows_part xs ys part u r
 pub walk_length_part : (lowers : List ℕ) (xs ys : List Arc) → IsPart xs ys → (nodes : List ℕ) → walk_length lowers xs nodes ≤ walk_length lowers ys nodes
 walk_length_part lowers xs ys part [] = omega arith
 walk_length_part lowers xs ys part (u ∷ rest) = omega (arith, steps_part xs ys part u rest)
+
+pub leads_part : (xs ys : List Arc) → IsPart xs ys → (u v : ℕ) (way : List ℕ) → Leads xs u v way → Leads ys u v way
+leads_part xs ys part u v [] leads = leads
+leads_part xs ys part u v (w ∷ rest) leads = (leads.0, Follows_part xs ys part w rest leads.1, leads.2)
 
 -- one step more
 pub Follows_push : (arcs : List Arc) (w u : ℕ) (rest : List ℕ) → Follows arcs u rest → IsJoined arcs (last_from u rest) w → Follows arcs u (rest ++ w ∷ [])

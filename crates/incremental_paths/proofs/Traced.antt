@@ -27,7 +27,7 @@ abbrev pub NoneGives : List Ranked → List ℕ → ℕ → ℕ → Type 0
 NoneGives S lengths i at = (j : ℕ) (d : Ranked) → i ≤ j → j < length S → (get_or S j d).arc.to ≡ at → get_or lengths (get_or S j d).arc.from 0 + (get_or S j d).arc.length ≢ get_or lengths at 0
 
 -- a list of nodes ends where it begins, or has a last step
-split_from : (arcs : List Arc) (u v : ℕ) (rest : List ℕ) → Follows arcs u rest → last_from u rest ≡ v
+pub split_from : (arcs : List Arc) (u v : ℕ) (rest : List ℕ) → Follows arcs u rest → last_from u rest ≡ v
     → (rest ≡ []) ⊎ ((before : List ℕ) × Follows arcs u before × IsJoined arcs (last_from u before) v × (steps_length arcs u rest ≡ steps_length arcs u before + longest_arc arcs (last_from u before) v))
 split_from arcs u v [] f e = inl refl
 split_from arcs u v (x ∷ rest) f e =

@@ -26,6 +26,11 @@ abbrev pub IsWalkTo : List ℕ → List Arc → ℕ → List ℕ → Type 0
 IsWalkTo lowers arcs v [] = ⊥
 IsWalkTo lowers arcs v (u ∷ rest) = (u < length lowers) × Follows arcs u rest × (last_from u rest ≡ v)
 
+-- the nodes of a way from u to v: u first, v last, each next one reached by an arc
+abbrev pub Leads : List Arc → ℕ → ℕ → List ℕ → Type 0
+Leads arcs u v [] = ⊥
+Leads arcs u v (w ∷ rest) = (w ≡ u) × Follows arcs w rest × (last_from w rest ≡ v)
+
 -- the longest arc of each step from u on, added up
 abbrev pub steps_length : List Arc → ℕ → List ℕ → ℕ
 steps_length arcs u [] = 0

@@ -12,6 +12,7 @@ mod marks;
 mod paths;
 mod ranked;
 mod trace;
+mod way;
 
 pub use arc::Arc;
 pub use faults::{AddNo, Memory};

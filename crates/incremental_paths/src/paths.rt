@@ -1,5 +1,5 @@
-ghost use Rattle.std.specs.Prelude.{ℕ, ◌≡◌, ◌<◌, ◌≤◌, ◌↔◌, ◌^◌, List, [], length, All, IfOk, IfErr, OnOk, OnErr, IsErrOf, ◌≢◌};
-ghost use Rattle.incremental_paths.specs.Walks.{IsWalkTo, walk_length, HasNoNodeTwice, IsLongest, HasCycle, WalksAreShort};
+ghost use Rattle.std.specs.Prelude.{ℕ, ◌≡◌, ◌<◌, ◌≤◌, ◌↔◌, ◌^◌, List, [], length, All, IfOk, IfErr, IfSome, IfNone, OnOk, OnErr, IsErrOf, ◌≢◌};
+ghost use Rattle.incremental_paths.specs.Walks.{IsWalkTo, walk_length, HasNoNodeTwice, Leads, IsLongest, HasCycle, WalksAreShort};
 ghost use Rattle.incremental_paths.specs.Network.{IsNode, with_arc, without_last, raised};
 
 use crate::arc::Arc;
@@ -8,6 +8,7 @@ use crate::lengths::compute_lengths;
 use crate::marks::mark_from;
 use crate::ranked::{Ranked, keep_below, rank_with};
 use crate::trace::trace_walk;
+use crate::way::trace_way;
 use std::alloc::Global;
 use std::marker::Model;
 
@@ -129,5 +130,17 @@ impl Paths {
     {
         let alloc = *self.arcs.allocator();
         Ok(trace_walk(alloc, &self.ranked, &self.lowers, &self.lengths, node)?)
+    }
+
+    /// The nodes of a way along kept arcs from one node to another, both among them, and `None`
+    /// where there is none. From a node to itself it is that node alone.
+    pub fn between(&self, from: u32, to: u32) -> Result<Option<Vec<u32>>, Memory>
+        requires from { IsNode self.now from }
+        requires to { IsNode self.now to }
+        ensures way { IfOk result (λ found. IfSome found (λ nodes. Leads self.now.arcs from to nodes.items)) }
+        ensures none { IfOk result (λ found. IfNone found ((nodes : List ℕ) → Leads self.now.arcs from to nodes → ⊥)) }
+    {
+        let alloc = *self.arcs.allocator();
+        Ok(trace_way(alloc, &self.ranked, self.marks.len(), from, to)?)
     }
 }
