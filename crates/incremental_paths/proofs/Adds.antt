@@ -45,25 +45,29 @@ module _ (arcs : List Arc) (S : List Ranked) (ranked : AreRanked arcs S) (marks 
   unfolding new_ranked
   front = ranked_append (filter (begins_as marks false) S) (new_ranked ∷ []) (ranked_filter (begins_as marks false) S ranked.in_order) alone (λ s t cs ct.
       elim (Contains-cons_cases new_ranked t [] ct) [
-        inl e ↦ subst (λ z. z.arc.to ≢ s.arc.from) e (apart new.to s.arc.from marked.started (before_new s cs))
-      | inr none ↦ absurd (Contains-nil t none) ])
+        | inl e ↦ subst (λ z. z.arc.to ≢ s.arc.from) e (apart new.to s.arc.from marked.started (before_new s cs))
+        | inr none ↦ absurd (Contains-nil t none)
+      ])
 
   in_front : (s : Ranked) → Contains (filter (begins_as marks false) S ++ new_ranked ∷ []) s → is_marked marks s.arc.from ≡ false
   unfolding new_ranked
   in_front s c =
       elim (Contains-push_cases (filter (begins_as marks false) S) new_ranked s c) [
-        inl old ↦ before_new s old
-      | inr e ↦ subst (λ z. is_marked marks z.arc.from ≡ false) e free ]
+        | inl old ↦ before_new s old
+        | inr e ↦ subst (λ z. is_marked marks z.arc.from ≡ false) e free
+      ]
 
   grown_kept : (s : Ranked) → Contains (rank_with_lem marks S new_ranked) s → slice_get (arcs ++ new ∷ []) s.place ≡ Some s.arc
   unfolding new_ranked
   grown_kept s c =
       let old : Contains S s → slice_get (arcs ++ new ∷ []) s.place ≡ Some s.arc = λ d. get_append arcs (new ∷ []) s.place s.arc (All-contains (λ r. slice_get arcs r.place ≡ Some r.arc) S s ranked.kept d) in
       elim (Contains-append_cases (filter (begins_as marks false) S ++ new_ranked ∷ []) (filter (begins_as marks true) S) s c) [
-        inl d ↦ elim (Contains-push_cases (filter (begins_as marks false) S) new_ranked s d) [
-            inl f ↦ old (from_filter (begins_as marks false) S s f).0
-          | inr e ↦ subst (λ z. slice_get (arcs ++ new ∷ []) z.place ≡ Some z.arc) e (get_last arcs new) ]
-      | inr d ↦ old (from_filter (begins_as marks true) S s d).0 ]
+        | inl d ↦ elim (Contains-push_cases (filter (begins_as marks false) S) new_ranked s d) [
+          | inl f ↦ old (from_filter (begins_as marks false) S s f).0
+          | inr e ↦ subst (λ z. slice_get (arcs ++ new ∷ []) z.place ≡ Some z.arc) e (get_last arcs new)
+        ]
+        | inr d ↦ old (from_filter (begins_as marks true) S s d).0
+      ]
 
   grown_all : (k : ℕ) (a : Arc) → slice_get (arcs ++ new ∷ []) k ≡ Some a → Contains (rank_with_lem marks S new_ranked) (record { place = k; arc = a })
   unfolding new_ranked
@@ -72,12 +76,14 @@ module _ (arcs : List Arc) (S : List Ranked) (ranked : AreRanked arcs S) (marks 
       let back = filter (begins_as marks true) S in
       let x : Ranked = record { place = k; arc = a } in
       elim (get_push arcs new k a e) [
-        inl old ↦ elim (cases_Bool (is_marked marks a.from)) [
-            inl m ↦ Contains-append_right front_list back x (Contains-filter (begins_as marks true) S x (ranked.all k a old) (is_beq (is_marked marks a.from) true m))
-          | inr m ↦ Contains-append_left front_list back x (Contains-append_left (filter (begins_as marks false) S) (new_ranked ∷ []) x (Contains-filter (begins_as marks false) S x (ranked.all k a old) (is_beq (is_marked marks a.from) false m))) ]
-      | inr last ↦
-          let same : new_ranked ≡ x = cc in
-          Contains-append_left front_list back x (subst (λ z. Contains front_list z) same (Contains-push (filter (begins_as marks false) S) new_ranked)) ]
+        | inl old ↦ elim (cases_Bool (is_marked marks a.from)) [
+          | inl m ↦ Contains-append_right front_list back x (Contains-filter (begins_as marks true) S x (ranked.all k a old) (is_beq (is_marked marks a.from) true m))
+          | inr m ↦ Contains-append_left front_list back x (Contains-append_left (filter (begins_as marks false) S) (new_ranked ∷ []) x (Contains-filter (begins_as marks false) S x (ranked.all k a old) (is_beq (is_marked marks a.from) false m)))
+        ]
+        | inr last ↦
+            let same : new_ranked ≡ x = cc in
+            Contains-append_left front_list back x (subst (λ z. Contains front_list z) same (Contains-push (filter (begins_as marks false) S) new_ranked))
+      ]
 
   grown : AreRanked (arcs ++ new ∷ []) (rank_with_lem marks S new_ranked)
   grown = record {

@@ -64,8 +64,8 @@ module _ (lowers : List ℕ) (arcs : List Arc) (ranked : List Ranked) (lengths :
   pub kept_fits_take : (n : ℕ) → WalksFit lowers (arcs_of (filter (λ r. nat_lt r.place n) ranked))
   kept_fits_take n v nodes walk =
       let part : IsPart (arcs_of (filter (λ r. nat_lt r.place n) ranked)) arcs = λ a c.
-          let h = Contains-map_from (λ (s : Ranked). s.arc) (filter (λ r. nat_lt r.place n) ranked) a c in
-          to_arcs arcs ranked kept.ranked_arcs a (subst (λ z. Contains (arcs_of ranked) z) h.2 (Contains-map (λ (s : Ranked). s.arc) ranked h.0 (from_filter (λ r. nat_lt r.place n) ranked h.0 h.1).0)) in
+      let h = Contains-map_from (λ (s : Ranked). s.arc) (filter (λ r. nat_lt r.place n) ranked) a c in
+      to_arcs arcs ranked kept.ranked_arcs a (subst (λ z. Contains (arcs_of ranked) z) h.2 (Contains-map (λ (s : Ranked). s.arc) ranked h.0 (from_filter (λ r. nat_lt r.place n) ranked h.0 h.1).0)) in
       omega (arith, walk_length_part lowers (arcs_of (filter (λ r. nat_lt r.place n) ranked)) arcs part nodes, kept.fit v nodes (walk_part lowers (arcs_of (filter (λ r. nat_lt r.place n) ranked)) arcs part v nodes walk))
 
   pub kept_take : (n : ℕ) (new : List ℕ) → length new ≡ length lowers → AreLengths lowers (arcs_of (filter (λ r. nat_lt r.place n) ranked)) new → AreKept lowers (take n arcs) (filter (λ r. nat_lt r.place n) ranked) new marks
@@ -86,9 +86,13 @@ module _ (lowers : List ℕ) (arcs : List Arc) (ranked : List Ranked) (lengths :
   pub closes : (new : Arc) (to_marks : List Bool) → AreMarks ranked new.to to_marks → is_marked to_marks new.from ≡ true → HasCycle (arcs ++ new ∷ [])
   closes new to_marks marked m =
       let h = marked.sound new.from m in
-      let part : IsPart (arcs_of ranked) (arcs ++ new ∷ []) = λ a c. Contains-append_left arcs (new ∷ []) a (to_arcs arcs ranked kept.ranked_arcs a c) in
-      (new.to ∷ h.0, (Follows_part (arcs_of ranked) (arcs ++ new ∷ []) part new.to h.0 h.1
-      , joined (arcs ++ new ∷ []) new (last_from new.to h.0) new.to (Contains-push arcs new) (sym h.2) refl))
+      let part : IsPart (arcs_of ranked) (arcs ++ new ∷ []) = λ a c. Contains-append_left arcs (new ∷ []) a (to_arcs arcs ranked kept.ranked_arcs a c) in (
+        new.to ∷ h.0,
+        (
+          Follows_part (arcs_of ranked) (arcs ++ new ∷ []) part new.to h.0 h.1,
+          joined (arcs ++ new ∷ []) new (last_from new.to h.0) new.to (Contains-push arcs new) (sym h.2) refl,
+        ),
+      )
 
 module _ (lowers : List ℕ) (arcs : List Arc) (ranked : List Ranked) (lengths : List ℕ) (marks : List Bool) (kept : AreKept lowers arcs ranked lengths marks) (new : Arc) (to_marks : List Bool) (marked : AreMarks ranked new.to to_marks) (free : is_marked to_marks new.from ≡ false) where
   pub added_ranked : AreRanked (arcs ++ new ∷ []) (rank_with_lem to_marks ranked (record { place = length arcs; arc = new }))

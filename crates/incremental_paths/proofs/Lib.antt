@@ -7,3 +7,4 @@ pub mod SweptMarks
 pub mod Traced
 pub mod KeptFields
 pub mod TracedWays
+pub mod Bounds

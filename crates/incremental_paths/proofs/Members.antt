@@ -24,24 +24,28 @@ pub Contains-map : {X Y : Type 0} (f : X → Y) (xs : List X) (x : X) → Contai
 Contains-map f [] x c = absurd (Contains-nil x c)
 Contains-map f (y ∷ ys) x c =
     elim (Contains-cons_cases y x ys c) [
-      inl e ↦ subst (λ z. Contains (map f (y ∷ ys)) (f z)) e (Contains-here (f y) (map f ys))
-    | inr d ↦ Contains-there (f y) (f x) (map f ys) (Contains-map f ys x d) ]
+      | inl e ↦ subst (λ z. Contains (map f (y ∷ ys)) (f z)) e (Contains-here (f y) (map f ys))
+      | inr d ↦ Contains-there (f y) (f x) (map f ys) (Contains-map f ys x d)
+    ]
 
 pub Contains-map_from : {X Y : Type 0} (f : X → Y) (xs : List X) (y : Y) → Contains (map f xs) y → (x : X) × Contains xs x × (f x ≡ y)
 Contains-map_from f [] y c = absurd (Contains-nil y c)
 Contains-map_from f (x ∷ xs) y c =
     elim (Contains-cons_cases (f x) y (map f xs) c) [
-      inl e ↦ (x, Contains-here x xs, e)
-    | inr d ↦ let h = Contains-map_from f xs y d in (h.0, Contains-there x h.0 xs h.1, h.2) ]
+      | inl e ↦ (x, Contains-here x xs, e)
+      | inr d ↦ let h = Contains-map_from f xs y d in (h.0, Contains-there x h.0 xs h.1, h.2)
+    ]
 
 pub Contains-filter : {X : Type 0} (p : X → Bool) (xs : List X) (x : X) → Contains xs x → p x ≡ true → Contains (filter p xs) x
 Contains-filter p [] x c e = absurd (Contains-nil x c)
 Contains-filter p (y ∷ ys) x c e =
     elim (Contains-cons_cases y x ys c) [
-      inl same ↦ rw (ap p same ∙ e) (subst (λ z. Contains (y ∷ filter p ys) z) same (Contains-here y (filter p ys)))
-    | inr d ↦ elim (p y) as (λ b. Contains (cond b (y ∷ filter p ys) (filter p ys)) x) [
-        true ↦ Contains-there y x (filter p ys) (Contains-filter p ys x d e)
-      | _ ↦ Contains-filter p ys x d e ] ]
+      | inl same ↦ rw (ap p same ∙ e) (subst (λ z. Contains (y ∷ filter p ys) z) same (Contains-here y (filter p ys)))
+      | inr d ↦ elim (p y) as (λ b. Contains (cond b (y ∷ filter p ys) (filter p ys)) x) [
+        | true ↦ Contains-there y x (filter p ys) (Contains-filter p ys x d e)
+        | _ ↦ Contains-filter p ys x d e
+      ]
+    ]
 
 -- each arc of the one list stands in the other
 abbrev pub IsPart : List Arc → List Arc → Type 0
@@ -67,8 +71,9 @@ pub longest_ge : (arcs : List Arc) (a : Arc) (u v : ℕ) → Contains arcs a →
 longest_ge [] a u v c f t = absurd (Contains-nil a c)
 longest_ge (b ∷ arcs) a u v c f t =
     elim (Contains-cons_cases b a arcs c) [
-      inl same ↦ subst (λ z. a.length ≤ longest_arc (z ∷ arcs) u v) (sym same) (longest_head a arcs u v f t)
-    | inr d ↦ omega (arith, longest_ge arcs a u v d f t, longest_tail b arcs u v) ]
+      | inl same ↦ subst (λ z. a.length ≤ longest_arc (z ∷ arcs) u v) (sym same) (longest_head a arcs u v f t)
+      | inr d ↦ omega (arith, longest_ge arcs a u v d f t, longest_tail b arcs u v)
+    ]
 
 longest_cons : (a : Arc) (arcs : List Arc) (u v bound : ℕ) → (a.from ≡ u → a.to ≡ v → a.length ≤ bound) → longest_arc arcs u v ≤ bound → longest_arc (a ∷ arcs) u v ≤ bound
 longest_cons a arcs u v bound here there = grind (arith, nat_tests)

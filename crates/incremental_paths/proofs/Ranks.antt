@@ -16,9 +16,10 @@ pub All-from_contains : {X : Type 0} (xs : List X) (P : X → Type 0) → ((x : 
 All-from_contains xs P each = All-weaker (Contains xs) P each xs (All-contains_itself xs)
 
 pub from_filter : {X : Type 0} (p : X → Bool) (xs : List X) (x : X) → Contains (filter p xs) x → Contains xs x × (p x ≡ true)
-from_filter p xs x c =
-    (All-contains (Contains xs) (filter p xs) x (All-filter p (Contains xs) xs (All-contains_itself xs)) c
-    , All-contains (λ y. p y ≡ true) (filter p xs) x (filter_passes p xs) c)
+from_filter p xs x c = (
+  All-contains (Contains xs) (filter p xs) x (All-filter p (Contains xs) xs (All-contains_itself xs)) c,
+  All-contains (λ y. p y ≡ true) (filter p xs) x (filter_passes p xs) c,
+)
 
 -- by places: a later arc does not lead to where an earlier one begins, nor an arc to where it begins itself
 pub ranked_at : (S : List Ranked) → IsRanked S → (i j : ℕ) (d : Ranked) → i ≤ j → j < length S → (get_or S j d).arc.to ≢ (get_or S i d).arc.from
@@ -29,16 +30,18 @@ ranked_at (s ∷ S) r (suc i) (suc j) d le lt = ranked_at S r.1 i j d (omega (ar
 
 pub ranked_append : (S T : List Ranked) → IsRanked S → IsRanked T → ((s t : Ranked) → Contains S s → Contains T t → t.arc.to ≢ s.arc.from) → IsRanked (S ++ T)
 ranked_append [] T rs rt apart = rt
-ranked_append (s ∷ S) T rs rt apart =
-    (All-append (λ t. t.arc.to ≢ s.arc.from) (s ∷ S) T rs.0 (All-from_contains T (λ t. t.arc.to ≢ s.arc.from) (λ t c. apart s t (Contains-here s S) c))
-    , ranked_append S T rs.1 rt (λ a t ca ct. apart a t (Contains-there s a S ca) ct))
+ranked_append (s ∷ S) T rs rt apart = (
+  All-append (λ t. t.arc.to ≢ s.arc.from) (s ∷ S) T rs.0 (All-from_contains T (λ t. t.arc.to ≢ s.arc.from) (λ t c. apart s t (Contains-here s S) c)),
+  ranked_append S T rs.1 rt (λ a t ca ct. apart a t (Contains-there s a S ca) ct),
+)
 
 pub ranked_filter : (p : Ranked → Bool) (S : List Ranked) → IsRanked S → IsRanked (filter p S)
 ranked_filter p [] r = tt
 ranked_filter p (s ∷ S) r =
     elim (p s) as (λ b. IsRanked (cond b (s ∷ filter p S) (filter p S))) [
-      true ↦ (All-cons (λ t. t.arc.to ≢ s.arc.from) s (filter p S) (All-head (λ t. t.arc.to ≢ s.arc.from) s S r.0) (All-filter p (λ t. t.arc.to ≢ s.arc.from) S (All-tail (λ t. t.arc.to ≢ s.arc.from) s S r.0)), ranked_filter p S r.1)
-    | false ↦ ranked_filter p S r.1 ]
+      | true ↦ (All-cons (λ t. t.arc.to ≢ s.arc.from) s (filter p S) (All-head (λ t. t.arc.to ≢ s.arc.from) s S r.0) (All-filter p (λ t. t.arc.to ≢ s.arc.from) S (All-tail (λ t. t.arc.to ≢ s.arc.from) s S r.0)), ranked_filter p S r.1)
+      | false ↦ ranked_filter p S r.1
+    ]
 
 -- a number for each node: one more than the place of the last arc that leads to it
 lifted : ℕ → Bool → ℕ
@@ -86,10 +89,11 @@ unfolding rank
 rank_rises [] r t c = absurd (Contains-nil t c)
 rank_rises (s ∷ S) r t c =
     elim (Contains-cons_cases s t S c) [
-      inl e ↦ subst (λ z. rank (s ∷ S) z.arc.from < rank (s ∷ S) z.arc.to) e (rank_first s S r)
-    | inr d ↦
-        let h = rank_rises S r.1 t d in
-        omega (arith, h, lifted_le (rank S t.arc.from) (eqb s.arc.to t.arc.from), lifted_gt (rank S t.arc.to) (eqb s.arc.to t.arc.to) (omega (arith, h))) ]
+      | inl e ↦ subst (λ z. rank (s ∷ S) z.arc.from < rank (s ∷ S) z.arc.to) e (rank_first s S r)
+      | inr d ↦
+          let h = rank_rises S r.1 t d in
+          omega (arith, h, lifted_le (rank S t.arc.from) (eqb s.arc.to t.arc.from), lifted_gt (rank S t.arc.to) (eqb s.arc.to t.arc.to) (omega (arith, h)))
+    ]
 
 pub ranked_rises : (S : List Ranked) → IsRanked S → Rises (arcs_of S) (rank S)
 ranked_rises S r a c =

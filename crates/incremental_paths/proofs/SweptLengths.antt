@@ -54,8 +54,9 @@ module _ (lowers : List ℕ) (S : List Ranked) (in_order : IsRanked S) (within :
   swept_kept le = record {
     lowest = swept.lowest;
     spread = λ j d lt. elim (cases_eq j i) [
-        inl same ↦ subst (λ z. get_or lengths z.arc.from 0 + z.arc.length ≤ get_or lengths z.arc.to 0) (sym (at_here j d same)) le
-      | inr other ↦ swept.spread j d (omega (arith, lt, other)) ];
+      | inl same ↦ subst (λ z. get_or lengths z.arc.from 0 + z.arc.length ≤ get_or lengths z.arc.to 0) (sym (at_here j d same)) le
+      | inr other ↦ swept.spread j d (omega (arith, lt, other))
+    ];
     attained = swept.attained;
   }
 
@@ -68,22 +69,25 @@ module _ (lowers : List ℕ) (S : List Ranked) (in_order : IsRanked S) (within :
 
     grows : (v : ℕ) → get_or lengths v 0 ≤ get_or (set lengths r.arc.to more) v 0
     grows v = elim (cases_eq v r.arc.to) [
-        inl same ↦ rw same (omega (arith, written, le))
-      | inr other ↦ omega (arith, others v other) ]
+      | inl same ↦ rw same (omega (arith, written, le))
+      | inr other ↦ omega (arith, others v other)
+    ]
 
     spread_set : (j : ℕ) (d : Ranked) → j < i + 1 → get_or (set lengths r.arc.to more) (get_or S j d).arc.from 0 + (get_or S j d).arc.length ≤ get_or (set lengths r.arc.to more) (get_or S j d).arc.to 0
     spread_set j d lt =
         let apart : (get_or S j d).arc.from ≡ r.arc.to → ⊥ = λ e. ranked_at S in_order j i d (omega (arith, lt)) below (ap (λ z. z.arc.to) (at_here i d refl) ∙ sym e) in
         elim (cases_eq j i) [
-          inl same ↦
-            let apart_r : r.arc.from ≡ r.arc.to → ⊥ = λ e. apart (ap (λ z. z.arc.from) (at_here j d same) ∙ e) in
-            subst (λ z. get_or (set lengths r.arc.to more) z.arc.from 0 + z.arc.length ≤ get_or (set lengths r.arc.to more) z.arc.to 0) (sym (at_here j d same)) (omega (arith, written, others r.arc.from apart_r, is_more))
-        | inr other ↦ omega (arith, others (get_or S j d).arc.from apart, grows (get_or S j d).arc.to, swept.spread j d (omega (arith, lt, other))) ]
+          | inl same ↦
+              let apart_r : r.arc.from ≡ r.arc.to → ⊥ = λ e. apart (ap (λ z. z.arc.from) (at_here j d same) ∙ e) in
+              subst (λ z. get_or (set lengths r.arc.to more) z.arc.from 0 + z.arc.length ≤ get_or (set lengths r.arc.to more) z.arc.to 0) (sym (at_here j d same)) (omega (arith, written, others r.arc.from apart_r, is_more))
+          | inr other ↦ omega (arith, others (get_or S j d).arc.from apart, grows (get_or S j d).arc.to, swept.spread j d (omega (arith, lt, other)))
+        ]
 
     attained_set : (v : ℕ) → v < length lowers → (nodes : List ℕ) × IsWalkTo lowers (arcs_of S) v nodes × (get_or (set lengths r.arc.to more) v 0 ≤ walk_length lowers (arcs_of S) nodes)
     attained_set v lt = elim (cases_eq v r.arc.to) [
-        inl same ↦ rw same (reached_by.0, reached_by.1, omega (arith, written, is_more, reached_by.2))
-      | inr other ↦ let h = swept.attained v lt in (h.0, h.1, omega (arith, h.2, others v other)) ]
+      | inl same ↦ rw same (reached_by.0, reached_by.1, omega (arith, written, is_more, reached_by.2))
+      | inr other ↦ let h = swept.attained v lt in (h.0, h.1, omega (arith, h.2, others v other))
+    ]
 
     -- this arc reaches further
     pub swept_set : IsSwept lowers S (i + 1) (set lengths r.arc.to more)

@@ -20,16 +20,18 @@ pub record IsMarked (S : List Ranked) (start : ℕ) (i : ℕ) (marks : List Bool
 
 none_marked : (n v : ℕ) → get_or (replicate n false) v false ≡ false
 none_marked n v = elim (cases_lt v n) [
-    inl lt ↦ get_or-replicate n v false false lt
-  | inr le ↦ get_or_past (replicate n false) v false (simp length-replicate (omega (arith, le))) ]
+  | inl lt ↦ get_or-replicate n v false false lt
+  | inr le ↦ get_or_past (replicate n false) v false (simp length-replicate (omega (arith, le)))
+]
 
 pub marked_none : (S : List Ranked) (start n : ℕ) → start < n → IsMarked S start 0 (set (replicate n false) start true)
 marked_none S start n lt = record {
   started = get_or-set_same (replicate n false) start true false (simp length-replicate (omega (arith, lt)));
   closed = λ j d l. absurd (omega (arith, l));
   sound = λ v m. elim (cases_eq v start) [
-      inl same ↦ ([], tt, sym same)
-    | inr other ↦ absurd (false≢true (sym (none_marked n v) ∙ sym (get_or-set_other (replicate n false) start v true false other) ∙ m)) ];
+    | inl same ↦ ([], tt, sym same)
+    | inr other ↦ absurd (false≢true (sym (none_marked n v) ∙ sym (get_or-set_other (replicate n false) start v true false other) ∙ m))
+  ];
 }
 
 module _ (S : List Ranked) (in_order : IsRanked S) (start : ℕ) (i : ℕ) (below : i < length S) (marks : List Bool) (marked : IsMarked S start i marks) (r : Ranked) (is_r : get_or S i r ≡ r) where
@@ -43,8 +45,9 @@ module _ (S : List Ranked) (in_order : IsRanked S) (start : ℕ) (i : ℕ) (belo
   marked_kept here = record {
     started = marked.started;
     closed = λ j d lt. elim (cases_eq j i) [
-        inl same ↦ subst (λ z. get_or marks z.arc.from false ≡ true → get_or marks z.arc.to false ≡ true) (sym (at_here j d same)) here
-      | inr other ↦ marked.closed j d (omega (arith, lt, other)) ];
+      | inl same ↦ subst (λ z. get_or marks z.arc.from false ≡ true → get_or marks z.arc.to false ≡ true) (sym (at_here j d same)) here
+      | inr other ↦ marked.closed j d (omega (arith, lt, other))
+    ];
     sound = marked.sound;
   }
 
@@ -57,23 +60,26 @@ module _ (S : List Ranked) (in_order : IsRanked S) (start : ℕ) (i : ℕ) (belo
 
     grows : (v : ℕ) → get_or marks v false ≡ true → get_or (set marks r.arc.to true) v false ≡ true
     grows v m = elim (cases_eq v r.arc.to) [
-        inl same ↦ rw same written
-      | inr other ↦ others v other ∙ m ]
+      | inl same ↦ rw same written
+      | inr other ↦ others v other ∙ m
+    ]
 
     closed_set : (j : ℕ) (d : Ranked) → j < i + 1 → get_or (set marks r.arc.to true) (get_or S j d).arc.from false ≡ true → get_or (set marks r.arc.to true) (get_or S j d).arc.to false ≡ true
     closed_set j d lt m =
         let apart : (get_or S j d).arc.from ≡ r.arc.to → ⊥ = λ e. ranked_at S in_order j i d (omega (arith, lt)) below (ap (λ z. z.arc.to) (at_here i d refl) ∙ sym e) in
         elim (cases_eq j i) [
-          inl same ↦ subst (λ z. get_or (set marks r.arc.to true) z.arc.to false ≡ true) (sym (at_here j d same)) written
-        | inr other ↦ grows (get_or S j d).arc.to (marked.closed j d (omega (arith, lt, other)) (sym (others (get_or S j d).arc.from apart) ∙ m)) ]
+          | inl same ↦ subst (λ z. get_or (set marks r.arc.to true) z.arc.to false ≡ true) (sym (at_here j d same)) written
+          | inr other ↦ grows (get_or S j d).arc.to (marked.closed j d (omega (arith, lt, other)) (sym (others (get_or S j d).arc.from apart) ∙ m))
+        ]
 
     sound_set : (v : ℕ) → get_or (set marks r.arc.to true) v false ≡ true → (rest : List ℕ) × Follows (arcs_of S) start rest × (last_from start rest ≡ v)
     sound_set v m = elim (cases_eq v r.arc.to) [
-        inl same ↦
+      | inl same ↦
           let h = marked.sound r.arc.from from_marked in
           let j : IsJoined (arcs_of S) (last_from start h.0) r.arc.to = joined (arcs_of S) r.arc (last_from start h.0) r.arc.to has_arc (sym h.2) refl in
           (h.0 ++ r.arc.to ∷ [], Follows_push (arcs_of S) r.arc.to start h.0 h.1 j, last_push r.arc.to start h.0 ∙ sym same)
-      | inr other ↦ marked.sound v (sym (others v other) ∙ m) ]
+      | inr other ↦ marked.sound v (sym (others v other) ∙ m)
+    ]
 
     pub marked_set : IsMarked S start (i + 1) (set marks r.arc.to true)
     marked_set = record { started = grows start marked.started; closed = closed_set; sound = sound_set }

@@ -32,10 +32,11 @@ pub split_from : (arcs : List Arc) (u v : ℕ) (rest : List ℕ) → Follows arc
 split_from arcs u v [] f e = inl refl
 split_from arcs u v (x ∷ rest) f e =
     elim (split_from arcs x v rest f.1 e) [
-      inl none ↦
-        let x_is_v : x ≡ v = sym (ap (last_from x) none) ∙ e in
-        inr ([], tt, subst (λ z. IsJoined arcs u z) x_is_v f.0, omega (arith, ap (steps_length arcs x) none, ap (λ z. longest_arc arcs u z) x_is_v))
-    | inr h ↦ inr (x ∷ h.0, (f.0, h.1), h.2, omega (arith, h.3)) ]
+      | inl none ↦
+          let x_is_v : x ≡ v = sym (ap (last_from x) none) ∙ e in
+          inr ([], tt, subst (λ z. IsJoined arcs u z) x_is_v f.0, omega (arith, ap (steps_length arcs x) none, ap (λ z. longest_arc arcs u z) x_is_v))
+      | inr h ↦ inr (x ∷ h.0, (f.0, h.1), h.2, omega (arith, h.3))
+    ]
 
 module _ (lowers : List ℕ) (S : List Ranked) (in_order : IsRanked S) (within : AreWithin (length lowers) S) (lengths : List ℕ) (are : AreLengths lowers (arcs_of S) lengths) where
   arc_within : (a : Arc) → Contains (arcs_of S) a → a.from < length lowers
@@ -65,7 +66,7 @@ module _ (lowers : List ℕ) (S : List Ranked) (in_order : IsRanked S) (within :
   some_gives u v none j le =
       let bound = step_bound u v j in
       let shorter : (a : Arc) → Contains (arcs_of S) a → a.from ≡ u → a.to ≡ v → a.length < longest_arc (arcs_of S) u v = λ a c f t.
-          omega (arith, none_at v none a c t, longest_ge (arcs_of S) a u v c f t, ap (λ z. get_or lengths z 0) f, bound, le) in
+      omega (arith, none_at v none a c t, longest_ge (arcs_of S) a u v c f t, ap (λ z. get_or lengths z 0) f, bound, le) in
       let a = joining (arcs_of S) u v j in
       let some = shorter a.0 a.1 a.2 a.3 in
       let most = longest_le (arcs_of S) u v (longest_arc (arcs_of S) u v - 1) (λ a c f t. omega (arith, shorter a c f t)) in
@@ -75,10 +76,11 @@ module _ (lowers : List ℕ) (S : List Ranked) (in_order : IsRanked S) (within :
   own_lower_at v none [] walk e = absurd walk
   own_lower_at v none (u ∷ rest) walk e =
       elim (split_from (arcs_of S) u v rest walk.1 walk.2) [
-        inl alone ↦ omega (arith, ap (steps_length (arcs_of S) u) alone, e, ap (λ z. get_or lowers z 0) (sym (ap (last_from u) alone) ∙ walk.2))
-      | inr h ↦
-          let before : walk_length lowers (arcs_of S) (u ∷ h.0) ≤ get_or lengths (last_from u h.0) 0 = are.greatest (last_from u h.0) (u ∷ h.0) (walk.0, h.1, refl) in
-          absurd (some_gives (last_from u h.0) v none h.2 (omega (arith, before, e, h.3))) ]
+        | inl alone ↦ omega (arith, ap (steps_length (arcs_of S) u) alone, e, ap (λ z. get_or lowers z 0) (sym (ap (last_from u) alone) ∙ walk.2))
+        | inr h ↦
+            let before : walk_length lowers (arcs_of S) (u ∷ h.0) ≤ get_or lengths (last_from u h.0) 0 = are.greatest (last_from u h.0) (u ∷ h.0) (walk.0, h.1, refl) in
+            absurd (some_gives (last_from u h.0) v none h.2 (omega (arith, before, e, h.3)))
+      ]
 
   -- where no arc gives the node its length, it is the lower
   own_lower : (v : ℕ) → v < length lowers → NoneGives S lengths 0 v → get_or lengths v 0 ≡ get_or lowers v 0
@@ -114,5 +116,6 @@ module _ (lowers : List ℕ) (S : List Ranked) (in_order : IsRanked S) (within :
 
     pub none_gives_old : NoneGives S lengths (i + 1) at → (r.arc.to ≡ at → get_or lengths r.arc.from 0 + r.arc.length ≢ get_or lengths at 0) → NoneGives S lengths i at
     none_gives_old none not_here j d le lt to = elim (cases_eq j i) [
-        inl same ↦ λ e. not_here (sym (ap (λ z. z.arc.to) (at_here j d same)) ∙ to) (subst (λ z. get_or lengths z.arc.from 0 + z.arc.length ≡ get_or lengths at 0) (at_here j d same) e)
-      | inr other ↦ none j d (omega (arith, le, other)) lt to ]
+      | inl same ↦ λ e. not_here (sym (ap (λ z. z.arc.to) (at_here j d same)) ∙ to) (subst (λ z. get_or lengths z.arc.from 0 + z.arc.length ≡ get_or lengths at 0) (at_here j d same) e)
+      | inr other ↦ none j d (omega (arith, le, other)) lt to
+    ]

@@ -47,17 +47,19 @@ module _ (S : List Ranked) (in_order : IsRanked S) (marks : List Bool) (from : �
   -- a marked node that is not the first is led to from a marked one
   pub back_to_first : (at : ℕ) → is_marked marks at ≡ true → NoneMarked S marks from 0 at → at ≡ from
   back_to_first at m none = elim (cases_eq at from) [
-      inl same ↦ same
+    | inl same ↦ same
     | inr other ↦
         let h = are.sound at m in
         elim (split_from (arcs_of S) from at h.0 h.1 h.2) [
-          inl alone ↦ absurd (other (sym h.2 ∙ ap (last_from from) alone))
-        | inr s ↦
-            let a = joining (arcs_of S) (last_from from s.0) at s.2 in
-            let r = Contains-map_from (λ (z : Ranked). z.arc) S a.0 a.1 in
-            let is_a : (get_or S r.1.0 r.0).arc ≡ a.0 = ap (λ z. z.arc) r.1.2 ∙ r.2 in
-            let begins : is_marked marks a.0.from ≡ true = rw a.2 (marked_along from s.0 are.started s.1) in
-            absurd (none other r.1.0 r.0 (omega arith) r.1.1 (ap (λ z. z.to) is_a ∙ a.3) (ap (λ z. is_marked marks z.from) is_a ∙ begins)) ] ]
+          | inl alone ↦ absurd (other (sym h.2 ∙ ap (last_from from) alone))
+          | inr s ↦
+              let a = joining (arcs_of S) (last_from from s.0) at s.2 in
+              let r = Contains-map_from (λ (z : Ranked). z.arc) S a.0 a.1 in
+              let is_a : (get_or S r.1.0 r.0).arc ≡ a.0 = ap (λ z. z.arc) r.1.2 ∙ r.2 in
+              let begins : is_marked marks a.0.from ≡ true = rw a.2 (marked_along from s.0 are.started s.1) in
+              absurd (none other r.1.0 r.0 (omega arith) r.1.1 (ap (λ z. z.to) is_a ∙ a.3) (ap (λ z. is_marked marks z.from) is_a ∙ begins))
+        ]
+  ]
 
   pub on_way_all : (to at : ℕ) (noted : List ℕ) → is_marked marks at ≡ true → IsOnWay (arcs_of S) to at noted → NoneMarked S marks from 0 at → Leads (arcs_of S) from to (reverse noted)
   on_way_all to at noted m way none = rw way.is_rest (back_to_first at m none, way.follows, way.ends)

@@ -7,6 +7,7 @@
 
 mod arc;
 mod faults;
+mod laws;
 mod lengths;
 mod marks;
 mod paths;
@@ -16,4 +17,8 @@ mod way;
 
 pub use arc::Arc;
 pub use faults::{AddNo, Memory};
+pub use laws::walks_are_bounded;
 pub use paths::Paths;
+
+#[cfg(test)]
+mod tests;

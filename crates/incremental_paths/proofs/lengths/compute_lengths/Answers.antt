@@ -30,14 +30,15 @@ loop-r-preserved c =
     let below : i < length S = omega arith in
     let is_r : get_or S i r ≡ r = get_or_default S i r none below in
     elim c.if-lengths-arc.branch [
-      then-lengths-arc w ↦ record {
+      | then-lengths-arc w ↦ record {
         long = omega arith;
         swept = rw w.lengths-is (swept_set c.args.lowers.now S c.requires.in_order c.requires.within i below c.loop-r.lengths c.loop-r.invariant.long c.loop-r.invariant.swept r is_r (get_or c.loop-r.lengths r.arc.from 0 + r.arc.length) refl (omega arith));
       }
-    | else-lengths-arc w ↦ record {
+      | else-lengths-arc w ↦ record {
         long = omega arith;
         swept = rw w.lengths-is (swept_kept c.args.lowers.now S c.requires.in_order c.requires.within i below c.loop-r.lengths c.loop-r.invariant.long c.loop-r.invariant.swept r is_r (omega arith));
-      } ]
+      }
+    ]
 
 pub returns : goal.returns
 returns c =

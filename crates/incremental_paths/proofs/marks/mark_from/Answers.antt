@@ -29,14 +29,15 @@ loop-r-preserved c =
     let is_r : get_or S i r ≡ r = get_or_default S i r none below in
     let to_within : r.arc.to < length c.loop-r.marks = omega (arith, (c.requires.within i none below).1, c.loop-r.invariant.long) in
     elim c.if-marks-arc.branch [
-      then-marks-arc w ↦ record {
+      | then-marks-arc w ↦ record {
         long = omega arith;
         marked = rw w.marks-is (marked_set S c.requires.in_order c.args.start i below c.loop-r.marks c.loop-r.invariant.marked r is_r to_within w.if-marks-arc.true);
       }
-    | else-marks-arc w ↦ record {
+      | else-marks-arc w ↦ record {
         long = omega arith;
         marked = rw w.marks-is (marked_kept S c.requires.in_order c.args.start i below c.loop-r.marks c.loop-r.invariant.marked r is_r (λ m. absurd (false≢true (sym w.if-marks-arc.false ∙ m))));
-      } ]
+      }
+    ]
 
 pub returns : goal.returns
 returns c =

@@ -18,7 +18,7 @@ marked c = rw c.deref.ensures.value at c.mark_from.ensures
 
 -- the mark that was read is that of the node where the new arc begins
 read : (c : After-index) → c.index.result.now ≡ get_or c.mark_from.new.marks c.args.from false
-read c = 
+read c =
     let f = c.self.inside in
     let lt : c.args.from < length f.lowers.items = rw (← c.self.view_is) at c.requires.from in
     let same : length c.mark_from.new.marks ≡ f.marks.len = omega (arith, c.mark_from.auto.marks, c.deref_mut.ensures.len) in
@@ -63,7 +63,7 @@ ranked_is c =
 
 added : (c : After-deref_mut-2) → AreRanked (c.self.inside.arcs.items ++ record { from = c.args.from; to = c.args.to; length = c.args.length } ∷ []) c.in_ok-ranked.ranked.items
 unfolding arc
-added c = 
+added c =
     let f = c.self.inside in
     let at = goal.at.compute_lengths-requires-clause-fit c in
     let d = at.After-index in
@@ -111,7 +111,7 @@ invariant_of-self-2 c =
     let longest = rw (c.deref-4.ensures.value, c.deref-5.ensures.value) at c.compute_lengths.ensures in
     rw (c.in_ok-push.ensures.items, written_back f.lengths.items c.compute_lengths.new.lengths f.lengths.len a_length_each, written_back f.marks.items c.mark_from.new.marks f.marks.len a_mark_each)
     (kept_with f.lowers.items (f.arcs.items ++ record { from = c.args.from; to = c.args.to; length = c.args.length } ∷ []) c.in_ok-ranked.ranked.items c.compute_lengths.new.lengths c.mark_from.new.marks
-      k.few (omega (arith, a_length_each, f.lengths.ok.0, k.a_length_each)) (omega (arith, a_mark_each, f.marks.ok.0, k.a_mark_each)) (within at.In_ok-ranked) (added d) longest (fit d))
+    k.few (omega (arith, a_length_each, f.lengths.ok.0, k.a_length_each)) (omega (arith, a_mark_each, f.marks.ok.0, k.a_mark_each)) (within at.In_ok-ranked) (added d) longest (fit d))
 
 pub returns-clause-closes : goal.returns-clause-closes
 unfolding arc

@@ -35,4 +35,4 @@ invariant_of-self c =
     let longest = rw (c.deref.ensures.value, c.deref-then-index-lower.ensures.value) at c.compute_lengths.ensures in
     rw (written_back f.lengths.items c.compute_lengths.new.lengths f.lengths.len same)
     (kept_with lowers f.arcs.items f.ranked.items c.compute_lengths.new.lengths f.marks.items
-      (omega (arith, as_long, k.few)) (omega (arith, same, as_long, f.lengths.ok.0, k.a_length_each)) (omega (arith, as_long, k.a_mark_each)) within k.ranked_arcs longest (raised_fits (goal.at.invariant_of-self c).After-deref_mut))
+    (omega (arith, as_long, k.few)) (omega (arith, same, as_long, f.lengths.ok.0, k.a_length_each)) (omega (arith, as_long, k.a_mark_each)) within k.ranked_arcs longest (raised_fits (goal.at.invariant_of-self c).After-deref_mut))
