@@ -1,12 +1,12 @@
 -- Walks where there is no cycle: no node twice, and no longer than all arcs together.
-use Rattle.std.proofs.Common.{◌≡◌, ◌≢◌, ℕ, zero, suc, ◌+◌, ◌*◌, ◌^◌, ◌<◌, ◌≤◌, Bool, true, false, List, [], ◌∷◌, ◌++◌, ◌⊎◌, inl, inr, length, get_or, refl, sym, ap, ◌∙◌, subst, arith, max}
+use Rattle.std.proofs.Common.{◌≡◌, ◌≢◌, ℕ, zero, suc, ◌+◌, ◌*◌, ◌^◌, ◌<◌, ◌≤◌, List, [], ◌∷◌, inl, inr, length, get_or, refl, sym, ◌∙◌, subst, arith}
 use Rattle.std.specs.Prelude.{All, sum_by}
 use Rattle.std.proofs.lemmas.Bool.{cases_eq}
 use Rattle.std.proofs.lemmas.Bool.Decides.{nat_tests}
 use Rattle.std.proofs.lemmas.List.Sums.{sum_by-cons, sum_by-le}
 use Rattle.std.proofs.lemmas.List.Elements.{All-head, All-tail, All-from_get_or, All-get_or, All-weaker}
 use Rattle.incremental_paths.specs.declared.arc.Arc.{Arc}
-use Rattle.incremental_paths.specs.Walks.{IsJoined, longest_arc, Follows, last_from, IsWalkTo, steps_length, walk_length, HasNoNodeTwice, IsCycle, HasCycle, WalksAreShort}
+use Rattle.incremental_paths.specs.Walks.{IsJoined, longest_arc, Follows, last_from, IsWalkTo, steps_length, walk_length, HasNoNodeTwice, HasCycle, WalksAreShort}
 use Rattle.incremental_paths.proofs.Steps.{apart_cons}
 
 -- the steps up to a place where x stands

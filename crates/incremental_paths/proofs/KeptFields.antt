@@ -1,17 +1,18 @@
 -- What the fields of `Paths` say of its walks, and how each call keeps it.
-use Rattle.std.proofs.Common.{◌≡◌, ◌≢◌, ℕ, zero, suc, ◌+◌, ◌-◌, ◌<◌, ◌≤◌, ◌^◌, Bool, true, false, List, [], ◌∷◌, ◌++◌, length, get_or, set, take, drop, filter, replicate, refl, sym, ap, ◌∙◌, subst, arith, Contains, nat_lt, Option, None, Some, Vec, Global}
-use Rattle.std.specs.Prelude.{All, slice_index, IfSome, IfNone}
+use Rattle.std.proofs.Common.{◌≡◌, ℕ, ◌<◌, ◌^◌, Bool, true, false, List, [], ◌∷◌, ◌++◌, length, get_or, take, drop, filter, replicate, refl, sym, subst, arith, Contains, nat_lt, Option, None, Some, Vec, Global}
+use Rattle.std.specs.Prelude.{All, IfSome, IfNone}
 use Rattle.std.proofs.lemmas.Option.{IfSome_then}
 use Rattle.std.proofs.lemmas.List.{take_at, length-replicate}
 use Rattle.std.proofs.lemmas.List.Elements.{All-nil, All-filter, All-contains, Contains-append_left, Contains-push}
 use Rattle.incremental_paths.specs.declared.arc.Arc.{Arc}
 use Rattle.incremental_paths.specs.declared.ranked.Ranked.{Ranked}
-use Rattle.incremental_paths.specs.Walks.{IsWalkTo, walk_length, HasNoNodeTwice, IsLongest, HasCycle, WalksAreShort, Follows, last_from, Leads, IsJoined}
+use Rattle.incremental_paths.specs.Walks.{IsWalkTo, walk_length, HasNoNodeTwice, IsLongest, HasCycle, WalksAreShort, last_from, Leads}
 use Rattle.incremental_paths.specs.Kept.{AreKept, AreRanked, AreWithin, AreLengths, AreMarks, WalksFit, arcs_of, is_marked, rank_with_lem}
 use Rattle.incremental_paths.proofs.Members.{IsPart, Contains-nil, Contains-map, Contains-map_from, joined, joining}
-use Rattle.incremental_paths.proofs.Steps.{Rises, Follows_part, leads_part, walk_part, walk_length_part, walk_no_node_twice, no_cycle}
+use Rattle.incremental_paths.proofs.Steps.{Follows_part, leads_part, walk_part, walk_length_part, walk_no_node_twice, no_cycle}
 use Rattle.incremental_paths.proofs.Ranks.{rank, arcs_rise, to_arcs, from_arcs, from_filter, ranked_none, ranked_take, All-from_contains}
 use Rattle.incremental_paths.proofs.Adds.{ranked_with}
+use Rattle.incremental_paths.proofs.WaysBack.{way_back}
 use Rattle.incremental_paths.proofs.SweptLengths.{swept_all, swept_none, lengths_part}
 
 fits_part : (lowers : List ℕ) (xs ys : List Arc) → IsPart xs ys → WalksFit lowers ys → WalksFit lowers xs
@@ -59,6 +60,11 @@ module _ (lowers : List ℕ) (arcs : List Arc) (ranked : List Ranked) (lengths :
   pub kept_no_way : (u v : ℕ) (found : Option (Vec ℕ Global)) → IfNone found ((way : List ℕ) → Leads (arcs_of ranked) u v way → ⊥) → IfNone found ((way : List ℕ) → Leads arcs u v way → ⊥)
   kept_no_way u v None none = λ way leads. none way (leads_part arcs (arcs_of ranked) (from_arcs arcs ranked kept.ranked_arcs) u v way leads)
   kept_no_way u v (Some x) none = tt
+
+  pub kept_no_cycle_back : (u v : ℕ) (found : Option (Vec ℕ Global)) → IfNone found ((way : List ℕ) → Leads (arcs_of ranked) u v way → ⊥)
+      → IfNone found ((by : ℕ) → HasCycle (arcs ++ record { from = v; to = u; length = by } ∷ []) → ⊥)
+  kept_no_cycle_back u v None none = λ by c. way_back arcs (record { from = v; to = u; length = by }) kept_no_cycle c (kept_no_way u v None none)
+  kept_no_cycle_back u v (Some x) none = tt
 
   -- the first n arcs fit where all of them do
   pub kept_fits_take : (n : ℕ) → WalksFit lowers (arcs_of (filter (λ r. nat_lt r.place n) ranked))

@@ -8,3 +8,4 @@ pub mod Traced
 pub mod KeptFields
 pub mod TracedWays
 pub mod Bounds
+pub mod WaysBack

@@ -1,8 +1,7 @@
 -- An order of the arcs in which none leads to where an earlier one begins.
-use Rattle.std.proofs.Common.{◌≡◌, ◌≢◌, ℕ, zero, suc, ◌+◌, ◌<◌, ◌≤◌, Bool, true, false, cond, List, [], ◌∷◌, ◌++◌, ◌⊎◌, inl, inr, length, get_or, take, map, filter, refl, sym, ap, ◌∙◌, subst, arith, Contains, eqb, Some, nat_lt}
+use Rattle.std.proofs.Common.{◌≡◌, ◌≢◌, ℕ, zero, suc, ◌+◌, ◌<◌, ◌≤◌, Bool, true, false, cond, List, [], ◌∷◌, ◌++◌, ◌⊎◌, inl, inr, length, get_or, take, filter, refl, ap, ◌∙◌, subst, arith, Contains, eqb, Some, nat_lt}
 use Rattle.std.specs.Prelude.{All, slice_get}
-use Rattle.std.proofs.Math.Bool.{beq}
-use Rattle.std.proofs.lemmas.List.Elements.{All-cons, All-nil, All-weaker, All-head, All-tail, All-contains, All-append, All-filter, All-push, Contains-append_left, Contains-append_right, Contains-push, Contains-append_cases, Contains-push_cases, All-contains_itself, Contains-get_or, filter_passes}
+use Rattle.std.proofs.lemmas.List.Elements.{All-cons, All-nil, All-weaker, All-head, All-tail, All-contains, All-append, All-filter, All-contains_itself, filter_passes}
 use Rattle.std.proofs.lemmas.Bool.{ne_eqb, ltb-true, lt-ltb}
 use Rattle.std.proofs.lemmas.Bool.Decides.{nat_tests}
 use Rattle.std.proofs.lemmas.Option.{slice_get-get_or, slice_get_within, get_or_from_slice_get, none-some, same_Some}

@@ -1,10 +1,10 @@
 -- Walks of one list of arcs in another, and with one step more.
-use Rattle.std.proofs.Common.{◌≡◌, ◌≢◌, ℕ, zero, suc, ◌+◌, ◌<◌, ◌≤◌, List, [], ◌∷◌, ◌++◌, length, get_or, refl, sym, ap, ◌∙◌, subst, arith, Contains}
-use Rattle.std.specs.Prelude.{All, AllPairs, slice_index}
+use Rattle.std.proofs.Common.{◌≡◌, ◌≢◌, ℕ, zero, suc, ◌+◌, ◌<◌, ◌≤◌, List, [], ◌∷◌, ◌++◌, refl, sym, ap, subst, arith, Contains}
+use Rattle.std.specs.Prelude.{All}
 use Rattle.std.proofs.lemmas.List.Elements.{All-cons, All-nil, All-weaker}
 use Rattle.incremental_paths.specs.declared.arc.Arc.{Arc}
 use Rattle.incremental_paths.specs.Walks.{IsJoined, longest_arc, Follows, last_from, Leads, IsWalkTo, steps_length, walk_length, HasNoNodeTwice, IsCycle, HasCycle}
-use Rattle.incremental_paths.proofs.Members.{IsPart, joined, joining, joined_part, longest_part}
+use Rattle.incremental_paths.proofs.Members.{IsPart, joining, joined_part, longest_part}
 
 pub Follows_part : (xs ys : List Arc) → IsPart xs ys → (u : ℕ) (rest : List ℕ) → Follows xs u rest → Follows ys u rest
 Follows_part xs ys part u [] f = tt

@@ -1,14 +1,13 @@
 -- What the sweep over the ranked arcs leaves, and that it is the lengths of the longest walks.
-use Rattle.std.proofs.Common.{◌≡◌, ◌≢◌, ℕ, zero, suc, ◌+◌, ◌-◌, ◌<◌, ◌≤◌, ◌^◌, List, [], ◌∷◌, ◌++◌, ◌⊎◌, inl, inr, length, get_or, set, refl, sym, ap, ◌∙◌, subst, arith, Contains, get_or-set_other, get_or-set_same}
+use Rattle.std.proofs.Common.{◌≡◌, ℕ, ◌+◌, ◌-◌, ◌<◌, ◌≤◌, ◌^◌, List, [], ◌∷◌, ◌++◌, inl, inr, length, get_or, set, refl, sym, ap, ◌∙◌, subst, arith, Contains, get_or-set_other, get_or-set_same}
 use Rattle.std.proofs.lemmas.List.{get_or_default}
-use Rattle.std.specs.Prelude.{All}
-use Rattle.std.proofs.lemmas.Bool.{cases_eq, cases_lt}
+use Rattle.std.proofs.lemmas.Bool.{cases_eq}
 use Rattle.std.proofs.lemmas.List.Elements.{All-contains}
 use Rattle.incremental_paths.specs.declared.arc.Arc.{Arc}
 use Rattle.incremental_paths.specs.declared.ranked.Ranked.{Ranked}
 use Rattle.incremental_paths.specs.Walks.{IsJoined, longest_arc, Follows, last_from, IsWalkTo, steps_length, walk_length}
 use Rattle.incremental_paths.specs.Kept.{IsRanked, AreWithin, AreLengths, WalksFit, arcs_of}
-use Rattle.incremental_paths.proofs.Members.{IsPart, joined, joining, longest_ge, longest_le, longest_part, Contains-map, Contains-map_from}
+use Rattle.incremental_paths.proofs.Members.{IsPart, joined, joining, longest_ge, longest_le, Contains-map, Contains-map_from}
 use Rattle.incremental_paths.proofs.Steps.{walk_part, walk_length_part, walk_push}
 use Rattle.incremental_paths.proofs.Ranks.{ranked_at}
 

@@ -1,13 +1,10 @@
 -- What the sweep that marks nodes leaves.
-use Rattle.std.proofs.Common.{◌≡◌, ◌≢◌, ℕ, zero, suc, ◌+◌, ◌<◌, ◌≤◌, Bool, true, false, List, [], ◌∷◌, ◌++◌, ◌⊎◌, inl, inr, length, get_or, set, replicate, refl, sym, ap, ◌∙◌, subst, arith, Contains, get_or-set_other, get_or-set_same}
-use Rattle.std.specs.Prelude.{All}
+use Rattle.std.proofs.Common.{◌≡◌, ℕ, ◌+◌, ◌<◌, Bool, true, false, List, [], ◌∷◌, ◌++◌, inl, inr, length, get_or, set, replicate, refl, sym, ap, ◌∙◌, subst, arith, Contains, get_or-set_other, get_or-set_same}
 use Rattle.std.proofs.lemmas.List.{get_or_default, get_or-replicate, get_or_past, length-replicate}
 use Rattle.std.proofs.lemmas.Bool.{cases_eq, cases_lt, false≢true}
-use Rattle.std.proofs.lemmas.List.Elements.{All-contains}
-use Rattle.incremental_paths.specs.declared.arc.Arc.{Arc}
 use Rattle.incremental_paths.specs.declared.ranked.Ranked.{Ranked}
 use Rattle.incremental_paths.specs.Walks.{IsJoined, Follows, last_from}
-use Rattle.incremental_paths.specs.Kept.{IsRanked, AreWithin, AreMarks, arcs_of, is_marked}
+use Rattle.incremental_paths.specs.Kept.{IsRanked, AreMarks, arcs_of}
 use Rattle.incremental_paths.proofs.Members.{joined, Contains-map}
 use Rattle.incremental_paths.proofs.Steps.{Follows_push, last_push}
 use Rattle.incremental_paths.proofs.Ranks.{ranked_at}

@@ -1,11 +1,11 @@
 -- A way is traced back from its end, along arcs that begin at marked nodes.
-use Rattle.std.proofs.Common.{◌≡◌, ◌≢◌, ℕ, zero, suc, ◌+◌, ◌<◌, ◌≤◌, Bool, true, false, List, [], ◌∷◌, ◌++◌, ◌⊎◌, inl, inr, length, get_or, reverse, refl, sym, ap, ◌∙◌, subst, arith, Contains}
+use Rattle.std.proofs.Common.{◌≡◌, ◌≢◌, ℕ, ◌<◌, ◌≤◌, Bool, true, false, List, [], ◌∷◌, ◌++◌, inl, inr, length, get_or, reverse, refl, sym, ap, ◌∙◌, subst, arith, Contains}
 use Rattle.std.proofs.lemmas.List.{get_or_default, reverse-append}
 use Rattle.std.proofs.lemmas.Bool.{cases_eq, false≢true}
 use Rattle.std.proofs.lemmas.List.Elements.{All-contains}
 use Rattle.incremental_paths.specs.declared.arc.Arc.{Arc}
 use Rattle.incremental_paths.specs.declared.ranked.Ranked.{Ranked}
-use Rattle.incremental_paths.specs.Walks.{IsJoined, Follows, last_from, Leads}
+use Rattle.incremental_paths.specs.Walks.{Follows, last_from, Leads}
 use Rattle.incremental_paths.specs.Kept.{IsRanked, AreMarks, arcs_of, is_marked}
 use Rattle.incremental_paths.proofs.Members.{joined, joining, Contains-map, Contains-map_from}
 use Rattle.incremental_paths.proofs.Ranks.{ranked_at}

@@ -139,6 +139,10 @@ impl Paths {
         requires to { IsNode self.now to }
         ensures way { IfOk result (λ found. IfSome found (λ nodes. Leads self.now.arcs from to nodes.items)) }
         ensures none { IfOk result (λ found. IfNone found ((nodes : List ℕ) → Leads self.now.arcs from to nodes → ⊥)) }
+
+        // Without a way, an arc back would close no cycle.
+        ensures no_cycle { IfOk result (λ found. IfNone found ((length : ℕ)
+            → (let back = with_arc self.now (record { from = to; to = from; length = length }) in HasCycle back.arcs) → ⊥)) }
     {
         let alloc = *self.arcs.allocator();
         Ok(trace_way(alloc, &self.ranked, self.marks.len(), from, to)?)

@@ -1,7 +1,7 @@
-use Rattle.std.proofs.Common.{◌≡◌, ◌+◌, ◌<◌, ◌≤◌, ◌^◌, length, get_or, refl, sym, arith}
+use Rattle.std.proofs.Common.{◌≡◌, ◌+◌, ◌<◌, length, get_or, refl, arith}
 use Rattle.std.proofs.lemmas.List.{get_or_default}
 use Rattle.incremental_paths.specs.declared.ranked.Ranked.{Ranked}
-use Rattle.incremental_paths.proofs.SweptLengths.{IsSwept, swept_none, swept_kept, swept_set, reached_fits, swept_all}
+use Rattle.incremental_paths.proofs.SweptLengths.{swept_none, swept_kept, swept_set, reached_fits, swept_all}
 use Rattle.incremental_paths.proofs.lengths.compute_lengths.Goals as goal
 use Rattle.incremental_paths.proofs.lengths.compute_lengths.Goals.{then-lengths-arc, else-lengths-arc}
 

@@ -1,9 +1,8 @@
-use Rattle.std.proofs.Common.{◌≡◌, ◌+◌, ◌<◌, ◌≤◌, ◌∙◌, length, get_or, replicate, refl, sym, arith, false, true, rules}
+use Rattle.std.proofs.Common.{◌≡◌, ◌<◌, ◌∙◌, length, get_or, replicate, sym, arith, false, rules}
 use Rattle.std.proofs.lemmas.Bool.{false≢true}
 use Rattle.std.proofs.lemmas.List.{get_or_default, length-set, length-replicate}
-use Rattle.std.proofs.lemmas.List.Elements.{All-get_or}
 use Rattle.incremental_paths.specs.declared.ranked.Ranked.{Ranked}
-use Rattle.incremental_paths.proofs.SweptMarks.{IsMarked, marked_none, marked_kept, marked_set, marked_all}
+use Rattle.incremental_paths.proofs.SweptMarks.{marked_none, marked_kept, marked_set, marked_all}
 use Rattle.incremental_paths.proofs.marks.mark_from.Goals as goal
 use Rattle.incremental_paths.proofs.marks.mark_from.Goals.{then-marks-arc, else-marks-arc}
 

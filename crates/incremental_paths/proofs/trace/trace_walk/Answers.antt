@@ -1,8 +1,6 @@
-use Rattle.std.proofs.Common.{◌≡◌, ◌+◌, ◌-◌, ◌<◌, ◌≤◌, length, get_or, refl, sym, arith, ◌∷◌, []}
+use Rattle.std.proofs.Common.{◌≡◌, ◌-◌, ◌<◌, length, get_or, arith}
 use Rattle.std.proofs.lemmas.List.{get_or_default}
-use Rattle.std.proofs.lemmas.List.Elements.{All-get_or}
 use Rattle.incremental_paths.specs.declared.ranked.Ranked.{Ranked}
-use Rattle.incremental_paths.specs.Kept.{arcs_of}
 use Rattle.incremental_paths.proofs.Members.{Contains-map}
 use Rattle.incremental_paths.proofs.Traced.{traced_more, none_gives_new, traced_all, arc_bound}
 use Rattle.incremental_paths.proofs.trace.trace_walk.Goals as goal

@@ -1,4 +1,4 @@
-use Rattle.std.proofs.Common.{◌≡◌, length, get_or, false, sym, ◌∙◌, arith}
+use Rattle.std.proofs.Common.{◌≡◌, length, false, sym, ◌∙◌, arith}
 use Rattle.std.proofs.lemmas.List.{get_or_read}
 use Rattle.incremental_paths.proofs.KeptFields.{written_back}
 use Rattle.incremental_paths.proofs.TracedWays.{no_way}

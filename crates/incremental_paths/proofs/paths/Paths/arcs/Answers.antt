@@ -1,5 +1,3 @@
-use Rattle.std.proofs.Common.{subst}
-use Rattle.incremental_paths.specs.Walks.{HasCycle}
 use Rattle.incremental_paths.proofs.KeptFields.{kept_no_cycle, kept_nodes}
 use Rattle.incremental_paths.proofs.paths.Paths.arcs.Goals as goal
 

@@ -1,4 +1,4 @@
-use Rattle.std.proofs.Common.{◌≡◌, ◌-◌, ◌<◌, length, arith, nat_lt, filter}
+use Rattle.std.proofs.Common.{◌≡◌, ◌-◌, ◌<◌, length, arith, nat_lt}
 use Rattle.std.proofs.lemmas.List.Elements.{All-filter}
 use Rattle.incremental_paths.proofs.KeptFields.{kept_fits_take, kept_take, written_back}
 use Rattle.incremental_paths.proofs.Ranks.{ranked_filter}
