@@ -9,11 +9,9 @@ use incremental_paths::{Memory, Paths};
 pub fn cycle(paths: &Paths, from: u32, to: u32) -> Result<Vec<u32>, Memory>
     requires from { IsNode paths.now from }
     requires to { IsNode paths.now to }
-    requires refused { (length : ℕ)
-        × (let new = with_arc paths.now (record { from = from; to = to; length = length }) in HasCycle new.arcs) }
+    requires refused { (length : ℕ) × HasCycle (with_arc paths.now from to length).arcs }
     ensures way { IfOk result (λ nodes. Leads paths.now.arcs to from nodes.items) }
-    ensures cycle { IfOk result (λ nodes. (length : ℕ)
-        → (let new = with_arc paths.now (record { from = from; to = to; length = length }) in IsCycle new.arcs nodes.items)) }
+    ensures cycle { IfOk result (λ nodes. (length : ℕ) → IsCycle (with_arc paths.now from to length).arcs nodes.items) }
 {
     match paths.between(to, from)? {
         Some(nodes) => Ok(nodes),

@@ -5,7 +5,7 @@ use Rattle.std.proofs.Math.Bool.{beq}
 use Rattle.std.proofs.lemmas.Bool.{false≢true, cases_Bool}
 use Rattle.std.proofs.lemmas.List.Elements.{All-cons, All-nil, All-append, All-filter, All-contains, Contains-append_left, Contains-append_right, Contains-push, Contains-append_cases, Contains-push_cases}
 use Rattle.incremental_paths.specs.declared.arc.Arc.{Arc}
-use Rattle.incremental_paths.specs.declared.ranked.Ranked.{Ranked}
+use Rattle.incremental_paths.specs.declared.ranked.RankedArc.{RankedArc}
 use Rattle.incremental_paths.specs.Kept.{IsRanked, AreRanked, AreWithin, AreMarks, begins_as, is_marked, rank_with_lem}
 use Rattle.incremental_paths.proofs.Members.{Contains-filter, Contains-nil, Contains-cons_cases}
 use Rattle.incremental_paths.proofs.Ranks.{ranked_append, ranked_filter, from_filter, All-from_contains, get_append, get_last, get_push}
@@ -22,19 +22,19 @@ is_beq true false e = absurd (false≢true (sym e))
 is_beq false true e = absurd (false≢true e)
 is_beq false false e = refl
 
-module _ (arcs : List Arc) (S : List Ranked) (ranked : AreRanked arcs S) (marks : List Bool) (new : Arc) (marked : AreMarks S new.to marks) (free : is_marked marks new.from ≡ false) where
+module _ (arcs : List Arc) (S : List RankedArc) (ranked : AreRanked arcs S) (marks : List Bool) (new : Arc) (marked : AreMarks S new.to marks) (free : is_marked marks new.from ≡ false) where
   apart : (u v : ℕ) → is_marked marks u ≡ true → is_marked marks v ≡ false → u ≢ v
   apart u v m n e = false≢true (sym n ∙ sym (ap (is_marked marks) e) ∙ m)
 
-  before_new : (s : Ranked) → Contains (filter (begins_as marks false) S) s → is_marked marks s.arc.from ≡ false
+  before_new : (s : RankedArc) → Contains (filter (begins_as marks false) S) s → is_marked marks s.arc.from ≡ false
   before_new s c = beq_is (is_marked marks s.arc.from) false (from_filter (begins_as marks false) S s c).1
 
-  behind_new : (s : Ranked) → Contains (filter (begins_as marks true) S) s → is_marked marks s.arc.to ≡ true
+  behind_new : (s : RankedArc) → Contains (filter (begins_as marks true) S) s → is_marked marks s.arc.to ≡ true
   behind_new s c =
       let h = from_filter (begins_as marks true) S s c in
       All-contains (λ r. is_marked marks r.arc.from ≡ true → is_marked marks r.arc.to ≡ true) S s marked.closed h.0 (beq_is (is_marked marks s.arc.from) true h.1)
 
-  new_ranked : Ranked
+  new_ranked : RankedArc
   new_ranked = record { place = length arcs; arc = new }
 
   alone : IsRanked (new_ranked ∷ [])
@@ -49,7 +49,7 @@ module _ (arcs : List Arc) (S : List Ranked) (ranked : AreRanked arcs S) (marks 
         | inr none ↦ absurd (Contains-nil t none)
       ])
 
-  in_front : (s : Ranked) → Contains (filter (begins_as marks false) S ++ new_ranked ∷ []) s → is_marked marks s.arc.from ≡ false
+  in_front : (s : RankedArc) → Contains (filter (begins_as marks false) S ++ new_ranked ∷ []) s → is_marked marks s.arc.from ≡ false
   unfolding new_ranked
   in_front s c =
       elim (Contains-push_cases (filter (begins_as marks false) S) new_ranked s c) [
@@ -57,7 +57,7 @@ module _ (arcs : List Arc) (S : List Ranked) (ranked : AreRanked arcs S) (marks 
         | inr e ↦ subst (λ z. is_marked marks z.arc.from ≡ false) e free
       ]
 
-  grown_kept : (s : Ranked) → Contains (rank_with_lem marks S new_ranked) s → slice_get (arcs ++ new ∷ []) s.place ≡ Some s.arc
+  grown_kept : (s : RankedArc) → Contains (rank_with_lem marks S new_ranked) s → slice_get (arcs ++ new ∷ []) s.place ≡ Some s.arc
   unfolding new_ranked
   grown_kept s c =
       let old : Contains S s → slice_get (arcs ++ new ∷ []) s.place ≡ Some s.arc = λ d. get_append arcs (new ∷ []) s.place s.arc (All-contains (λ r. slice_get arcs r.place ≡ Some r.arc) S s ranked.kept d) in
@@ -74,7 +74,7 @@ module _ (arcs : List Arc) (S : List Ranked) (ranked : AreRanked arcs S) (marks 
   grown_all k a e =
       let front_list = filter (begins_as marks false) S ++ new_ranked ∷ [] in
       let back = filter (begins_as marks true) S in
-      let x : Ranked = record { place = k; arc = a } in
+      let x : RankedArc = record { place = k; arc = a } in
       elim (get_push arcs new k a e) [
         | inl old ↦ elim (cases_Bool (is_marked marks a.from)) [
           | inl m ↦ Contains-append_right front_list back x (Contains-filter (begins_as marks true) S x (ranked.all k a old) (is_beq (is_marked marks a.from) true m))
@@ -97,9 +97,9 @@ module _ (arcs : List Arc) (S : List Ranked) (ranked : AreRanked arcs S) (marks 
   unfolding new_ranked
   ranked_with = grown
 
-pub within_with : (n : ℕ) (marks : List Bool) (S : List Ranked) (new : Ranked) → AreWithin n S → new.arc.from < n → new.arc.to < n → AreWithin n (rank_with_lem marks S new)
+pub within_with : (n : ℕ) (marks : List Bool) (S : List RankedArc) (new : RankedArc) → AreWithin n S → new.arc.from < n → new.arc.to < n → AreWithin n (rank_with_lem marks S new)
 within_with n marks S new within from to =
-    let P : Ranked → Type 0 = λ r. (r.arc.from < n) × (r.arc.to < n) in
+    let P : RankedArc → Type 0 = λ r. (r.arc.from < n) × (r.arc.to < n) in
     All-append P (filter (begins_as marks false) S ++ new ∷ []) (filter (begins_as marks true) S)
     (All-append P (filter (begins_as marks false) S) (new ∷ []) (All-filter (begins_as marks false) P S within) (All-cons P new [] (from, to) (All-nil P)))
     (All-filter (begins_as marks true) P S within)

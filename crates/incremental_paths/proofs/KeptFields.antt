@@ -5,7 +5,7 @@ use Rattle.std.proofs.lemmas.Option.{IfSome_then}
 use Rattle.std.proofs.lemmas.List.{take_at, length-replicate}
 use Rattle.std.proofs.lemmas.List.Elements.{All-nil, All-filter, All-contains, Contains-append_left, Contains-push}
 use Rattle.incremental_paths.specs.declared.arc.Arc.{Arc}
-use Rattle.incremental_paths.specs.declared.ranked.Ranked.{Ranked}
+use Rattle.incremental_paths.specs.declared.ranked.RankedArc.{RankedArc}
 use Rattle.incremental_paths.specs.Walks.{IsWalkTo, walk_length, HasNoNodeTwice, IsLongest, HasCycle, WalksAreShort, last_from, Leads}
 use Rattle.incremental_paths.specs.Kept.{AreKept, AreRanked, AreWithin, AreLengths, AreMarks, WalksFit, arcs_of, is_marked, rank_with_lem}
 use Rattle.incremental_paths.proofs.Members.{IsPart, Contains-nil, Contains-map, Contains-map_from, joined, joining}
@@ -18,7 +18,7 @@ use Rattle.incremental_paths.proofs.SweptLengths.{swept_all, swept_none, lengths
 fits_part : (lowers : List ℕ) (xs ys : List Arc) → IsPart xs ys → WalksFit lowers ys → WalksFit lowers xs
 fits_part lowers xs ys part fit v nodes walk = omega (arith, walk_length_part lowers xs ys part nodes, fit v nodes (walk_part lowers xs ys part v nodes walk))
 
-module _ (lowers : List ℕ) (arcs : List Arc) (ranked : List Ranked) (lengths : List ℕ) (marks : List Bool) (kept : AreKept lowers arcs ranked lengths marks) where
+module _ (lowers : List ℕ) (arcs : List Arc) (ranked : List RankedArc) (lengths : List ℕ) (marks : List Bool) (kept : AreKept lowers arcs ranked lengths marks) where
   pub kept_no_cycle : HasCycle arcs → ⊥
   kept_no_cycle = no_cycle arcs (rank ranked) (arcs_rise arcs ranked kept.ranked_arcs)
 
@@ -35,7 +35,7 @@ module _ (lowers : List ℕ) (arcs : List Arc) (ranked : List Ranked) (lengths :
 
   pub kept_nodes : All (λ arc. (arc.from < length lowers) × (arc.to < length lowers)) arcs
   kept_nodes = All-from_contains arcs (λ arc. (arc.from < length lowers) × (arc.to < length lowers)) (λ a c.
-      let h = Contains-map_from (λ (s : Ranked). s.arc) ranked a (from_arcs arcs ranked kept.ranked_arcs a c) in
+      let h = Contains-map_from (λ (s : RankedArc). s.arc) ranked a (from_arcs arcs ranked kept.ranked_arcs a c) in
       subst (λ z. (z.from < length lowers) × (z.to < length lowers)) h.2 (All-contains (λ r. (r.arc.from < length lowers) × (r.arc.to < length lowers)) ranked h.0 kept.within h.1))
 
   -- the ranked arcs have the lengths too
@@ -70,8 +70,8 @@ module _ (lowers : List ℕ) (arcs : List Arc) (ranked : List Ranked) (lengths :
   pub kept_fits_take : (n : ℕ) → WalksFit lowers (arcs_of (filter (λ r. nat_lt r.place n) ranked))
   kept_fits_take n v nodes walk =
       let part : IsPart (arcs_of (filter (λ r. nat_lt r.place n) ranked)) arcs = λ a c.
-      let h = Contains-map_from (λ (s : Ranked). s.arc) (filter (λ r. nat_lt r.place n) ranked) a c in
-      to_arcs arcs ranked kept.ranked_arcs a (subst (λ z. Contains (arcs_of ranked) z) h.2 (Contains-map (λ (s : Ranked). s.arc) ranked h.0 (from_filter (λ r. nat_lt r.place n) ranked h.0 h.1).0)) in
+      let h = Contains-map_from (λ (s : RankedArc). s.arc) (filter (λ r. nat_lt r.place n) ranked) a c in
+      to_arcs arcs ranked kept.ranked_arcs a (subst (λ z. Contains (arcs_of ranked) z) h.2 (Contains-map (λ (s : RankedArc). s.arc) ranked h.0 (from_filter (λ r. nat_lt r.place n) ranked h.0 h.1).0)) in
       omega (arith, walk_length_part lowers (arcs_of (filter (λ r. nat_lt r.place n) ranked)) arcs part nodes, kept.fit v nodes (walk_part lowers (arcs_of (filter (λ r. nat_lt r.place n) ranked)) arcs part v nodes walk))
 
   pub kept_take : (n : ℕ) (new : List ℕ) → length new ≡ length lowers → AreLengths lowers (arcs_of (filter (λ r. nat_lt r.place n) ranked)) new → AreKept lowers (take n arcs) (filter (λ r. nat_lt r.place n) ranked) new marks
@@ -100,7 +100,7 @@ module _ (lowers : List ℕ) (arcs : List Arc) (ranked : List Ranked) (lengths :
         ),
       )
 
-module _ (lowers : List ℕ) (arcs : List Arc) (ranked : List Ranked) (lengths : List ℕ) (marks : List Bool) (kept : AreKept lowers arcs ranked lengths marks) (new : Arc) (to_marks : List Bool) (marked : AreMarks ranked new.to to_marks) (free : is_marked to_marks new.from ≡ false) where
+module _ (lowers : List ℕ) (arcs : List Arc) (ranked : List RankedArc) (lengths : List ℕ) (marks : List Bool) (kept : AreKept lowers arcs ranked lengths marks) (new : Arc) (to_marks : List Bool) (marked : AreMarks ranked new.to to_marks) (free : is_marked to_marks new.from ≡ false) where
   pub added_ranked : AreRanked (arcs ++ new ∷ []) (rank_with_lem to_marks ranked (record { place = length arcs; arc = new }))
   added_ranked = ranked_with arcs ranked kept.ranked_arcs to_marks new marked free
 
@@ -133,11 +133,11 @@ pub fits_from_short : (lowers : List ℕ) (arcs : List Arc) → WalksAreShort lo
 fits_from_short lowers arcs short v nodes walk = omega (arith, short v nodes walk)
 
 -- and in the order of the ranked arcs
-pub fits_ranked : (lowers : List ℕ) (arcs : List Arc) (ranked : List Ranked) → AreRanked arcs ranked → WalksFit lowers arcs → WalksFit lowers (arcs_of ranked)
+pub fits_ranked : (lowers : List ℕ) (arcs : List Arc) (ranked : List RankedArc) → AreRanked arcs ranked → WalksFit lowers arcs → WalksFit lowers (arcs_of ranked)
 fits_ranked lowers arcs ranked are fit = fits_part lowers (arcs_of ranked) arcs (to_arcs arcs ranked are) fit
 
 -- new lengths for arcs that are ranked
-pub kept_with : (lowers : List ℕ) (arcs : List Arc) (ranked : List Ranked) (lengths : List ℕ) (marks : List Bool)
+pub kept_with : (lowers : List ℕ) (arcs : List Arc) (ranked : List RankedArc) (lengths : List ℕ) (marks : List Bool)
     → length lowers < 2 ^ 32 → length lengths ≡ length lowers → length marks ≡ length lowers → AreWithin (length lowers) ranked → AreRanked arcs ranked → AreLengths lowers (arcs_of ranked) lengths → WalksFit lowers arcs → AreKept lowers arcs ranked lengths marks
 kept_with lowers arcs ranked lengths marks few long marked within are longest fit = record {
   few = few;

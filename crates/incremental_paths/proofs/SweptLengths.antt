@@ -4,7 +4,7 @@ use Rattle.std.proofs.lemmas.List.{get_or_default}
 use Rattle.std.proofs.lemmas.Bool.{cases_eq}
 use Rattle.std.proofs.lemmas.List.Elements.{All-contains}
 use Rattle.incremental_paths.specs.declared.arc.Arc.{Arc}
-use Rattle.incremental_paths.specs.declared.ranked.Ranked.{Ranked}
+use Rattle.incremental_paths.specs.declared.ranked.RankedArc.{RankedArc}
 use Rattle.incremental_paths.specs.Walks.{IsJoined, longest_arc, Follows, last_from, IsWalkTo, steps_length, walk_length}
 use Rattle.incremental_paths.specs.Kept.{IsRanked, AreWithin, AreLengths, WalksFit, arcs_of}
 use Rattle.incremental_paths.proofs.Members.{IsPart, joined, joining, longest_ge, longest_le, Contains-map, Contains-map_from}
@@ -12,35 +12,35 @@ use Rattle.incremental_paths.proofs.Steps.{walk_part, walk_length_part, walk_pus
 use Rattle.incremental_paths.proofs.Ranks.{ranked_at}
 
 -- the first i of the ranked arcs are accounted for
-pub record IsSwept (lowers : List ℕ) (S : List Ranked) (i : ℕ) (lengths : List ℕ) : Type 0 where
+pub record IsSwept (lowers : List ℕ) (S : List RankedArc) (i : ℕ) (lengths : List ℕ) : Type 0 where
   pub lowest : (v : ℕ) → get_or lowers v 0 ≤ get_or lengths v 0
-  pub spread : (j : ℕ) (d : Ranked) → j < i → get_or lengths (get_or S j d).arc.from 0 + (get_or S j d).arc.length ≤ get_or lengths (get_or S j d).arc.to 0
+  pub spread : (j : ℕ) (d : RankedArc) → j < i → get_or lengths (get_or S j d).arc.from 0 + (get_or S j d).arc.length ≤ get_or lengths (get_or S j d).arc.to 0
   pub attained : (v : ℕ) → v < length lowers → (nodes : List ℕ) × IsWalkTo lowers (arcs_of S) v nodes × (get_or lengths v 0 ≤ walk_length lowers (arcs_of S) nodes)
 
-pub swept_none : (lowers : List ℕ) (S : List Ranked) → IsSwept lowers S 0 lowers
+pub swept_none : (lowers : List ℕ) (S : List RankedArc) → IsSwept lowers S 0 lowers
 swept_none lowers S = record {
   lowest = λ v. omega arith;
   spread = λ j d lt. absurd (omega (arith, lt));
   attained = λ v lt. (v ∷ [], (lt, tt, refl), omega arith);
 }
 
-module _ (lowers : List ℕ) (S : List Ranked) (in_order : IsRanked S) (within : AreWithin (length lowers) S) (i : ℕ) (below : i < length S) (lengths : List ℕ) (long : length lengths ≡ length lowers) (swept : IsSwept lowers S i lengths) (r : Ranked) (is_r : get_or S i r ≡ r) where
+module _ (lowers : List ℕ) (S : List RankedArc) (in_order : IsRanked S) (within : AreWithin (length lowers) S) (i : ℕ) (below : i < length S) (lengths : List ℕ) (long : length lengths ≡ length lowers) (swept : IsSwept lowers S i lengths) (r : RankedArc) (is_r : get_or S i r ≡ r) where
   has_r : Contains S r
   has_r = (i, below, is_r)
 
   has_arc : Contains (arcs_of S) r.arc
-  has_arc = Contains-map (λ (s : Ranked). s.arc) S r has_r
+  has_arc = Contains-map (λ (s : RankedArc). s.arc) S r has_r
 
-  at_here : (j : ℕ) (d : Ranked) → j ≡ i → get_or S j d ≡ r
+  at_here : (j : ℕ) (d : RankedArc) → j ≡ i → get_or S j d ≡ r
   at_here j d same = rw same (get_or_default S i d r below ∙ is_r)
 
   to_within : r.arc.to < length lengths
-  to_within = let bounds = All-contains (λ (s : Ranked). (s.arc.from < length lowers) × (s.arc.to < length lowers)) S r within has_r in omega (arith, bounds.1)
+  to_within = let bounds = All-contains (λ (s : RankedArc). (s.arc.from < length lowers) × (s.arc.to < length lowers)) S r within has_r in omega (arith, bounds.1)
 
   -- a walk along this arc that is as long as what is written
   pub reached_by : (nodes : List ℕ) × IsWalkTo lowers (arcs_of S) r.arc.to nodes × (get_or lengths r.arc.from 0 + r.arc.length ≤ walk_length lowers (arcs_of S) nodes)
   reached_by =
-      let bounds = All-contains (λ (s : Ranked). (s.arc.from < length lowers) × (s.arc.to < length lowers)) S r within has_r in
+      let bounds = All-contains (λ (s : RankedArc). (s.arc.from < length lowers) × (s.arc.to < length lowers)) S r within has_r in
       let walk = swept.attained r.arc.from bounds.0 in
       let more = walk_push lowers (arcs_of S) r.arc.from r.arc.to walk.0 walk.1 (joined (arcs_of S) r.arc r.arc.from r.arc.to has_arc refl refl) in
       (walk.0 ++ r.arc.to ∷ [], more.0, omega (arith, walk.2, more.1, longest_ge (arcs_of S) r.arc r.arc.from r.arc.to has_arc refl refl))
@@ -72,7 +72,7 @@ module _ (lowers : List ℕ) (S : List Ranked) (in_order : IsRanked S) (within :
       | inr other ↦ omega (arith, others v other)
     ]
 
-    spread_set : (j : ℕ) (d : Ranked) → j < i + 1 → get_or (set lengths r.arc.to more) (get_or S j d).arc.from 0 + (get_or S j d).arc.length ≤ get_or (set lengths r.arc.to more) (get_or S j d).arc.to 0
+    spread_set : (j : ℕ) (d : RankedArc) → j < i + 1 → get_or (set lengths r.arc.to more) (get_or S j d).arc.from 0 + (get_or S j d).arc.length ≤ get_or (set lengths r.arc.to more) (get_or S j d).arc.to 0
     spread_set j d lt =
         let apart : (get_or S j d).arc.from ≡ r.arc.to → ⊥ = λ e. ranked_at S in_order j i d (omega (arith, lt)) below (ap (λ z. z.arc.to) (at_here i d refl) ∙ sym e) in
         elim (cases_eq j i) [
@@ -96,10 +96,10 @@ module _ (lowers : List ℕ) (S : List Ranked) (in_order : IsRanked S) (within :
       attained = attained_set;
     }
 
-module _ (lowers : List ℕ) (S : List Ranked) (lengths : List ℕ) (swept : IsSwept lowers S (length S) lengths) where
+module _ (lowers : List ℕ) (S : List RankedArc) (lengths : List ℕ) (swept : IsSwept lowers S (length S) lengths) where
   arc_spread : (a : Arc) → Contains (arcs_of S) a → get_or lengths a.from 0 + a.length ≤ get_or lengths a.to 0
   arc_spread a c =
-      let h = Contains-map_from (λ (s : Ranked). s.arc) S a c in
+      let h = Contains-map_from (λ (s : RankedArc). s.arc) S a c in
       let at : get_or S h.1.0 h.0 ≡ h.0 = h.1.2 in
       let e : (get_or S h.1.0 h.0).arc ≡ a = ap (λ z. z.arc) at ∙ h.2 in
       subst (λ z. get_or lengths z.from 0 + z.length ≤ get_or lengths z.to 0) e (swept.spread h.1.0 h.0 h.1.1)

@@ -2,7 +2,7 @@
 use Rattle.std.proofs.Common.{◌≡◌, ℕ, ◌+◌, ◌<◌, Bool, true, false, List, [], ◌∷◌, ◌++◌, inl, inr, length, get_or, set, replicate, refl, sym, ap, ◌∙◌, subst, arith, Contains, get_or-set_other, get_or-set_same}
 use Rattle.std.proofs.lemmas.List.{get_or_default, get_or-replicate, get_or_past, length-replicate}
 use Rattle.std.proofs.lemmas.Bool.{cases_eq, cases_lt, false≢true}
-use Rattle.incremental_paths.specs.declared.ranked.Ranked.{Ranked}
+use Rattle.incremental_paths.specs.declared.ranked.RankedArc.{RankedArc}
 use Rattle.incremental_paths.specs.Walks.{IsJoined, Follows, last_from}
 use Rattle.incremental_paths.specs.Kept.{IsRanked, AreMarks, arcs_of}
 use Rattle.incremental_paths.proofs.Members.{joined, Contains-map}
@@ -10,9 +10,9 @@ use Rattle.incremental_paths.proofs.Steps.{Follows_push, last_push}
 use Rattle.incremental_paths.proofs.Ranks.{ranked_at}
 
 -- the first i of the ranked arcs lead from no marked node to one that is not marked
-pub record IsMarked (S : List Ranked) (start : ℕ) (i : ℕ) (marks : List Bool) : Type 0 where
+pub record IsMarked (S : List RankedArc) (start : ℕ) (i : ℕ) (marks : List Bool) : Type 0 where
   pub started : get_or marks start false ≡ true
-  pub closed : (j : ℕ) (d : Ranked) → j < i → get_or marks (get_or S j d).arc.from false ≡ true → get_or marks (get_or S j d).arc.to false ≡ true
+  pub closed : (j : ℕ) (d : RankedArc) → j < i → get_or marks (get_or S j d).arc.from false ≡ true → get_or marks (get_or S j d).arc.to false ≡ true
   pub sound : (v : ℕ) → get_or marks v false ≡ true → (rest : List ℕ) × Follows (arcs_of S) start rest × (last_from start rest ≡ v)
 
 none_marked : (n v : ℕ) → get_or (replicate n false) v false ≡ false
@@ -21,7 +21,7 @@ none_marked n v = elim (cases_lt v n) [
   | inr le ↦ get_or_past (replicate n false) v false (simp length-replicate (omega (arith, le)))
 ]
 
-pub marked_none : (S : List Ranked) (start n : ℕ) → start < n → IsMarked S start 0 (set (replicate n false) start true)
+pub marked_none : (S : List RankedArc) (start n : ℕ) → start < n → IsMarked S start 0 (set (replicate n false) start true)
 marked_none S start n lt = record {
   started = get_or-set_same (replicate n false) start true false (simp length-replicate (omega (arith, lt)));
   closed = λ j d l. absurd (omega (arith, l));
@@ -31,12 +31,12 @@ marked_none S start n lt = record {
   ];
 }
 
-module _ (S : List Ranked) (in_order : IsRanked S) (start : ℕ) (i : ℕ) (below : i < length S) (marks : List Bool) (marked : IsMarked S start i marks) (r : Ranked) (is_r : get_or S i r ≡ r) where
-  at_here : (j : ℕ) (d : Ranked) → j ≡ i → get_or S j d ≡ r
+module _ (S : List RankedArc) (in_order : IsRanked S) (start : ℕ) (i : ℕ) (below : i < length S) (marks : List Bool) (marked : IsMarked S start i marks) (r : RankedArc) (is_r : get_or S i r ≡ r) where
+  at_here : (j : ℕ) (d : RankedArc) → j ≡ i → get_or S j d ≡ r
   at_here j d same = rw same (get_or_default S i d r below ∙ is_r)
 
   has_arc : Contains (arcs_of S) r.arc
-  has_arc = Contains-map (λ (s : Ranked). s.arc) S r (i, below, is_r)
+  has_arc = Contains-map (λ (s : RankedArc). s.arc) S r (i, below, is_r)
 
   pub marked_kept : (get_or marks r.arc.from false ≡ true → get_or marks r.arc.to false ≡ true) → IsMarked S start (i + 1) marks
   marked_kept here = record {
@@ -61,7 +61,7 @@ module _ (S : List Ranked) (in_order : IsRanked S) (start : ℕ) (i : ℕ) (belo
       | inr other ↦ others v other ∙ m
     ]
 
-    closed_set : (j : ℕ) (d : Ranked) → j < i + 1 → get_or (set marks r.arc.to true) (get_or S j d).arc.from false ≡ true → get_or (set marks r.arc.to true) (get_or S j d).arc.to false ≡ true
+    closed_set : (j : ℕ) (d : RankedArc) → j < i + 1 → get_or (set marks r.arc.to true) (get_or S j d).arc.from false ≡ true → get_or (set marks r.arc.to true) (get_or S j d).arc.to false ≡ true
     closed_set j d lt m =
         let apart : (get_or S j d).arc.from ≡ r.arc.to → ⊥ = λ e. ranked_at S in_order j i d (omega (arith, lt)) below (ap (λ z. z.arc.to) (at_here i d refl) ∙ sym e) in
         elim (cases_eq j i) [
@@ -81,7 +81,7 @@ module _ (S : List Ranked) (in_order : IsRanked S) (start : ℕ) (i : ℕ) (belo
     pub marked_set : IsMarked S start (i + 1) (set marks r.arc.to true)
     marked_set = record { started = grows start marked.started; closed = closed_set; sound = sound_set }
 
-pub marked_all : (S : List Ranked) (start : ℕ) (marks : List Bool) → IsMarked S start (length S) marks → AreMarks S start marks
+pub marked_all : (S : List RankedArc) (start : ℕ) (marks : List Bool) → IsMarked S start (length S) marks → AreMarks S start marks
 marked_all S start marks m = record {
   started = m.started;
   closed = λ j d lt. m.closed j d lt;

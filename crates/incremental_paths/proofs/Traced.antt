@@ -4,7 +4,7 @@ use Rattle.std.proofs.lemmas.List.{get_or_default, reverse-append}
 use Rattle.std.proofs.lemmas.Bool.{cases_eq}
 use Rattle.std.proofs.lemmas.List.Elements.{All-contains}
 use Rattle.incremental_paths.specs.declared.arc.Arc.{Arc}
-use Rattle.incremental_paths.specs.declared.ranked.Ranked.{Ranked}
+use Rattle.incremental_paths.specs.declared.ranked.RankedArc.{RankedArc}
 use Rattle.incremental_paths.specs.Walks.{IsJoined, longest_arc, Follows, last_from, IsWalkTo, steps_length, walk_length}
 use Rattle.incremental_paths.specs.Kept.{IsRanked, AreWithin, AreLengths, arcs_of}
 use Rattle.incremental_paths.proofs.Members.{joined, joining, longest_ge, longest_le, Contains-map, Contains-map_from}
@@ -23,8 +23,8 @@ pub traced_none : (arcs : List Arc) (lengths : List ℕ) (node : ℕ) → IsTrac
 traced_none arcs lengths node = record { rest = []; is_rest = refl; follows = tt; ends = refl; adds_up = omega arith }
 
 -- no arc from place i on gives the node its length
-abbrev pub NoneGives : List Ranked → List ℕ → ℕ → ℕ → Type 0
-NoneGives S lengths i at = (j : ℕ) (d : Ranked) → i ≤ j → j < length S → (get_or S j d).arc.to ≡ at → get_or lengths (get_or S j d).arc.from 0 + (get_or S j d).arc.length ≢ get_or lengths at 0
+abbrev pub NoneGives : List RankedArc → List ℕ → ℕ → ℕ → Type 0
+NoneGives S lengths i at = (j : ℕ) (d : RankedArc) → i ≤ j → j < length S → (get_or S j d).arc.to ≡ at → get_or lengths (get_or S j d).arc.from 0 + (get_or S j d).arc.length ≢ get_or lengths at 0
 
 -- a list of nodes ends where it begins, or has a last step
 pub split_from : (arcs : List Arc) (u v : ℕ) (rest : List ℕ) → Follows arcs u rest → last_from u rest ≡ v
@@ -38,11 +38,11 @@ split_from arcs u v (x ∷ rest) f e =
       | inr h ↦ inr (x ∷ h.0, (f.0, h.1), h.2, omega (arith, h.3))
     ]
 
-module _ (lowers : List ℕ) (S : List Ranked) (in_order : IsRanked S) (within : AreWithin (length lowers) S) (lengths : List ℕ) (are : AreLengths lowers (arcs_of S) lengths) where
+module _ (lowers : List ℕ) (S : List RankedArc) (in_order : IsRanked S) (within : AreWithin (length lowers) S) (lengths : List ℕ) (are : AreLengths lowers (arcs_of S) lengths) where
   arc_within : (a : Arc) → Contains (arcs_of S) a → a.from < length lowers
   arc_within a c =
-      let h = Contains-map_from (λ (s : Ranked). s.arc) S a c in
-      subst (λ z. z.from < length lowers) h.2 (All-contains (λ (s : Ranked). (s.arc.from < length lowers) × (s.arc.to < length lowers)) S h.0 within h.1).0
+      let h = Contains-map_from (λ (s : RankedArc). s.arc) S a c in
+      subst (λ z. z.from < length lowers) h.2 (All-contains (λ (s : RankedArc). (s.arc.from < length lowers) × (s.arc.to < length lowers)) S h.0 within h.1).0
 
   -- a step of a walk gives no more than the length of where it leads
   step_bound : (u v : ℕ) → IsJoined (arcs_of S) u v → get_or lengths u 0 + longest_arc (arcs_of S) u v ≤ get_or lengths v 0
@@ -58,7 +58,7 @@ module _ (lowers : List ℕ) (S : List Ranked) (in_order : IsRanked S) (within :
 
   none_at : (v : ℕ) → NoneGives S lengths 0 v → (a : Arc) → Contains (arcs_of S) a → a.to ≡ v → get_or lengths a.from 0 + a.length ≢ get_or lengths v 0
   none_at v none a c t =
-      let h = Contains-map_from (λ (s : Ranked). s.arc) S a c in
+      let h = Contains-map_from (λ (s : RankedArc). s.arc) S a c in
       let is_a : (get_or S h.1.0 h.0).arc ≡ a = ap (λ z. z.arc) h.1.2 ∙ h.2 in
       subst (λ z. get_or lengths z.from 0 + z.length ≢ get_or lengths v 0) is_a (none h.1.0 h.0 (omega arith) h.1.1 (ap (λ z. z.to) is_a ∙ t))
 
@@ -91,12 +91,12 @@ module _ (lowers : List ℕ) (S : List Ranked) (in_order : IsRanked S) (within :
   traced_all node at noted lt traced none =
       rw traced.is_rest ((lt, traced.follows, traced.ends), omega (arith, own_lower at lt none, traced.adds_up))
 
-  module _ (node at : ℕ) (noted : List ℕ) (i : ℕ) (below : i < length S) (traced : IsTraced (arcs_of S) lengths node at noted) (r : Ranked) (is_r : get_or S i r ≡ r) where
-    at_here : (j : ℕ) (d : Ranked) → j ≡ i → get_or S j d ≡ r
+  module _ (node at : ℕ) (noted : List ℕ) (i : ℕ) (below : i < length S) (traced : IsTraced (arcs_of S) lengths node at noted) (r : RankedArc) (is_r : get_or S i r ≡ r) where
+    at_here : (j : ℕ) (d : RankedArc) → j ≡ i → get_or S j d ≡ r
     at_here j d same = rw same (get_or_default S i d r below ∙ is_r)
 
     has_arc : Contains (arcs_of S) r.arc
-    has_arc = Contains-map (λ (s : Ranked). s.arc) S r (i, below, is_r)
+    has_arc = Contains-map (λ (s : RankedArc). s.arc) S r (i, below, is_r)
 
     pub traced_more : r.arc.to ≡ at → get_or lengths r.arc.from 0 + r.arc.length ≡ get_or lengths at 0 → IsTraced (arcs_of S) lengths node r.arc.from (noted ++ r.arc.from ∷ [])
     traced_more to gives =

@@ -4,7 +4,7 @@ use Rattle.std.proofs.lemmas.List.{get_or_default, reverse-append}
 use Rattle.std.proofs.lemmas.Bool.{cases_eq, false≢true}
 use Rattle.std.proofs.lemmas.List.Elements.{All-contains}
 use Rattle.incremental_paths.specs.declared.arc.Arc.{Arc}
-use Rattle.incremental_paths.specs.declared.ranked.Ranked.{Ranked}
+use Rattle.incremental_paths.specs.declared.ranked.RankedArc.{RankedArc}
 use Rattle.incremental_paths.specs.Walks.{Follows, last_from, Leads}
 use Rattle.incremental_paths.specs.Kept.{IsRanked, AreMarks, arcs_of, is_marked}
 use Rattle.incremental_paths.proofs.Members.{joined, joining, Contains-map, Contains-map_from}
@@ -22,13 +22,13 @@ pub on_way_none : (arcs : List Arc) (to : ℕ) → IsOnWay arcs to to (to ∷ []
 on_way_none arcs to = record { rest = []; is_rest = refl; follows = tt; ends = refl }
 
 -- no arc from place i on leads to the node from a marked one, unless the node is the first
-abbrev pub NoneMarked : List Ranked → List Bool → ℕ → ℕ → ℕ → Type 0
-NoneMarked S marks from i at = at ≢ from → (j : ℕ) (d : Ranked) → i ≤ j → j < length S → (get_or S j d).arc.to ≡ at → is_marked marks (get_or S j d).arc.from ≡ true → ⊥
+abbrev pub NoneMarked : List RankedArc → List Bool → ℕ → ℕ → ℕ → Type 0
+NoneMarked S marks from i at = at ≢ from → (j : ℕ) (d : RankedArc) → i ≤ j → j < length S → (get_or S j d).arc.to ≡ at → is_marked marks (get_or S j d).arc.from ≡ true → ⊥
 
-module _ (S : List Ranked) (in_order : IsRanked S) (marks : List Bool) (from : ℕ) (are : AreMarks S from marks) where
+module _ (S : List RankedArc) (in_order : IsRanked S) (marks : List Bool) (from : ℕ) (are : AreMarks S from marks) where
   arc_closed : (a : Arc) → Contains (arcs_of S) a → is_marked marks a.from ≡ true → is_marked marks a.to ≡ true
   arc_closed a c =
-      let h = Contains-map_from (λ (s : Ranked). s.arc) S a c in
+      let h = Contains-map_from (λ (s : RankedArc). s.arc) S a c in
       subst (λ z. is_marked marks z.from ≡ true → is_marked marks z.to ≡ true) h.2 (All-contains (λ r. is_marked marks r.arc.from ≡ true → is_marked marks r.arc.to ≡ true) S h.0 are.closed h.1)
 
   -- all along a way from a marked node is marked
@@ -54,7 +54,7 @@ module _ (S : List Ranked) (in_order : IsRanked S) (marks : List Bool) (from : �
           | inl alone ↦ absurd (other (sym h.2 ∙ ap (last_from from) alone))
           | inr s ↦
               let a = joining (arcs_of S) (last_from from s.0) at s.2 in
-              let r = Contains-map_from (λ (z : Ranked). z.arc) S a.0 a.1 in
+              let r = Contains-map_from (λ (z : RankedArc). z.arc) S a.0 a.1 in
               let is_a : (get_or S r.1.0 r.0).arc ≡ a.0 = ap (λ z. z.arc) r.1.2 ∙ r.2 in
               let begins : is_marked marks a.0.from ≡ true = rw a.2 (marked_along from s.0 are.started s.1) in
               absurd (none other r.1.0 r.0 (omega arith) r.1.1 (ap (λ z. z.to) is_a ∙ a.3) (ap (λ z. is_marked marks z.from) is_a ∙ begins))
@@ -64,15 +64,15 @@ module _ (S : List Ranked) (in_order : IsRanked S) (marks : List Bool) (from : �
   pub on_way_all : (to at : ℕ) (noted : List ℕ) → is_marked marks at ≡ true → IsOnWay (arcs_of S) to at noted → NoneMarked S marks from 0 at → Leads (arcs_of S) from to (reverse noted)
   on_way_all to at noted m way none = rw way.is_rest (back_to_first at m none, way.follows, way.ends)
 
-  module _ (to at : ℕ) (noted : List ℕ) (i : ℕ) (below : i < length S) (way : IsOnWay (arcs_of S) to at noted) (r : Ranked) (is_r : get_or S i r ≡ r) where
-    at_here : (j : ℕ) (d : Ranked) → j ≡ i → get_or S j d ≡ r
+  module _ (to at : ℕ) (noted : List ℕ) (i : ℕ) (below : i < length S) (way : IsOnWay (arcs_of S) to at noted) (r : RankedArc) (is_r : get_or S i r ≡ r) where
+    at_here : (j : ℕ) (d : RankedArc) → j ≡ i → get_or S j d ≡ r
     at_here j d same = rw same (get_or_default S i d r below ∙ is_r)
 
     pub on_way_more : r.arc.to ≡ at → IsOnWay (arcs_of S) to r.arc.from (noted ++ r.arc.from ∷ [])
     on_way_more leads = record {
       rest = at ∷ way.rest;
       is_rest = reverse-append noted (r.arc.from ∷ []) ∙ ap (λ z. r.arc.from ∷ z) way.is_rest;
-      follows = (joined (arcs_of S) r.arc r.arc.from at (Contains-map (λ (s : Ranked). s.arc) S r (i, below, is_r)) refl leads, way.follows);
+      follows = (joined (arcs_of S) r.arc r.arc.from at (Contains-map (λ (s : RankedArc). s.arc) S r (i, below, is_r)) refl leads, way.follows);
       ends = way.ends;
     }
 

@@ -1,10 +1,10 @@
 ghost use Rattle.std.specs.Prelude.{ℕ, ◌≡◌, ◌<◌, length, true, All, map};
 ghost use Rattle.incremental_paths.specs.Kept.{AreWithin, IsRanked, AreMarks};
 
-use crate::ranked::Ranked;
+use crate::ranked::RankedArc;
 
 /// Marks the nodes that the arcs lead to from one node on, that node among them, and no others.
-pub fn mark_from(ranked: &[Ranked], start: u32, marks: &mut [bool])
+pub fn mark_from(ranked: &[RankedArc], start: u32, marks: &mut [bool])
     requires within { AreWithin (length marks.old) ranked.now }
     requires in_order { IsRanked ranked.now }
     requires start { start < length marks.old }
@@ -12,8 +12,8 @@ pub fn mark_from(ranked: &[Ranked], start: u32, marks: &mut [bool])
 {
     marks.fill(false);
     marks[start as usize] = true;
-    for r in ranked {
-        let arc = r.arc;
+    for entry in ranked {
+        let arc = entry.arc;
         if marks[arc.from as usize] {
             marks[arc.to as usize] = true;
         }

@@ -1,12 +1,12 @@
 ghost use Rattle.std.specs.Prelude.{ℕ, ◌≡◌, ◌<◌, ◌≤◌, ◌↔◌, ◌^◌, List, [], length, All, IfOk, IfErr, IfSome, IfNone, OnOk, OnErr, IsErrOf, ◌≢◌};
-ghost use Rattle.incremental_paths.specs.Walks.{IsWalkTo, walk_length, HasNoNodeTwice, Leads, IsLongest, HasCycle, WalksAreShort};
-ghost use Rattle.incremental_paths.specs.Network.{IsNode, with_arc, without_last, raised};
+ghost use Rattle.incremental_paths.specs.Walks.{IsWalkTo, walk_length, HasNoNodeTwice, Leads, IsLongest, HasCycle};
+ghost use Rattle.incremental_paths.specs.Network.{IsNode, IsShort, with_arc, without_last, raised};
 
 use crate::arc::Arc;
 use crate::faults::{AddNo, Memory};
 use crate::lengths::compute_lengths;
 use crate::marks::mark_from;
-use crate::ranked::{Ranked, keep_below, rank_with};
+use crate::ranked::{RankedArc, keep_below, rank_with};
 use crate::trace::trace_walk;
 use crate::way::trace_way;
 use std::alloc::Global;
@@ -17,7 +17,7 @@ use std::marker::Model;
 pub struct Paths {
     lowers: Vec<u64>,
     arcs: Vec<Arc>,
-    ranked: Vec<Ranked>,
+    ranked: Vec<RankedArc>,
     lengths: Vec<u64>,
     marks: Vec<bool>,
 }
@@ -53,12 +53,10 @@ impl Paths {
     pub fn add(&mut self, from: u32, to: u32, length: u64) -> Result<(), AddNo>
         requires from { IsNode self.old from }
         requires to { IsNode self.old to }
-        requires short { let new = with_arc self.old (record { from = from; to = to; length = length }) in
-            (HasCycle new.arcs → ⊥) → WalksAreShort new.lowers new.arcs }
+        requires short { IsShort (with_arc self.old from to length) }
 
-        ensures ok { OnOk result (self.new ≡ with_arc self.old (record { from = from; to = to; length = length })) }
-        ensures closes { IsErrOf result (AddNo.Closes from to)
-            ↔ (let new = with_arc self.old (record { from = from; to = to; length = length }) in HasCycle new.arcs) }
+        ensures ok { OnOk result (self.new ≡ with_arc self.old from to length) }
+        ensures closes { IsErrOf result (AddNo.Closes from to) ↔ HasCycle (with_arc self.old from to length).arcs }
         ensures faults { IfErr result (λ no. no ≢ AddNo.Memory → no ≡ AddNo.Closes from to) }
         ensures err { OnErr result (self.new ≡ self.old) }
     {
@@ -69,7 +67,7 @@ impl Paths {
         let arc = Arc { from, to, length };
         let place = self.arcs.len();
         let alloc = *self.arcs.allocator();
-        let ranked = rank_with(alloc, &self.ranked, &self.marks, Ranked { place, arc })?;
+        let ranked = rank_with(alloc, &self.ranked, &self.marks, RankedArc { place, arc })?;
         self.arcs.push(arc)?;
         self.ranked = ranked;
         compute_lengths(&self.ranked, &self.lowers, &mut self.lengths);
@@ -90,8 +88,7 @@ impl Paths {
     /// Raises a node's lower to `lower`, unless it is greater.
     pub fn raise(&mut self, node: u32, lower: u64)
         requires node { IsNode self.old node }
-        requires short { let new = raised self.old node lower in
-            (HasCycle new.arcs → ⊥) → WalksAreShort new.lowers new.arcs }
+        requires short { IsShort (raised self.old node lower) }
         ensures { self.new ≡ raised self.old node lower }
     {
         let at = node as usize;
@@ -115,7 +112,7 @@ impl Paths {
     pub fn arcs(&self) -> &[Arc]
         ensures all { result.now ≡ self.now.arcs }
         ensures nodes { All (λ arc. IsNode self.now arc.from × IsNode self.now arc.to) self.now.arcs }
-        ensures no_cycle { HasCycle self.now.arcs → ⊥ }
+        ensures no_cycle { ¬ HasCycle self.now.arcs }
     {
         &self.arcs
     }
@@ -138,11 +135,11 @@ impl Paths {
         requires from { IsNode self.now from }
         requires to { IsNode self.now to }
         ensures way { IfOk result (λ found. IfSome found (λ nodes. Leads self.now.arcs from to nodes.items)) }
-        ensures none { IfOk result (λ found. IfNone found ((nodes : List ℕ) → Leads self.now.arcs from to nodes → ⊥)) }
+        ensures none { IfOk result (λ found. IfNone found ((nodes : List ℕ) → ¬ Leads self.now.arcs from to nodes)) }
 
         // Without a way, an arc back would close no cycle.
         ensures no_cycle { IfOk result (λ found. IfNone found ((length : ℕ)
-            → (let back = with_arc self.now (record { from = to; to = from; length = length }) in HasCycle back.arcs) → ⊥)) }
+            → ¬ HasCycle (with_arc self.now to from length).arcs)) }
     {
         let alloc = *self.arcs.allocator();
         Ok(trace_way(alloc, &self.ranked, self.marks.len(), from, to)?)

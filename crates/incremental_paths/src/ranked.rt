@@ -6,24 +6,24 @@ use std::alloc::{AllocError, Global};
 
 /// An arc with its place among the kept ones.
 #[derive(Clone, Copy, Debug, PartialEq, Eq)]
-pub struct Ranked {
+pub struct RankedArc {
     pub place: usize,
     pub arc: Arc,
 }
 
-// The ranked arcs whose begin is marked as wanted, behind those that are there.
+// Puts the arcs that begin at a node whose mark is `wanted` behind those that are there.
 fn push_begun(
-    ranked: &[Ranked],
+    ranked: &[RankedArc],
     marks: &[bool],
     wanted: bool,
-    out: &mut Vec<Ranked>,
+    out: &mut Vec<RankedArc>,
 ) -> Result<(), AllocError>
     requires { AreWithin (length marks.now) ranked.now }
     ensures { OnOk result (out.new.items ≡ out.old.items ++ filter (begins_as marks.now wanted) ranked.now) }
 {
-    for r in ranked {
-        if marks[r.arc.from as usize] == wanted {
-            out.push(*r)?;
+    for entry in ranked {
+        if marks[entry.arc.from as usize] == wanted {
+            out.push(*entry)?;
         }
     }
     Ok(())
@@ -33,10 +33,10 @@ fn push_begun(
 /// the rest.
 pub fn rank_with(
     alloc: Global,
-    ranked: &[Ranked],
+    ranked: &[RankedArc],
     marks: &[bool],
-    new: Ranked,
-) -> Result<Vec<Ranked>, AllocError>
+    new: RankedArc,
+) -> Result<Vec<RankedArc>, AllocError>
     requires { AreWithin (length marks.now) ranked.now }
     ensures { IfOk result (λ all. all.items ≡ rank_with_lem marks.now ranked.now new) }
 {
@@ -48,8 +48,8 @@ pub fn rank_with(
 }
 
 /// Takes away the arcs whose place is not below `left`.
-pub fn keep_below(ranked: &mut Vec<Ranked>, left: usize)
+pub fn keep_below(ranked: &mut Vec<RankedArc>, left: usize)
     ensures { ranked.new.items ≡ filter (λ r. nat_lt r.place left) ranked.old.items }
 {
-    ranked.retain(|r| r.place < left);
+    ranked.retain(|entry| entry.place < left);
 }

@@ -2,13 +2,13 @@ ghost use Rattle.std.specs.Prelude.{◌≡◌, ◌<◌, length, IfOk, slice_inde
 ghost use Rattle.incremental_paths.specs.Walks.{IsWalkTo, walk_length};
 ghost use Rattle.incremental_paths.specs.Kept.{AreWithin, IsRanked, AreLengths, arcs_of};
 
-use crate::ranked::Ranked;
+use crate::ranked::RankedArc;
 use std::alloc::{AllocError, Global};
 
 /// A walk to the node that is as long as the node's length.
 pub fn trace_walk(
     alloc: Global,
-    ranked: &[Ranked],
+    ranked: &[RankedArc],
     lowers: &[u64],
     lengths: &[u64],
     node: u32,

@@ -3,13 +3,13 @@ ghost use Rattle.incremental_paths.specs.Walks.{Leads};
 ghost use Rattle.incremental_paths.specs.Kept.{AreWithin, IsRanked, AreMarks, is_marked, arcs_of};
 
 use crate::marks::mark_from;
-use crate::ranked::Ranked;
+use crate::ranked::RankedArc;
 use std::alloc::{AllocError, Global};
 
 /// The nodes of a way from one node to another, where there is one, among `nodes` nodes.
 pub fn trace_way(
     alloc: Global,
-    ranked: &[Ranked],
+    ranked: &[RankedArc],
     nodes: usize,
     from: u32,
     to: u32,
@@ -19,7 +19,7 @@ pub fn trace_way(
     requires from { from < nodes }
     requires to { to < nodes }
     ensures way { IfOk result (λ found. IfSome found (λ way. Leads (arcs_of ranked.now) from to way.items)) }
-    ensures none { IfOk result (λ found. IfNone found ((way : List ℕ) → Leads (arcs_of ranked.now) from to way → ⊥)) }
+    ensures none { IfOk result (λ found. IfNone found ((way : List ℕ) → ¬ Leads (arcs_of ranked.now) from to way)) }
 {
     let mut marks = vec![in alloc; false; nodes]?;
     mark_from(ranked, from, &mut marks);
@@ -32,7 +32,7 @@ pub fn trace_way(
 // A way to a marked node, traced back along arcs from marked ones.
 fn trace_marked(
     alloc: Global,
-    ranked: &[Ranked],
+    ranked: &[RankedArc],
     marks: &[bool],
     from: u32,
     to: u32,

@@ -2,5 +2,5 @@ use Rattle.std.proofs.Common.{◌≡◌, length}
 use Rattle.incremental_paths.proofs.SweptLengths.{IsSwept}
 use Rattle.incremental_paths.proofs.lengths.compute_lengths.Given as goal
 
-abbrev pub invariant-loop-r : goal.invariant-loop-r
-invariant-loop-r l = record { long : length l.lengths ≡ length l.lowers; swept : IsSwept l.lowers l.ranked l.r-index l.lengths }
+abbrev pub invariant-loop-entry : goal.invariant-loop-entry
+invariant-loop-entry l = record { long : length l.lengths ≡ length l.lowers; swept : IsSwept l.lowers l.ranked l.entry-index l.lengths }

@@ -1,12 +1,12 @@
 use Rattle.std.proofs.Common.{◌≡◌, ◌-◌, ◌<◌, length, get_or, arith}
 use Rattle.std.proofs.lemmas.List.{get_or_default}
-use Rattle.incremental_paths.specs.declared.ranked.Ranked.{Ranked}
+use Rattle.incremental_paths.specs.declared.ranked.RankedArc.{RankedArc}
 use Rattle.incremental_paths.proofs.Members.{Contains-map}
 use Rattle.incremental_paths.proofs.Traced.{traced_more, none_gives_new, traced_all, arc_bound}
 use Rattle.incremental_paths.proofs.trace.trace_walk.Goals as goal
 
 -- an element that no arc is
-none : Ranked
+none : RankedArc
 none = record { place = 0; arc = record { from = 0; to = 0; length = 0 } }
 
 pub overflow_add-reached : goal.overflow_add-reached
@@ -16,7 +16,7 @@ overflow_add-reached c =
     let i = c.loop-i.i - 1 in
     let r = get_or S i none in
     let below : i < length S = omega arith in
-    let bound = arc_bound c.args.lowers.now S c.requires.in_order c.requires.within c.args.lengths.now c.requires.lengths r.arc (Contains-map (λ (s : Ranked). s.arc) S r (i, below, get_or_default S i r none below)) in
+    let bound = arc_bound c.args.lowers.now S c.requires.in_order c.requires.within c.args.lengths.now c.requires.lengths r.arc (Contains-map (λ (s : RankedArc). s.arc) S r (i, below, get_or_default S i r none below)) in
     omega (arith, bound, c.type_inv.lengths r.arc.to)
 
 pub loop-i-preserved-then-reached-lengths : goal.loop-i-preserved-then-reached-lengths

@@ -1,11 +1,11 @@
 use Rattle.std.proofs.Common.{◌≡◌, ◌-◌, ◌<◌, length, get_or, arith}
 use Rattle.std.proofs.lemmas.List.{get_or_default}
-use Rattle.incremental_paths.specs.declared.ranked.Ranked.{Ranked}
+use Rattle.incremental_paths.specs.declared.ranked.RankedArc.{RankedArc}
 use Rattle.incremental_paths.proofs.TracedWays.{on_way_more, none_marked_new, on_way_all}
 use Rattle.incremental_paths.proofs.way.trace_marked.Goals as goal
 
 -- an element that no arc is
-none : Ranked
+none : RankedArc
 none = record { place = 0; arc = record { from = 0; to = 0; length = 0 } }
 
 pub loop-i-preserved-then-marks-arc : goal.loop-i-preserved-then-marks-arc
