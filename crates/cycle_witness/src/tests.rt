@@ -51,14 +51,14 @@ fn add(
 // The cycle that an arc of length 0 would close.
 fn refused(
     rt: &impl Abort,
-    paths: &mut Paths,
+    mut paths: Paths,
     nodes: usize,
     from: u32,
     to: u32,
 ) -> Result<Vec<u32>, Fail>
-    requires nodes { length paths.old.lowers ≡ nodes }
-    requires lowers { All (λ lower. lower < 2 ^ 32) paths.old.lowers }
-    requires lengths { All (λ arc. arc.length < 2 ^ 32) paths.old.arcs }
+    requires nodes { length paths.lowers ≡ nodes }
+    requires lowers { All (λ lower. lower < 2 ^ 32) paths.lowers }
+    requires lengths { All (λ arc. arc.length < 2 ^ 32) paths.arcs }
 {
     let kept = paths.arcs().len();
     assert!(rt; kept < 1000);
@@ -66,16 +66,17 @@ fn refused(
     assert!(rt; (to as usize) < nodes);
     let added = paths.add(from, to, 0);
     assert_eq!(rt; added, Err(AddNo::Closes { from, to }));
-    Ok(cycle(paths, from, to)?)
+    Ok(cycle(&paths, from, to)?)
 }
 
 #[test]
 fn a_refused_arc_has_a_cycle(rt: HostRuntime) -> Result<(), Fail> {
-    let mut paths = linked(&rt, rt.alloc(), 4, &[(2, 1, 3), (1, 0, 4), (2, 3, 1)])?;
-    let nodes = refused(&rt, &mut paths, 4, 0, 2)?;
-    assert_eq!(rt; nodes.as_slice(), [2, 1, 0].as_slice());
-    let nodes = refused(&rt, &mut paths, 4, 3, 3)?;
-    assert_eq!(rt; nodes.as_slice(), [3].as_slice());
+    let rows: [(u32, u32, &[u32]); 3] = [(0, 2, &[2, 1, 0]), (1, 2, &[2, 1]), (3, 3, &[3])];
+    for (from, to, want) in rows {
+        let paths = linked(&rt, rt.alloc(), 4, &[(2, 1, 3), (1, 0, 4), (2, 3, 1)])?;
+        let nodes = refused(&rt, paths, 4, from, to)?;
+        assert_eq!(rt; nodes.as_slice(), want);
+    }
     Ok(())
 }
 
