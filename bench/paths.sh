@@ -1,7 +1,11 @@
 #!/usr/bin/env bash
-# Seconds for 20 000 adds and as many withdrawals on 10 000 nodes. Proves nothing: the program is
-# built with run-time checks, in a scratch folder that goes away.
+# Milliseconds for adds on some nodes, and for as many withdrawals as arcs were kept:
+#     bench/paths.sh [NODES [ADDS]]        10 000 and 20 000, where they are left out
+# Proves nothing: the program is built with run-time checks of every access, so it is some ten times
+# slower than a program that uses the crate. It runs in a scratch folder that goes away.
 set -eu
+nodes=${1:-10000}
+adds=${2:-20000}
 top=$(cd "$(dirname "$0")/.." && pwd)
 scratch=$(mktemp -d)
 trap 'rm -rf "$scratch"' EXIT
@@ -9,7 +13,7 @@ mkdir -p "$scratch/crates/paths_bench/src" "$scratch/crates/incremental_paths"
 cp -r "$top/crates/incremental_paths/src" "$top/crates/incremental_paths/specs" "$top/crates/incremental_paths/proofs" \
     "$scratch/crates/incremental_paths/"
 printf 'incremental_paths:\npaths_bench: incremental_paths\n' > "$scratch/crates.txt"
-cat > "$scratch/crates/paths_bench/src/main.rt" <<'PROGRAM'
+cat > "$scratch/crates/paths_bench/src/main.rt" <<PROGRAM
 //! Times adds and withdrawals.
 #![tactic(auto)]
 
@@ -18,8 +22,8 @@ use std::io;
 use std::time::Instant;
 
 fn main(rt: HostRuntime) -> io::Result<()> {
-    let nodes = 10_000u32;
-    let arcs = 20_000u32;
+    let nodes = ${nodes}u32;
+    let arcs = ${adds}u32;
     let lowers = vec![in rt.alloc(); 0u64; nodes as usize]?;
     let Ok(mut paths) = Paths::new(rt.alloc(), &lowers) else {
         return Ok(());
@@ -48,4 +52,4 @@ fn main(rt: HostRuntime) -> io::Result<()> {
 }
 PROGRAM
 cd "$scratch/crates/paths_bench"
-rt try 2>&1
+rt try --steps 1 --seconds 900 2>&1
