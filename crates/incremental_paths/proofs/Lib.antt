@@ -1,0 +1,11 @@
+pub mod Members
+pub mod Steps
+pub mod Ranks
+pub mod Adds
+pub mod SweptLengths
+pub mod SweptMarks
+pub mod Traced
+pub mod KeptFields
+pub mod TracedWays
+pub mod Bounds
+pub mod WaysBack

@@ -1,0 +1,172 @@
+ghost use Rattle.std.specs.Prelude.{◌≡◌, ◌<◌, ◌^◌, length, All, IfOk};
+
+use crate::{AddNo, Paths};
+use std::alloc::Global;
+use std::process::Abort;
+use std::test::Fail;
+
+// One call, and for an arc whether it is taken.
+#[derive(Clone, Copy, Debug)]
+enum Step {
+    Add(u32, u32, u32),
+    Closes(u32, u32, u32),
+    Withdraw(u32),
+    Raise(u32, u32),
+}
+
+fn add(
+    rt: &impl Abort,
+    paths: &mut Paths,
+    nodes: usize,
+    from: u32,
+    to: u32,
+    by: u32,
+) -> Result<(), AddNo>
+    requires nodes { length paths.old.lowers ≡ nodes }
+    requires lowers { All (λ lower. lower < 2 ^ 32) paths.old.lowers }
+    requires lengths { All (λ arc. arc.length < 2 ^ 32) paths.old.arcs }
+    ensures nodes { length paths.new.lowers ≡ nodes }
+    ensures lowers { All (λ lower. lower < 2 ^ 32) paths.new.lowers }
+    ensures lengths { All (λ arc. arc.length < 2 ^ 32) paths.new.arcs }
+{
+    let kept = paths.arcs().len();
+    assert!(rt; kept < 1000);
+    assert!(rt; (from as usize) < nodes);
+    assert!(rt; (to as usize) < nodes);
+    paths.add(from, to, u64::from(by))
+}
+
+fn raise(rt: &impl Abort, paths: &mut Paths, nodes: usize, node: u32, lower: u32)
+    requires nodes { length paths.old.lowers ≡ nodes }
+    requires lowers { All (λ lower. lower < 2 ^ 32) paths.old.lowers }
+    requires lengths { All (λ arc. arc.length < 2 ^ 32) paths.old.arcs }
+    ensures nodes { length paths.new.lowers ≡ nodes }
+    ensures lowers { All (λ lower. lower < 2 ^ 32) paths.new.lowers }
+    ensures lengths { All (λ arc. arc.length < 2 ^ 32) paths.new.arcs }
+{
+    let kept = paths.arcs().len();
+    assert!(rt; kept < 1000);
+    assert!(rt; (node as usize) < nodes);
+    paths.raise(node, u64::from(lower));
+}
+
+fn take(rt: &impl Abort, paths: &mut Paths, nodes: usize, step: Step)
+    requires nodes { length paths.old.lowers ≡ nodes }
+    requires lowers { All (λ lower. lower < 2 ^ 32) paths.old.lowers }
+    requires lengths { All (λ arc. arc.length < 2 ^ 32) paths.old.arcs }
+    ensures nodes { length paths.new.lowers ≡ nodes }
+    ensures lowers { All (λ lower. lower < 2 ^ 32) paths.new.lowers }
+    ensures lengths { All (λ arc. arc.length < 2 ^ 32) paths.new.arcs }
+{
+    match step {
+        Step::Add(from, to, by) => {
+            let taken = add(rt, paths, nodes, from, to, by);
+            assert_eq!(rt; taken, Ok(()));
+        }
+        Step::Closes(from, to, by) => {
+            let refused = add(rt, paths, nodes, from, to, by);
+            assert_eq!(rt; refused, Err(AddNo::Closes { from, to }));
+        }
+        Step::Withdraw(k) => {
+            let kept = paths.arcs().len();
+            assert!(rt; k as usize <= kept);
+            paths.withdraw(k);
+        }
+        Step::Raise(node, lower) => raise(rt, paths, nodes, node, lower),
+    }
+}
+
+// The lengths of all nodes are these.
+fn compare(rt: &impl Abort, paths: &Paths, lengths: &[u64])
+    requires nodes { length paths.now.lowers ≡ length lengths.now }
+    requires few { length lengths.now < 1000 }
+{
+    for (node, want) in lengths.iter().enumerate() {
+        let found = paths.length(node as u32);
+        assert_eq!(rt; found, *want, "at {node}");
+    }
+}
+
+// Steps from these lowers on, each with all lengths after it.
+fn run(
+    rt: &impl Abort,
+    alloc: Global,
+    lowers: &[u64],
+    rows: &[(Step, &[u64])],
+) -> Result<Paths, Fail>
+    ensures { IfOk result (λ paths. length paths.lowers ≡ length lowers.now) }
+{
+    let nodes = lowers.len();
+    assert!(rt; nodes < 1000);
+    assert!(rt; lowers.iter().all(|lower| *lower < 1000));
+    let mut paths = Paths::new(alloc, lowers)?;
+    for (step, lengths) in rows {
+        take(rt, &mut paths, nodes, *step);
+        assert_eq!(rt; lengths.len(), nodes);
+        compare(rt, &paths, lengths);
+    }
+    Ok(paths)
+}
+
+#[test]
+fn lengths_follow_arcs_that_come_and_go(rt: HostRuntime) -> Result<(), Fail> {
+    let rows: [(Step, &[u64]); 5] = [
+        (Step::Add(0, 1, 10), &[0, 10]),
+        (Step::Closes(1, 0, 0), &[0, 10]),
+        (Step::Withdraw(1), &[0, 0]),
+        (Step::Raise(0, 5), &[5, 0]),
+        (Step::Raise(0, 3), &[5, 0]),
+    ];
+    run(&rt, rt.alloc(), &[0, 0], &rows)?;
+    let rows: [(Step, &[u64]); 6] = [
+        (Step::Add(0, 1, 10), &[0, 10, 0]),
+        (Step::Add(1, 2, 10), &[0, 10, 20]),
+        (Step::Raise(1, 15), &[0, 15, 25]),
+        (Step::Withdraw(1), &[0, 15, 0]),
+        (Step::Withdraw(1), &[0, 15, 0]),
+        (Step::Add(0, 1, 20), &[0, 20, 0]),
+    ];
+    run(&rt, rt.alloc(), &[0, 0, 0], &rows)?;
+    Ok(())
+}
+
+#[test]
+fn an_arc_against_the_order_of_the_numbers(rt: HostRuntime) -> Result<(), Fail> {
+    let rows: [(Step, &[u64]); 3] = [
+        (Step::Add(2, 1, 3), &[0, 3, 0]),
+        (Step::Add(1, 0, 4), &[7, 3, 0]),
+        (Step::Closes(0, 2, 0), &[7, 3, 0]),
+    ];
+    run(&rt, rt.alloc(), &[0, 0, 0], &rows)?;
+    Ok(())
+}
+
+#[test]
+fn the_longer_of_two_arcs_counts(rt: HostRuntime) -> Result<(), Fail> {
+    let rows: [(Step, &[u64]); 4] = [
+        (Step::Add(0, 1, 3), &[0, 3]),
+        (Step::Add(0, 1, 9), &[0, 9]),
+        (Step::Withdraw(1), &[0, 3]),
+        (Step::Closes(0, 0, 5), &[0, 3]),
+    ];
+    run(&rt, rt.alloc(), &[0, 0], &rows)?;
+    Ok(())
+}
+
+#[test]
+fn walks_and_ways_are_given_from_their_beginning(rt: HostRuntime) -> Result<(), Fail> {
+    let rows: [(Step, &[u64]); 3] = [
+        (Step::Add(3, 1, 2), &[1, 2, 0, 0]),
+        (Step::Add(1, 0, 5), &[7, 2, 0, 0]),
+        (Step::Add(2, 0, 6), &[7, 2, 0, 0]),
+    ];
+    let paths = run(&rt, rt.alloc(), &[1, 0, 0, 0], &rows)?;
+    assert_eq!(rt; paths.walk(0)?.as_slice(), [3, 1, 0].as_slice());
+    assert_eq!(rt; paths.walk(2)?.as_slice(), [2].as_slice());
+    let way = paths.between(3, 0)?.ok_or("no way")?;
+    assert_eq!(rt; way.as_slice(), [3, 1, 0].as_slice());
+    let way = paths.between(2, 2)?.ok_or("no way")?;
+    assert_eq!(rt; way.as_slice(), [2].as_slice());
+    assert!(rt; paths.between(0, 3)?.is_none());
+    Ok(())
+}
