@@ -152,7 +152,7 @@ some_is None some = absurd (false≢true some)
 some_is (Some x) some = (x , refl)
 
 -- the event's operation is the one that it starts
-names_op : (problem : Problem) (o : Op) (e : Event) (p : Operation) → Starts o e → operation_of problem e ≡ Some p → listings_of problem o ≡ p.listings
+pub names_op : (problem : Problem) (o : Op) (e : Event) (p : Operation) → Starts o e → operation_of problem e ≡ Some p → listings_of problem o ≡ p.listings
 names_op problem o e p starts named =
     let same : slice_get (train_at problem o.train) o.op ≡ Some p =
     subst (λ (n : ℕ). slice_get (train_at problem o.train) n ≡ Some p) starts.operation (subst (λ (t : ℕ). slice_get (train_at problem t) e.operation ≡ Some p) starts.train named) in

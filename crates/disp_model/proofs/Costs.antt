@@ -47,7 +47,7 @@ has_start o [] i e started = absurd (none-some e started.0)
 has_start o (f ∷ plan) zero e started = (f.time , start_here o f plan (subst (Starts o) (sym (same_Some f e started.0)) started.1))
 has_start o (f ∷ plan) (suc i) e started = start_behind o f plan ((nat_eq f.train o.train) && (nat_eq f.operation o.op)) refl (has_start o plan i e (started.0 , started.1))
 
-start_is : (problem : Problem) (fixings : List Fixing) (plan : List Event) (o : Op) (i : ℕ) (e : Event) → IsValid problem fixings plan → IsStartedAt plan o i e → start_of plan o.train o.op ≡ Some e.time
+pub start_is : (problem : Problem) (fixings : List Fixing) (plan : List Event) (o : Op) (i : ℕ) (e : Event) → IsValid problem fixings plan → IsStartedAt plan o i e → start_of plan o.train o.op ≡ Some e.time
 start_is problem fixings plan o i e valid started =
     let found = has_start o plan i e started in
     let there = start_is_started o.train o.op found.0 plan found.1 in

@@ -1,5 +1,5 @@
 // Laws over the definitions, each the contract of a function without a body, for every crate to cite.
-ghost use Rattle.std.specs.Prelude.{◌≡◌, ◌+◌, ◌<◌, ◌≤◌, ℕ, List, [], ◌∷◌, ◌++◌, Contains, Some, slice_get, length};
+ghost use Rattle.std.specs.Prelude.{◌≡◌, ◌≢◌, ◌↔◌, ◌+◌, ◌<◌, ◌≤◌, ℕ, List, [], ◌∷◌, ◌++◌, Contains, Some, None, slice_get, length};
 ghost use Rattle.disp_model.specs.declared.problem.Problem.{Problem};
 ghost use Rattle.disp_model.specs.declared.train.Component.{Component};
 ghost use Rattle.disp_model.specs.declared.train.Op.{Op};
@@ -7,10 +7,12 @@ ghost use Rattle.disp_model.specs.declared.fixing.Fixing.{Fixing};
 ghost use Rattle.disp_model.specs.declared.plan.Event.{Event};
 ghost use Rattle.disp_model.specs.declared.decision.Decision.{Decision};
 ghost use Rattle.disp_model.specs.declared.decision.Choice.{Choice};
+ghost use Rattle.disp_model.specs.declared.decision.Choice.TheVariants.{Route};
 ghost use Rattle.disp_model.specs.declared.tree.ComponentWalk.{ComponentWalk};
 ghost use Rattle.disp_model.specs.declared.tree.TreeNode.{TreeNode};
 ghost use Rattle.disp_model.specs.declared.tree.Verdict.TheVariants.{Optimal, Infeasible};
 ghost use Rattle.disp_model.specs.Plan.{operations_of};
+ghost use Rattle.disp_model.specs.Fixing.{after};
 ghost use Rattle.disp_model.specs.Cost.{cost_at, cost_of, IsInfeasible};
 ghost use Rattle.disp_model.specs.Valid.{IsValid};
 ghost use Rattle.disp_model.specs.Follows.{Follows};
@@ -19,6 +21,7 @@ ghost use Rattle.disp_model.specs.Arcs.{IsArc};
 ghost use Rattle.disp_model.specs.Walks.{upper_of, IsWalk, EndsIn, IsLongest, HasCycle};
 ghost use Rattle.disp_model.specs.Nodes.{IsDead, IsBound};
 ghost use Rattle.disp_model.specs.Trees.{IsChoice, children_of, HaveDistinct, WalksCost, Accepts};
+ghost use Rattle.disp_model.specs.Earliest.{IsEarliest, IsPicked};
 
 /// Branching covers: a valid plan that follows the decisions follows them with one of the choice's
 /// children added.
@@ -100,5 +103,30 @@ pub fn trees_say_yes()
         → Accepts problem fixings (Optimal cost) tree → IsValid problem fixings plan → cost ≤ cost_of problem.components plan }
     ensures infeasible { (problem : Problem) (fixings : List Fixing) (tree : List TreeNode)
         → Accepts problem fixings Infeasible tree → IsInfeasible problem fixings }
+{
+}
+
+/// What is picked: a choice that a branch may have, of which no child is decided there; a route's
+/// operation goes on to two successors on allowed routes.
+pub fn picked_is_open()
+    ensures allowed { (problem : Problem) (fixings : List Fixing) (decisions : List Decision) (choice : Choice)
+        → IsPicked problem fixings decisions (Some choice) → IsChoice problem choice }
+    ensures undecided { (problem : Problem) (fixings : List Fixing) (decisions : List Decision) (choice : Choice) (child : Decision)
+        → IsPicked problem fixings decisions (Some choice) → Contains (children_of problem choice) child → Contains decisions child → ⊥ }
+    ensures two_ways { (problem : Problem) (fixings : List Fixing) (decisions : List Decision) (o : Op)
+        → IsPicked problem fixings decisions (Some (Route o))
+        → (one other : List ℕ) × (next another : ℕ) × IsAllowed problem fixings decisions o.train one × IsAllowed problem fixings decisions o.train other
+        × (after o.op one ≡ Some next) × (after o.op other ≡ Some another) × (next ≢ another) }
+{
+}
+
+/// None is picked exactly where each train has one allowed route and the earliest plan is valid; then its
+/// cost is the bound.
+pub fn unpicked_costs_bound()
+    ensures exactly { (problem : Problem) (fixings : List Fixing) (decisions : List Decision)
+        → IsPicked problem fixings decisions None ↔ ((plan : List Event) × IsEarliest problem fixings decisions plan × IsValid problem fixings plan) }
+    ensures costs { (problem : Problem) (fixings : List Fixing) (decisions : List Decision) (plan : List Event) (bound : ℕ)
+        → IsEarliest problem fixings decisions plan → IsValid problem fixings plan → IsBound problem fixings decisions bound
+        → cost_of problem.components plan ≡ bound }
 {
 }

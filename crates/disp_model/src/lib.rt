@@ -25,7 +25,7 @@ pub use entry::{Entry, Mark, Split, Standing, Unasked};
 pub use fixing::Fixing;
 pub use laws::{
     arcs_hold, bound_holds, branching_covers, costs_grow, followed_is_not_dead, forced_are_run,
-    runs_are_allowed, trees_say_yes, walks_hold,
+    picked_is_open, runs_are_allowed, trees_say_yes, unpicked_costs_bound, walks_hold,
 };
 pub use limits::{
     GREATEST_COST, GREATEST_EVENT_TIME, GREATEST_NUMBER, MOST_CALLERS, MOST_COMPONENTS,
