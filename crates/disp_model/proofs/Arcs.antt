@@ -1,10 +1,10 @@
 -- In a valid plan that follows the decisions each run is an allowed route, and each arc holds.
-use Rattle.std.proofs.Common.{◌≡◌, ℕ, zero, suc, ◌+◌, ◌<◌, ◌≤◌, List, [], ◌∷◌, ◌++◌, length, get_or, take, drop, map, max, Option, Some, None, Bool, true, false, cond, refl, sym, ap, subst, ◌∙◌, arith, rules, inl, inr}
-use Rattle.std.specs.Prelude.{nat_eq, slice_get, slice_index_or, Contains, All, IsSome, IfSome, sum_by, filter, ◌⊎◌, ◌==◌, ◌≢◌}
+use Rattle.std.proofs.Common.{◌≡◌, ℕ, zero, suc, ◌+◌, ◌<◌, ◌≤◌, List, [], ◌∷◌, length, get_or, drop, map, Option, Some, None, Bool, true, false, cond, refl, sym, ap, subst, ◌∙◌, arith, inl, inr}
+use Rattle.std.specs.Prelude.{nat_eq, slice_get, slice_index_or, Contains, IsSome, sum_by, filter, ◌==◌}
 use Rattle.std.specs.List.{list_any, Any}
 use Rattle.std.specs.Option.{option_map_or}
-use Rattle.std.proofs.lemmas.Bool.{cases_Bool, cases_lt, eq-eqb, eqb-true, eqb-false, false≢true}
-use Rattle.std.proofs.lemmas.Option.{none-some, same_Some, slice_get_within, get_or_from_slice_get}
+use Rattle.std.proofs.lemmas.Bool.{cases_Bool, cases_lt, eqb-true, false≢true}
+use Rattle.std.proofs.lemmas.Option.{none-some, same_Some}
 use Rattle.std.proofs.lemmas.List.Elements.{All-contains}
 use Rattle.std.proofs.lemmas.List.Folds.{Any-from_list_any}
 use Rattle.disp_model.specs.declared.train.Op.{Op}
@@ -16,17 +16,17 @@ use Rattle.disp_model.specs.declared.fixing.Fixing.TheVariants.{Started, Chosen}
 use Rattle.disp_model.specs.declared.decision.Decision.{Decision}
 use Rattle.disp_model.specs.declared.decision.Decision.TheVariants.{Go, First}
 use Rattle.disp_model.specs.declared.problem.Problem.{Problem}
-use Rattle.disp_model.specs.Train.{duration_of, IsSuccessor, GoesOn, IsRoute}
+use Rattle.disp_model.specs.Train.{duration_of, IsRoute}
 use Rattle.disp_model.specs.WellFormed.{LeadsTo, IsAcyclic, greatest_release}
-use Rattle.disp_model.specs.Plan.{run_of, operations_of, start_of, first_of, ending, end_of, Ending}
+use Rattle.disp_model.specs.Plan.{run_of, operations_of, first_of, ending, end_of, Ending}
 use Rattle.disp_model.specs.Fixing.{after, IsMet}
-use Rattle.disp_model.specs.Valid.{train_at, operation_of, MayStart, IsReleased, KeepApart, IsValid}
+use Rattle.disp_model.specs.Valid.{train_at, operation_of, IsReleased, IsValid}
 use Rattle.disp_model.specs.Follows.{FollowsDecision, Follows}
 use Rattle.disp_model.specs.Routes.{Starts, AgreesWithFixing, AgreesWithDecision, IsAllowed, IsForced}
-use Rattle.disp_model.specs.Arcs.{listings_of, shared_listings, Conflicts, release_of, min_of, Passes, IsTrainArc, IsOrderArc, GoesTo, IsReleaseArc, IsArc}
-use Rattle.disp_model.proofs.Paths.{IsIn, is_in, contains_in}
-use Rattle.disp_model.proofs.Branching.{IsStartedAt, started_is_in, one_place, named_train, own_operations}
-use Rattle.disp_model.proofs.Positions.{in_is_started, start_is_started, IsAround, around, ops_of, operations_around, around_sum, named_at, valid_lasts, valid_spaced, leads_then, route_leads}
+use Rattle.disp_model.specs.Arcs.{listings_of, shared_listings, Conflicts, release_of, min_of, Passes, IsTrainArc, IsOrderArc, IsReleaseArc, IsArc}
+use Rattle.disp_model.proofs.Paths.{is_in, contains_in}
+use Rattle.disp_model.proofs.Branching.{IsStartedAt, started_is_in, one_place, own_operations}
+use Rattle.disp_model.proofs.Positions.{in_is_started, start_is_started, around, ops_of, operations_around, around_sum, named_at, valid_lasts, valid_spaced, leads_then, route_leads}
 
 -- ---- each run is an allowed route
 
@@ -69,25 +69,25 @@ in_order problem fixings plan u v i j e f n valid same there leads first second 
     elim (cases_lt i j) [
       | inl lt ↦ lt
       | inr le ↦ elim (cases_lt j i) [
-          | inl lt ↦ absurd (back train acyclic (around_back lt))
-          | inr ge ↦ absurd (itself train acyclic (one_event (omega arith)))
-        ]
+        | inl lt ↦ absurd (back train acyclic (around_back lt))
+        | inr ge ↦ absurd (itself train acyclic (one_event (omega arith)))
+      ]
     ]
   where
     around_back : j < i → (m : ℕ) × LeadsTo (train_at problem u.train) m v.op u.op
     around_back lt =
-      let a = around v u plan j i f e (sym same) lt second first in
-      let route = subst (IsRoute (train_at problem v.train)) (operations_around v.train plan f e a) (valid.routes v.train (subst (λ (t : ℕ). t < length problem.trains) same there)) in
-      let way = route_leads (train_at problem v.train) (ops_of a.before) f.operation (ops_of a.between) e.operation (ops_of a.behind) route in
-      (way.0 , subst (λ (p : ℕ). LeadsTo (train_at problem u.train) way.0 p u.op) second.1.operation (subst (λ (p : ℕ). LeadsTo (train_at problem u.train) way.0 f.operation p) first.1.operation (subst (λ (t : ℕ). LeadsTo (train_at problem t) way.0 f.operation e.operation) (sym same) way.1)))
+        let a = around v u plan j i f e (sym same) lt second first in
+        let route = subst (IsRoute (train_at problem v.train)) (operations_around v.train plan f e a) (valid.routes v.train (subst (λ (t : ℕ). t < length problem.trains) same there)) in
+        let way = route_leads (train_at problem v.train) (ops_of a.before) f.operation (ops_of a.between) e.operation (ops_of a.behind) route in
+        (way.0, subst (λ (p : ℕ). LeadsTo (train_at problem u.train) way.0 p u.op) second.1.operation (subst (λ (p : ℕ). LeadsTo (train_at problem u.train) way.0 f.operation p) first.1.operation (subst (λ (t : ℕ). LeadsTo (train_at problem t) way.0 f.operation e.operation) (sym same) way.1)))
 
     back : (train : List Operation) → IsAcyclic (train_at problem u.train) → ((m : ℕ) × LeadsTo (train_at problem u.train) m v.op u.op) → ⊥
     back train acyclic way = let joined = leads_then (train_at problem u.train) n way.0 u.op v.op u.op leads way.1 in acyclic.no_cycle joined.0 u.op joined.1
 
     one_event : i ≡ j → u.op ≡ v.op
     one_event alike =
-      let event : e ≡ f = same_Some e f (sym first.0 ∙ ap (slice_get plan) alike ∙ second.0) in
-      sym first.1.operation ∙ ap (λ (g : Event). g.operation) event ∙ second.1.operation
+        let event : e ≡ f = same_Some e f (sym first.0 ∙ ap (slice_get plan) alike ∙ second.0) in
+        sym first.1.operation ∙ ap (λ (g : Event). g.operation) event ∙ second.1.operation
 
     itself : (train : List Operation) → IsAcyclic (train_at problem u.train) → u.op ≡ v.op → ⊥
     itself train acyclic alike = acyclic.no_cycle n u.op (subst (λ (p : ℕ). LeadsTo (train_at problem u.train) n u.op p) (sym alike) leads)
@@ -114,21 +114,21 @@ train_arc_holds problem fixings plan decisions u v arc_length i j e f valid foll
 -- the greatest release time is that of a listing, where there is one
 greatest_is : (ls : List Listing) → (ls ≡ [] → ⊥) → (l : Listing) × Contains ls l × (greatest_release ls ≡ l.release)
 greatest_is [] some = absurd (some refl)
-greatest_is (l ∷ []) some = (l , (0 , omega arith , refl) , omega arith)
+greatest_is (l ∷ []) some = (l, (0, omega arith, refl), omega arith)
 greatest_is (l ∷ m ∷ ls) some =
     let rest = greatest_is (m ∷ ls) (λ e. absurd cc) in
     elim (cases_lt l.release (greatest_release (m ∷ ls))) [
-      | inl lt ↦ (rest.0 , (suc rest.1.0 , omega (arith, rest.1.1) , rest.1.2) , omega (arith, rest.2))
-      | inr le ↦ (l , (0 , omega arith , refl) , omega arith)
+      | inl lt ↦ (rest.0, (suc rest.1.0, omega (arith, rest.1.1), rest.1.2), omega (arith, rest.2))
+      | inr le ↦ (l, (0, omega arith, refl), omega arith)
     ]
 
 -- what a filter keeps is there, and passes
 kept_is : (p : Listing → Bool) (ls : List Listing) (l : Listing) → Contains (filter p ls) l → Contains ls l × (p l ≡ true)
-kept_is p [] l (k , lt , e) = absurd (omega arith)
+kept_is p [] l (k, lt, e) = absurd (omega arith)
 kept_is p (m ∷ ls) l h =
     elim (cases_Bool (p m)) [
       | inl is ↦ kept_here p m ls l is (subst (λ (xs : List Listing). Contains xs l) (kept p m ls is) h) (λ g. kept_is p ls l g)
-      | inr is ↦ let rest = kept_is p ls l (subst (λ (xs : List Listing). Contains xs l) (lost p m ls is) h) in (contains_more m ls l rest.0 , rest.1)
+      | inr is ↦ let rest = kept_is p ls l (subst (λ (xs : List Listing). Contains xs l) (lost p m ls is) h) in (contains_more m ls l rest.0, rest.1)
     ]
   where
     kept : (p : Listing → Bool) (m : Listing) (ls : List Listing) → p m ≡ true → filter p (m ∷ ls) ≡ m ∷ filter p ls
@@ -138,18 +138,18 @@ kept_is p (m ∷ ls) l h =
     lost p m ls is = rw is refl
 
     contains_more : (m : Listing) (ls : List Listing) (l : Listing) → Contains ls l → Contains (m ∷ ls) l
-    contains_more m ls l (k , lt , e) = (suc k , omega arith , e)
+    contains_more m ls l (k, lt, e) = (suc k, omega arith, e)
 
     kept_here : (p : Listing → Bool) (m : Listing) (ls : List Listing) (l : Listing) → p m ≡ true → Contains (m ∷ filter p ls) l → (Contains (filter p ls) l → Contains ls l × (p l ≡ true)) → Contains (m ∷ ls) l × (p l ≡ true)
-    kept_here p m ls l is (zero , lt , e) later = ((0 , omega arith , e) , subst (λ (x : Listing). p x ≡ true) e is)
-    kept_here p m ls l is (suc k , lt , e) later = let rest = later (k , omega arith , e) in (contains_more m ls l rest.0 , rest.1)
+    kept_here p m ls l is (zero, lt, e) later = ((0, omega arith, e), subst (λ (x : Listing). p x ≡ true) e is)
+    kept_here p m ls l is (suc k, lt, e) later = let rest = later (k, omega arith, e) in (contains_more m ls l rest.0, rest.1)
 
 any_from : (l : Listing) (ks : List Listing) → list_any (λ k. k.resource == l.resource) ks ≡ true → Any (λ k. k.resource ≡ l.resource) ks
-any_from l ks h = let a = Any-from_list_any (λ k. nat_eq k.resource l.resource) ks h in (a.0 , a.1 , a.2 , a.3 , eqb-true a.1.resource l.resource a.4)
+any_from l ks h = let a = Any-from_list_any (λ k. nat_eq k.resource l.resource) ks h in (a.0, a.1, a.2, a.3, eqb-true a.1.resource l.resource a.4)
 
 pub some_is : {X : Type 0} (found : Option X) → IsSome found → (x : X) × (found ≡ Some x)
 some_is None some = absurd (false≢true some)
-some_is (Some x) some = (x , refl)
+some_is (Some x) some = (x, refl)
 
 -- the event's operation is the one that it starts
 pub names_op : (problem : Problem) (o : Op) (e : Event) (p : Operation) → Starts o e → operation_of problem e ≡ Some p → listings_of problem o ≡ p.listings
@@ -173,7 +173,7 @@ released problem fixings plan a b i j e f valid conflicts lt first second =
     let too : Any (λ k. k.resource ≡ l.resource) p.0.listings = subst (Any (λ k. k.resource ≡ l.resource)) other (any_from l (listings_of problem b) both.1) in
     let apart = valid.apart i j e f lt first.0 second.0 (λ same. conflicts.trains (sym first.1.train ∙ same ∙ second.1.train)) o.0 p.0 o.1 p.1 in
     let free = All-contains (λ (l : Listing). Any (λ k. k.resource ≡ l.resource) p.0.listings → IsReleased (end_of problem.trains plan i e) l j f) o.0.listings l apart there too in
-    (free.position , omega (arith, free.time, greatest.2))
+    (free.position, omega (arith, free.time, greatest.2))
 
 pub order_arc_holds : (problem : Problem) (fixings : List Fixing) (plan : List Event) (decisions : List Decision) (u v : Op) (arc_length i j : ℕ) (e f : Event) → IsValid problem fixings plan → Follows plan decisions
     → IsOrderArc problem decisions u v arc_length → IsStartedAt plan u i e → IsStartedAt plan v j f → Holds i e j f arc_length
@@ -189,22 +189,22 @@ order_arc_holds problem fixings plan decisions u v arc_length i j e f valid foll
 
 -- the first event of a train in a list, by the train's operations
 first_is : (t n : ℕ) (more : List ℕ) (rest : List Event) → operations_of t rest ≡ n ∷ more
-    → (k : ℕ) × (g : Event) × IsStartedAt rest (record { train = t; op = n }) k g × ((from : ℕ) → first_of t from rest ≡ Some (from + k , g))
+    → (k : ℕ) × (g : Event) × IsStartedAt rest (record { train = t; op = n }) k g × ((from : ℕ) → first_of t from rest ≡ Some (from + k, g))
 first_is t n more [] at = absurd cc
 first_is t n more (e ∷ rest) at = elim (cases_Bool (nat_eq e.train t)) [ inl is ↦ own t n more e rest is at | inr is ↦ another t n more e rest is at (λ h. first_is t n more rest h) ]
   where
     own : (t n : ℕ) (more : List ℕ) (e : Event) (rest : List Event) → nat_eq e.train t ≡ true → operations_of t (e ∷ rest) ≡ n ∷ more
-        → (k : ℕ) × (g : Event) × IsStartedAt (e ∷ rest) (record { train = t; op = n }) k g × ((from : ℕ) → first_of t from (e ∷ rest) ≡ Some (from + k , g))
+        → (k : ℕ) × (g : Event) × IsStartedAt (e ∷ rest) (record { train = t; op = n }) k g × ((from : ℕ) → first_of t from (e ∷ rest) ≡ Some (from + k, g))
     own t n more e rest is at =
-      let same : e.operation ≡ n = cc (own_operations t e rest (eqb-true e.train t is), at) in
-      (0 , e , (refl , record { train = eqb-true e.train t is; operation = same }) , λ from. rw is (ap (λ (p : ℕ). Some (p , e)) (omega arith)))
+        let same : e.operation ≡ n = cc (own_operations t e rest (eqb-true e.train t is), at) in
+        (0, e, (refl, record { train = eqb-true e.train t is; operation = same }), λ from. rw is (ap (λ (p : ℕ). Some (p, e)) (omega arith)))
 
     another : (t n : ℕ) (more : List ℕ) (e : Event) (rest : List Event) → nat_eq e.train t ≡ false → operations_of t (e ∷ rest) ≡ n ∷ more
-        → (operations_of t rest ≡ n ∷ more → (k : ℕ) × (g : Event) × IsStartedAt rest (record { train = t; op = n }) k g × ((from : ℕ) → first_of t from rest ≡ Some (from + k , g)))
-        → (k : ℕ) × (g : Event) × IsStartedAt (e ∷ rest) (record { train = t; op = n }) k g × ((from : ℕ) → first_of t from (e ∷ rest) ≡ Some (from + k , g))
+        → (operations_of t rest ≡ n ∷ more → (k : ℕ) × (g : Event) × IsStartedAt rest (record { train = t; op = n }) k g × ((from : ℕ) → first_of t from rest ≡ Some (from + k, g)))
+        → (k : ℕ) × (g : Event) × IsStartedAt (e ∷ rest) (record { train = t; op = n }) k g × ((from : ℕ) → first_of t from (e ∷ rest) ≡ Some (from + k, g))
     another t n more e rest is at behind =
-      let later = behind (rw is at at) in
-      (suc later.0 , later.1 , later.2 , λ from. rw is (later.3 (from + 1) ∙ ap (λ (p : ℕ). Some (p , later.1)) (omega arith)))
+        let later = behind (rw is at at) in
+        (suc later.0, later.1, later.2, λ from. rw is (later.3 (from + 1) ∙ ap (λ (p : ℕ). Some (p, later.1)) (omega arith)))
 
 -- what a plan shows of an operation, what is run behind it in its train, and where that stands
 pub record IsFollowed (plan : List Event) (t o n : ℕ) : Type 0 where
@@ -214,15 +214,19 @@ pub record IsFollowed (plan : List Event) (t o n : ℕ) : Type 0 where
   pub gap : ℕ
   pub next : Event
   pub next_started : IsStartedAt (drop (place + 1) plan) (record { train = t; op = n }) gap next
-  pub next_first : (from : ℕ) → first_of t from (drop (place + 1) plan) ≡ Some (from + gap , next)
+  pub next_first : (from : ℕ) → first_of t from (drop (place + 1) plan) ≡ Some (from + gap, next)
 
 followed_later : (t o n : ℕ) (e : Event) (plan : List Event) → IsFollowed plan t o n → IsFollowed (e ∷ plan) t o n
 followed_later t o n e plan f =
     let more : suc f.place + 1 ≡ suc (f.place + 1) = omega arith in
     record {
-      place = suc f.place; event = f.event; started = f.started; gap = f.gap; next = f.next;
+      place = suc f.place;
+      event = f.event;
+      started = f.started;
+      gap = f.gap;
+      next = f.next;
       next_started = subst (λ (m : ℕ). IsStartedAt (drop m (e ∷ plan)) (record { train = t; op = n }) f.gap f.next) (sym more) f.next_started;
-      next_first = subst (λ (m : ℕ). (from : ℕ) → first_of t from (drop m (e ∷ plan)) ≡ Some (from + f.gap , f.next)) (sym more) f.next_first;
+      next_first = subst (λ (m : ℕ). (from : ℕ) → first_of t from (drop m (e ∷ plan)) ≡ Some (from + f.gap, f.next)) (sym more) f.next_first;
     }
 
 followed_here : (t o n : ℕ) (e : Event) (plan : List Event) (ops : List ℕ) → operations_of t plan ≡ ops → e.train ≡ t → after o (e.operation ∷ ops) ≡ Some n → (after o ops ≡ Some n → IsFollowed plan t o n) → IsFollowed (e ∷ plan) t o n
@@ -232,7 +236,7 @@ followed_here t o n e plan (q ∷ ops) at own goes later =
       | inl is ↦
           let same : q ≡ n = same_Some q n (rw is at goes) in
           let first = first_is t n ops plan (at ∙ ap (λ (x : ℕ). x ∷ ops) same) in
-          record { place = 0; event = e; started = (refl , record { train = own; operation = eqb-true e.operation o is }); gap = first.0; next = first.1; next_started = first.2; next_first = first.3 }
+          record { place = 0; event = e; started = (refl, record { train = own; operation = eqb-true e.operation o is }); gap = first.0; next = first.1; next_started = first.2; next_first = first.3 }
       | inr is ↦ followed_later t o n e plan (later (rw is at goes))
     ]
 
@@ -259,7 +263,7 @@ release_arc_holds problem fixings plan decisions u v arc_length i j e f valid fo
     let free = released problem fixings plan h v held.place j held.event f valid arc.conflicts before held.started second in
     let there : slice_get plan ((held.place + 1) + held.gap) ≡ Some held.next = sym (get_dropped plan (held.place + 1) held.gap) ∙ held.next_started.0 in
     let own : Starts u held.next = record { train = held.next_started.1.train ∙ sym arc.goes_to.0; operation = held.next_started.1.operation } in
-    let place : i ≡ (held.place + 1) + held.gap = one_place problem fixings plan u i ((held.place + 1) + held.gap) e held.next valid first (there , own) in
+    let place : i ≡ (held.place + 1) + held.gap = one_place problem fixings plan u i ((held.place + 1) + held.gap) e held.next valid first (there, own) in
     let event : e ≡ held.next = same_Some e held.next (sym first.0 ∙ ap (slice_get plan) place ∙ there) in
     let ends : end_of problem.trains plan held.place held.event ≡ record { position = (held.place + 1) + held.gap; time = held.next.time } =
     ap (λ (found : Option (ℕ × Event)). ending (slice_index_or problem.trains held.event.train []) held.place held.event found)
@@ -275,7 +279,7 @@ arc_holds problem fixings plan decisions u v arc_length i j e f valid follows ar
     elim arc.kind [
       | inl train ↦ train_arc_holds problem fixings plan decisions u v arc_length i j e f valid follows arc.from_forced.train train first second
       | inr rest ↦ elim rest [
-          | inl order ↦ order_arc_holds problem fixings plan decisions u v arc_length i j e f valid follows order first second
-          | inr release ↦ release_arc_holds problem fixings plan decisions u v arc_length i j e f valid follows release first second
-        ]
+        | inl order ↦ order_arc_holds problem fixings plan decisions u v arc_length i j e f valid follows order first second
+        | inr release ↦ release_arc_holds problem fixings plan decisions u v arc_length i j e f valid follows release first second
+      ]
     ]

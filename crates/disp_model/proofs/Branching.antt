@@ -1,6 +1,6 @@
 -- Branching covers: of each choice some child is followed.
-use Rattle.std.proofs.Common.{◌≡◌, ℕ, zero, suc, ◌+◌, ◌<◌, ◌≤◌, List, [], ◌∷◌, ◌++◌, length, get_or, take, drop, map, Option, Some, None, refl, sym, ap, subst, ◌∙◌, arith, rules, inl, inr}
-use Rattle.std.specs.Prelude.{nat_eq, slice_get, slice_index_or, Contains, All, IsSome, ◌⊎◌, ◌≢◌}
+use Rattle.std.proofs.Common.{◌≡◌, ℕ, zero, suc, ◌+◌, ◌<◌, ◌≤◌, List, [], ◌∷◌, ◌++◌, length, take, drop, map, Some, refl, sym, ap, subst, ◌∙◌, arith, inl, inr}
+use Rattle.std.specs.Prelude.{nat_eq, slice_get, Contains, IsSome, ◌⊎◌}
 use Rattle.std.proofs.lemmas.Bool.{cases_Bool, cases_lt, eq-eqb, eqb-true, eqb-false, false≢true}
 use Rattle.std.proofs.lemmas.Option.{none-some, same_Some, slice_get_within, get_or_from_slice_get}
 use Rattle.std.proofs.lemmas.List.{map-append, get_or_past}
@@ -15,21 +15,19 @@ use Rattle.disp_model.specs.declared.decision.Choice.{Choice}
 use Rattle.disp_model.specs.declared.decision.Choice.TheVariants.{Route, Order}
 use Rattle.disp_model.specs.declared.problem.Problem.{Problem}
 use Rattle.disp_model.specs.Train.{next_of, IsSuccessor, IsExit, GoesOn, IsRoute}
-use Rattle.disp_model.specs.WellFormed.{IsAcyclic}
 use Rattle.disp_model.specs.Plan.{run_of, operations_of}
 use Rattle.disp_model.specs.Fixing.{after}
 use Rattle.disp_model.specs.Valid.{train_at, operation_of, IsValid}
 use Rattle.disp_model.specs.Routes.{Starts}
 use Rattle.disp_model.specs.Follows.{FollowsDecision, Follows}
-use Rattle.disp_model.specs.Arcs.{Conflicts}
 use Rattle.disp_model.specs.Trees.{IsChoice, children_of}
-use Rattle.disp_model.proofs.Paths.{IsIn, is_in, contains_in, in_or_not, goes_to_next, never_again}
+use Rattle.disp_model.proofs.Paths.{IsIn, is_in, in_or_not, goes_to_next, never_again}
 use Rattle.disp_model.proofs.Runs.{split_at}
 
 pub contains_map : {X Y : Type 0} (f : X → Y) (xs : List X) (x : X) → Contains xs x → Contains (map f xs) (f x)
-contains_map f [] x (k , lt , e) = absurd (omega arith)
-contains_map f (y ∷ xs) x (zero , lt , e) = (0 , omega arith , ap f e)
-contains_map f (y ∷ xs) x (suc k , lt , e) = let c = contains_map f xs x (k , omega arith , e) in (suc c.0 , omega (arith, c.1) , c.2)
+contains_map f [] x (k, lt, e) = absurd (omega arith)
+contains_map f (y ∷ xs) x (zero, lt, e) = (0, omega arith, ap f e)
+contains_map f (y ∷ xs) x (suc k, lt, e) = let c = contains_map f xs x (k, omega arith, e) in (suc c.0, omega (arith, c.1), c.2)
 
 -- an operation with successors belongs to a train that is there
 train_with_next : (problem : Problem) (t o : ℕ) → 1 ≤ length (next_of (train_at problem t) o) → t < length problem.trains
@@ -48,7 +46,7 @@ train_with_next problem t o some =
 
 first_next : (l : List ℕ) → 2 ≤ length l → (s : ℕ) × Contains l s
 first_next [] h = absurd (omega arith)
-first_next (s ∷ l) h = (s , (0 , omega arith , refl))
+first_next (s ∷ l) h = (s, (0, omega arith, refl))
 
 exit_has_none : (train : List Operation) (o : ℕ) → 2 ≤ length (next_of train o) → IsExit train o → ⊥
 exit_has_none train o two exit = let none : length (next_of train o) ≡ 0 = ap length exit.last in omega arith
@@ -65,10 +63,10 @@ route_child problem fixings plan o valid two =
     elim (in_or_not o.op ops) [
       | inl run ↦
           let next = next_on_route train o.op ops (valid.routes o.train there) run two in
-          (Go o next.0 , contains_map (λ s. Go o s) (next_of train o.op) next.0 next.2 , λ h. next.1)
+          (Go o next.0, contains_map (λ s. Go o s) (next_of train o.op) next.0 next.2, λ h. next.1)
       | inr not ↦
           let some = first_next (next_of train o.op) two in
-          (Go o some.0 , contains_map (λ s. Go o s) (next_of train o.op) some.0 some.1 , λ h. absurd (not (is_in o.op ops h)))
+          (Go o some.0, contains_map (λ s. Go o s) (next_of train o.op) some.0 some.1, λ h. absurd (not (is_in o.op ops h)))
     ]
 
 -- ---- an order choice
@@ -81,9 +79,9 @@ starts_or_not : (o : Op) (e : Event) → Starts o e ⊎ (Starts o e → ⊥)
 starts_or_not o e =
     elim (cases_Bool (nat_eq e.train o.train)) [
       | inl t ↦ elim (cases_Bool (nat_eq e.operation o.op)) [
-          | inl p ↦ inl (record { train = eqb-true e.train o.train t; operation = eqb-true e.operation o.op p })
-          | inr p ↦ inr (λ h. eqb-false e.operation o.op p h.operation)
-        ]
+        | inl p ↦ inl (record { train = eqb-true e.train o.train t; operation = eqb-true e.operation o.op p })
+        | inr p ↦ inr (λ h. eqb-false e.operation o.op p h.operation)
+      ]
       | inr t ↦ inr (λ h. eqb-false e.train o.train t h.train)
     ]
 
@@ -91,11 +89,11 @@ pub started_or_not : (o : Op) (plan : List Event) → ((i : ℕ) × (e : Event) 
 started_or_not o [] = inr (λ i e h. none-some e h.0)
 started_or_not o (f ∷ plan) =
     elim (starts_or_not o f) [
-      | inl here ↦ inl (0 , f , (refl , here))
+      | inl here ↦ inl (0, f, (refl, here))
       | inr not ↦ elim (started_or_not o plan) [
-          | inl later ↦ inl (suc later.0 , later.1 , later.2)
-          | inr none ↦ inr (nowhere o f plan not none)
-        ]
+        | inl later ↦ inl (suc later.0, later.1, later.2)
+        | inr none ↦ inr (nowhere o f plan not none)
+      ]
     ]
   where
     nowhere : (o : Op) (f : Event) (plan : List Event) → (Starts o f → ⊥) → ((i : ℕ) (e : Event) → IsStartedAt plan o i e → ⊥) → (i : ℕ) (e : Event) → IsStartedAt (f ∷ plan) o i e → ⊥
@@ -138,11 +136,11 @@ named_train problem e some =
 pub get_later : (plan : List Event) (i j : ℕ) (f : Event) → i < j → slice_get plan j ≡ Some f → (k : ℕ) × (slice_get (drop (i + 1) plan) k ≡ Some f)
 get_later [] i j f lt at = absurd (none-some f at)
 get_later (g ∷ plan) i zero f lt at = absurd (omega arith)
-get_later (g ∷ plan) zero (suc j) f lt at = (j , at)
+get_later (g ∷ plan) zero (suc j) f lt at = (j, at)
 get_later (g ∷ plan) (suc i) (suc j) f lt at =
     let more : suc i + 1 ≡ suc (i + 1) = omega arith in
     let later = get_later plan i j f (omega arith) at in
-    (later.0 , rw more later.1)
+    (later.0, rw more later.1)
 
 -- in a valid plan no operation starts twice
 pub started_once : (problem : Problem) (fixings : List Fixing) (plan : List Event) (o : Op) (i j : ℕ) (e f : Event) → IsValid problem fixings plan → i < j → IsStartedAt plan o i e → IsStartedAt plan o j f → ⊥
@@ -154,46 +152,46 @@ started_once problem fixings plan o i j e f valid lt first second =
     let goes = route_from (train_at problem t) (operations_of t (take i plan)) e.operation (operations_of t (drop (i + 1) plan)) (subst (IsRoute (train_at problem t)) parts (valid.routes t there)) in
     let later = get_later plan i j f lt second.0 in
     never_again (train_at problem t) o.op (operations_of t (drop (i + 1) plan)) (problem.well_formed.acyclic t [] there)
-      (subst (λ (p : ℕ). GoesOn (train_at problem t) p (operations_of t (drop (i + 1) plan))) first.1.operation goes)
-      (started_is_in o (drop (i + 1) plan) later.0 f (later.1 , second.1))
+    (subst (λ (p : ℕ). GoesOn (train_at problem t) p (operations_of t (drop (i + 1) plan))) first.1.operation goes)
+    (started_is_in o (drop (i + 1) plan) later.0 f (later.1, second.1))
 
 pub one_place : (problem : Problem) (fixings : List Fixing) (plan : List Event) (o : Op) (i j : ℕ) (e f : Event) → IsValid problem fixings plan → IsStartedAt plan o i e → IsStartedAt plan o j f → i ≡ j
 one_place problem fixings plan o i j e f valid first second =
     elim (cases_lt i j) [
       | inl lt ↦ absurd (started_once problem fixings plan o i j e f valid lt first second)
       | inr le ↦ elim (cases_lt j i) [
-          | inl lt ↦ absurd (started_once problem fixings plan o j i f e valid lt second first)
-          | inr ge ↦ omega arith
-        ]
+        | inl lt ↦ absurd (started_once problem fixings plan o j i f e valid lt second first)
+        | inr ge ↦ omega arith
+      ]
     ]
 
 -- a stands before b where it does at one place of each
 stands_before : (problem : Problem) (fixings : List Fixing) (plan : List Event) (a b : Op) (i j : ℕ) (e f : Event) → IsValid problem fixings plan → IsStartedAt plan a i e → IsStartedAt plan b j f → i < j → FollowsDecision plan (First a b)
 stands_before problem fixings plan a b i j e f valid first second lt k l g h at there starts ends =
-    omega (arith, one_place problem fixings plan a i k e g valid first (at , starts), one_place problem fixings plan b j l f h valid second (there , ends))
+    omega (arith, one_place problem fixings plan a i k e g valid first (at, starts), one_place problem fixings plan b j l f h valid second (there, ends))
 
 order_child : (problem : Problem) (fixings : List Fixing) (plan : List Event) (a b : Op) → IsValid problem fixings plan → IsChoice problem (Order a b) → (child : Decision) × Contains (children_of problem (Order a b)) child × FollowsDecision plan child
 order_child problem fixings plan a b valid conflicts =
-    let one : Contains (children_of problem (Order a b)) (First a b) = (0 , omega arith , refl) in
-    let other : Contains (children_of problem (Order a b)) (First b a) = (1 , omega arith , refl) in
+    let one : Contains (children_of problem (Order a b)) (First a b) = (0, omega arith, refl) in
+    let other : Contains (children_of problem (Order a b)) (First b a) = (1, omega arith, refl) in
     elim (started_or_not a plan) [
-      | inr none ↦ (First a b , one , λ i j e f at there starts ends. absurd (none i e (at , starts)))
+      | inr none ↦ (First a b, one, λ i j e f at there starts ends. absurd (none i e (at, starts)))
       | inl first ↦ elim (started_or_not b plan) [
-          | inr none ↦ (First a b , one , λ i j e f at there starts ends. absurd (none j f (there , ends)))
-          | inl second ↦ elim (cases_lt first.0 second.0) [
-              | inl lt ↦ (First a b , one , stands_before problem fixings plan a b first.0 second.0 first.1 second.1 valid first.2 second.2 lt)
-              | inr le ↦ elim (cases_lt second.0 first.0) [
-                  | inl lt ↦ (First b a , other , stands_before problem fixings plan b a second.0 first.0 second.1 first.1 valid second.2 first.2 lt)
-                  | inr ge ↦ absurd (conflicts.trains (same_train plan a b first.0 second.0 first.1 second.1 first.2 second.2 (omega arith)))
-                ]
-            ]
+        | inr none ↦ (First a b, one, λ i j e f at there starts ends. absurd (none j f (there, ends)))
+        | inl second ↦ elim (cases_lt first.0 second.0) [
+          | inl lt ↦ (First a b, one, stands_before problem fixings plan a b first.0 second.0 first.1 second.1 valid first.2 second.2 lt)
+          | inr le ↦ elim (cases_lt second.0 first.0) [
+            | inl lt ↦ (First b a, other, stands_before problem fixings plan b a second.0 first.0 second.1 first.1 valid second.2 first.2 lt)
+            | inr ge ↦ absurd (conflicts.trains (same_train plan a b first.0 second.0 first.1 second.1 first.2 second.2 (omega arith)))
+          ]
         ]
+      ]
     ]
   where
     same_train : (plan : List Event) (a b : Op) (i j : ℕ) (e f : Event) → IsStartedAt plan a i e → IsStartedAt plan b j f → i ≡ j → a.train ≡ b.train
     same_train plan a b i j e f first second same =
-      let alike : e ≡ f = same_Some e f (sym first.0 ∙ ap (slice_get plan) same ∙ second.0) in
-      sym first.1.train ∙ ap (λ (g : Event). g.train) alike ∙ second.1.train
+        let alike : e ≡ f = same_Some e f (sym first.0 ∙ ap (slice_get plan) same ∙ second.0) in
+        sym first.1.train ∙ ap (λ (g : Event). g.train) alike ∙ second.1.train
 
 some_child : (problem : Problem) (fixings : List Fixing) (plan : List Event) (choice : Choice) → IsValid problem fixings plan → IsChoice problem choice → (child : Decision) × Contains (children_of problem choice) child × FollowsDecision plan child
 some_child problem fixings plan (Route o) valid is = route_child problem fixings plan o valid is
@@ -203,4 +201,4 @@ pub covers : (problem : Problem) (fixings : List Fixing) (plan : List Event) (de
     → (child : Decision) × Contains (children_of problem choice) child × Follows plan (decisions ++ child ∷ [])
 covers problem fixings plan decisions choice valid follows is =
     let child = some_child problem fixings plan choice valid is in
-    (child.0 , child.1 , All-push (FollowsDecision plan) decisions child.0 follows child.2)
+    (child.0, child.1, All-push (FollowsDecision plan) decisions child.0 follows child.2)

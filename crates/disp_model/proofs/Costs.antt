@@ -1,8 +1,8 @@
 -- What starts cost: a later start costs no less, and walks to distinct components cost together no more than a plan.
-use Rattle.std.proofs.Common.{◌≡◌, ℕ, zero, suc, ◌+◌, ◌-◌, ◌*◌, ◌<◌, ◌≤◌, List, [], ◌∷◌, ◌++◌, length, get_or, map, max, Option, Some, None, Bool, true, false, cond, refl, sym, ap, subst, ◌∙◌, arith, rules, inl, inr, mul-le-mul_left}
-use Rattle.std.specs.Prelude.{nat_eq, slice_get, slice_index_or, Contains, All, sum_by, ◌⊎◌, ◌≢◌, ◌&&◌}
+use Rattle.std.proofs.Common.{◌≡◌, ℕ, zero, suc, ◌+◌, ◌-◌, ◌*◌, ◌≤◌, List, [], ◌∷◌, get_or, map, Option, Some, Bool, true, false, cond, refl, sym, ap, subst, ◌∙◌, arith, inl, inr, mul-le-mul_left}
+use Rattle.std.specs.Prelude.{nat_eq, slice_get, sum_by, ◌≢◌, ◌&&◌}
 use Rattle.std.specs.Option.{option_map_or}
-use Rattle.std.proofs.lemmas.Bool.{cases_Bool, cases_lt, eq-eqb, le-leb, lt-leb}
+use Rattle.std.proofs.lemmas.Bool.{cases_lt, eq-eqb, le-leb, lt-leb}
 use Rattle.std.proofs.lemmas.Option.{none-some, same_Some}
 use Rattle.std.proofs.lemmas.List.Sums.{sum_by-cons}
 use Rattle.disp_model.specs.declared.train.Op.{Op}
@@ -16,10 +16,10 @@ use Rattle.disp_model.specs.Plan.{start_of}
 use Rattle.disp_model.specs.Valid.{IsValid}
 use Rattle.disp_model.specs.Cost.{cost_at, cost_in, cost_of}
 use Rattle.disp_model.specs.Follows.{Follows}
-use Rattle.disp_model.specs.Routes.{Starts, IsForced}
+use Rattle.disp_model.specs.Routes.{Starts}
 use Rattle.disp_model.specs.Walks.{IsWalk, EndsIn}
-use Rattle.disp_model.specs.Nodes.{component_op, Adds, AddUp, IsBound}
-use Rattle.disp_model.specs.Trees.{WalkCosts, WalksCost, HaveDistinct, CostsEnough}
+use Rattle.disp_model.specs.Nodes.{component_op, AddUp, IsBound}
+use Rattle.disp_model.specs.Trees.{WalkCosts, WalksCost, HaveDistinct}
 use Rattle.disp_model.proofs.Branching.{IsStartedAt}
 use Rattle.disp_model.proofs.Positions.{start_is_started}
 use Rattle.disp_model.proofs.WalksHold.{one_event, walk_holds, end_is_run}
@@ -39,13 +39,13 @@ start_here : (o : Op) (e : Event) (plan : List Event) → Starts o e → start_o
 start_here o e plan starts = rw (eq-eqb e.train o.train starts.train, eq-eqb e.operation o.op starts.operation) refl
 
 start_behind : (o : Op) (e : Event) (plan : List Event) (b : Bool) → ((nat_eq e.train o.train) && (nat_eq e.operation o.op)) ≡ b → ((time : ℕ) × (start_of plan o.train o.op ≡ Some time)) → (time : ℕ) × (cond b (Some e.time) (start_of plan o.train o.op) ≡ Some time)
-start_behind o e plan true is later = (e.time , refl)
+start_behind o e plan true is later = (e.time, refl)
 start_behind o e plan false is later = later
 
 has_start : (o : Op) (plan : List Event) (i : ℕ) (e : Event) → IsStartedAt plan o i e → (time : ℕ) × (start_of plan o.train o.op ≡ Some time)
 has_start o [] i e started = absurd (none-some e started.0)
-has_start o (f ∷ plan) zero e started = (f.time , start_here o f plan (subst (Starts o) (sym (same_Some f e started.0)) started.1))
-has_start o (f ∷ plan) (suc i) e started = start_behind o f plan ((nat_eq f.train o.train) && (nat_eq f.operation o.op)) refl (has_start o plan i e (started.0 , started.1))
+has_start o (f ∷ plan) zero e started = (f.time, start_here o f plan (subst (Starts o) (sym (same_Some f e started.0)) started.1))
+has_start o (f ∷ plan) (suc i) e started = start_behind o f plan ((nat_eq f.train o.train) && (nat_eq f.operation o.op)) refl (has_start o plan i e (started.0, started.1))
 
 pub start_is : (problem : Problem) (fixings : List Fixing) (plan : List Event) (o : Op) (i : ℕ) (e : Event) → IsValid problem fixings plan → IsStartedAt plan o i e → start_of plan o.train o.op ≡ Some e.time
 start_is problem fixings plan o i e valid started =
@@ -117,7 +117,7 @@ pub walks_cost : (problem : Problem) (fixings : List Fixing) (plan : List Event)
 walks_cost problem fixings plan decisions walks sum valid follows distinct adds =
     let each : EachWithin problem fixings decisions walks (map (cost_in plan) problem.components) =
     λ i w cost at is. let place = cost_at_place plan problem.components w.component is.component is.there in
-      rw place (omega (arith, is.cost_is, walk_costs_in problem fixings plan decisions is.component w.walk is.total valid follows is.is_walk is.ends)) in
+    rw place (omega (arith, is.cost_is, walk_costs_in problem fixings plan decisions is.component w.walk is.total valid follows is.is_walk is.ends)) in
     omega (arith, walks_within problem fixings decisions walks sum (map (cost_in plan) problem.components) adds distinct each, total_of_map plan problem.components)
 
 -- ---- the bound

@@ -1,10 +1,9 @@
 -- Routes of a train: what follows an operation on one, and that none stands on it twice.
-use Rattle.std.proofs.Common.{◌≡◌, ℕ, zero, suc, ◌+◌, ◌<◌, ◌≤◌, List, [], ◌∷◌, ◌++◌, length, get_or, Option, Some, None, Bool, true, false, cond, refl, sym, ap, subst, ◌∙◌, arith, rules, inl, inr}
-use Rattle.std.specs.Prelude.{nat_eq, slice_get, Contains, ◌⊎◌}
+use Rattle.std.proofs.Common.{◌≡◌, ℕ, zero, suc, List, [], ◌∷◌, Some, false, refl, subst, ◌∙◌, arith, inl, inr}
+use Rattle.std.specs.Prelude.{nat_eq, Contains, ◌⊎◌}
 use Rattle.std.proofs.lemmas.Bool.{cases_Bool, eq-eqb, eqb-true, eqb-false}
-use Rattle.std.proofs.lemmas.Option.{none-some, same_Some, slice_get_within}
 use Rattle.disp_model.specs.declared.train.Operation.{Operation}
-use Rattle.disp_model.specs.Train.{next_of, IsSuccessor, IsEntry, IsExit, GoesOn, IsRoute}
+use Rattle.disp_model.specs.Train.{IsSuccessor, IsExit, GoesOn}
 use Rattle.disp_model.specs.WellFormed.{LeadsTo, IsAcyclic}
 use Rattle.disp_model.specs.Fixing.{after}
 
@@ -14,14 +13,14 @@ IsIn o [] = ⊥
 IsIn o (p ∷ ops) = (p ≡ o) ⊎ IsIn o ops
 
 pub is_in : (o : ℕ) (ops : List ℕ) → Contains ops o → IsIn o ops
-is_in o [] (k , lt , e) = omega arith
-is_in o (p ∷ ops) (zero , lt , e) = inl e
-is_in o (p ∷ ops) (suc k , lt , e) = inr (is_in o ops (k , omega arith , e))
+is_in o [] (k, lt, e) = omega arith
+is_in o (p ∷ ops) (zero, lt, e) = inl e
+is_in o (p ∷ ops) (suc k, lt, e) = inr (is_in o ops (k, omega arith, e))
 
 pub contains_in : (o : ℕ) (ops : List ℕ) → IsIn o ops → Contains ops o
 contains_in o [] h = absurd h
-contains_in o (p ∷ ops) (inl e) = (0 , omega arith , e)
-contains_in o (p ∷ ops) (inr h) = let c = contains_in o ops h in (suc c.0 , omega (arith, c.1) , c.2)
+contains_in o (p ∷ ops) (inl e) = (0, omega arith, e)
+contains_in o (p ∷ ops) (inr h) = let c = contains_in o ops h in (suc c.0, omega (arith, c.1), c.2)
 
 -- it is there or it is not
 pub in_or_not : (o : ℕ) (ops : List ℕ) → IsIn o ops ⊎ (IsIn o ops → ⊥)
@@ -50,10 +49,10 @@ goes_to_next train o p (q ∷ rest) goes h not =
     elim (cases_Bool (nat_eq p o)) [
       | inl is ↦
           let same : p ≡ o = eqb-true p o is in
-          (q , rw same (after_head o q rest) , subst (λ (x : ℕ). IsSuccessor train x q) same goes.0)
+          (q, rw same (after_head o q rest), subst (λ (x : ℕ). IsSuccessor train x q) same goes.0)
       | inr is ↦
           let later = goes_to_next train o q rest goes.1 (behind p o (q ∷ rest) is h) not in
-          (later.0 , after_tail o p q rest is ∙ later.1 , later.2)
+          (later.0, after_tail o p q rest is ∙ later.1, later.2)
     ]
   where
     behind : (p o : ℕ) (ops : List ℕ) → nat_eq p o ≡ false → IsIn o (p ∷ ops) → IsIn o ops
@@ -63,8 +62,8 @@ goes_to_next train o p (q ∷ rest) goes h not =
 -- along a route a way leads from each operation to each later one
 pub leads_along : (train : List Operation) (p o : ℕ) (rest : List ℕ) → GoesOn train p rest → IsIn o rest → (n : ℕ) × LeadsTo train n p o
 leads_along train p o [] goes h = absurd h
-leads_along train p o (q ∷ rest) goes (inl e) = (0 , subst (λ (x : ℕ). IsSuccessor train p x) e goes.0)
-leads_along train p o (q ∷ rest) goes (inr h) = let later = leads_along train q o rest goes.1 h in (suc later.0 , (q , goes.0 , later.1))
+leads_along train p o (q ∷ rest) goes (inl e) = (0, subst (λ (x : ℕ). IsSuccessor train p x) e goes.0)
+leads_along train p o (q ∷ rest) goes (inr h) = let later = leads_along train q o rest goes.1 h in (suc later.0, (q, goes.0, later.1))
 
 -- no operation stands on a route twice
 pub never_again : (train : List Operation) (o : ℕ) (rest : List ℕ) → IsAcyclic train → GoesOn train o rest → IsIn o rest → ⊥

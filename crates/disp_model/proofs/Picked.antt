@@ -1,10 +1,10 @@
 -- What is picked at a node: a choice that may be made and is not decided there; and the cost where none is.
-use Rattle.std.proofs.Common.{◌≡◌, ℕ, zero, suc, ◌+◌, ◌<◌, ◌≤◌, List, [], ◌∷◌, ◌++◌, length, get_or, map, Option, Some, None, Bool, true, false, cond, refl, sym, ap, subst, ◌∙◌, arith, rules, inl, inr}
-use Rattle.std.specs.Prelude.{nat_eq, slice_get, slice_index_or, Contains, All, filter, sum_by, ◌⊎◌, ◌≢◌, ◌==◌}
+use Rattle.std.proofs.Common.{◌≡◌, ℕ, zero, suc, ◌≤◌, List, [], ◌∷◌, ◌++◌, length, get_or, map, Option, Some, None, Bool, true, false, cond, refl, sym, ap, subst, ◌∙◌, arith, inl, inr}
+use Rattle.std.specs.Prelude.{nat_eq, slice_get, Contains, filter, sum_by, ◌≢◌, ◌==◌}
 use Rattle.std.specs.List.{list_any, Any}
 use Rattle.std.specs.Option.{option_map_or}
 use Rattle.std.proofs.lemmas.Bool.{cases_Bool, eq-eqb, eqb-true}
-use Rattle.std.proofs.lemmas.Option.{none-some, same_Some, get_or_from_slice_get}
+use Rattle.std.proofs.lemmas.Option.{none-some, same_Some}
 use Rattle.std.proofs.lemmas.List.Elements.{All-contains, Contains-get_or}
 use Rattle.std.proofs.lemmas.List.Folds.{list_any-from_Any}
 use Rattle.std.proofs.lemmas.List.Sums.{sum_by-cons}
@@ -15,23 +15,22 @@ use Rattle.disp_model.specs.declared.train.Operation.{Operation}
 use Rattle.disp_model.specs.declared.fixing.Fixing.{Fixing}
 use Rattle.disp_model.specs.declared.plan.Event.{Event}
 use Rattle.disp_model.specs.declared.decision.Decision.{Decision}
-use Rattle.disp_model.specs.declared.decision.Decision.TheVariants.{Go, First}
+use Rattle.disp_model.specs.declared.decision.Decision.TheVariants.{Go}
 use Rattle.disp_model.specs.declared.decision.Choice.{Choice}
 use Rattle.disp_model.specs.declared.decision.Choice.TheVariants.{Route, Order}
 use Rattle.disp_model.specs.declared.problem.Problem.{Problem}
-use Rattle.disp_model.specs.Train.{next_of, IsSuccessor, IsExit, GoesOn, IsRoute}
-use Rattle.disp_model.specs.Plan.{start_of, end_of}
+use Rattle.disp_model.specs.Train.{next_of, IsSuccessor, GoesOn, IsRoute}
+use Rattle.disp_model.specs.Plan.{start_of}
 use Rattle.disp_model.specs.Fixing.{after}
 use Rattle.disp_model.specs.Cost.{cost_at, cost_in, cost_of}
-use Rattle.disp_model.specs.Valid.{train_at, operation_of, IsReleased, KeepApart, IsValid}
+use Rattle.disp_model.specs.Valid.{train_at, IsValid}
 use Rattle.disp_model.specs.Routes.{Starts, AgreesWithDecision, IsAllowed, IsForced}
 use Rattle.disp_model.specs.Arcs.{listings_of, shared_listings, Conflicts}
 use Rattle.disp_model.specs.Walks.{IsLongest}
 use Rattle.disp_model.specs.Nodes.{component_op, Adds, AddUp, IsBound}
 use Rattle.disp_model.specs.Trees.{IsChoice, children_of}
-use Rattle.disp_model.specs.Earliest.{op_of, IsEarliest, IsFork, Clash, IsOpenClash, PicksOrder, IsPicked}
+use Rattle.disp_model.specs.Earliest.{op_of, IsEarliest, IsFork, IsOpenClash, IsPicked}
 use Rattle.disp_model.proofs.Paths.{IsIn, contains_in, goes_to_next}
-use Rattle.disp_model.proofs.Branching.{IsStartedAt}
 use Rattle.disp_model.proofs.Positions.{start_is_started}
 use Rattle.disp_model.proofs.Arcs.{names_op}
 use Rattle.disp_model.proofs.Costs.{start_is}
@@ -61,13 +60,13 @@ route_goes_on train o s [] is there next = absurd is
 route_goes_on train o s (p ∷ rest) is there next = goes_to_next train o p rest is.1 there (λ exit. nothing s (subst (λ (l : List ℕ). Contains l s) exit.last next))
   where
     nothing : (s : ℕ) → Contains [] s → ⊥
-    nothing s (k , lt , e) = omega arith
+    nothing s (k, lt, e) = omega arith
 
 two_elements : (xs : List ℕ) (s u : ℕ) → Contains xs s → Contains xs u → s ≢ u → 2 ≤ length xs
-two_elements [] s u (k , lt , e) other apart = absurd (omega arith)
-two_elements (x ∷ []) s u (zero , lt , e) (zero , gt , f) apart = absurd (apart (sym e ∙ f))
-two_elements (x ∷ []) s u (suc k , lt , e) other apart = absurd (omega (arith, lt))
-two_elements (x ∷ []) s u (zero , lt , e) (suc k , gt , f) apart = absurd (omega (arith, gt))
+two_elements [] s u (k, lt, e) other apart = absurd (omega arith)
+two_elements (x ∷ []) s u (zero, lt, e) (zero, gt, f) apart = absurd (apart (sym e ∙ f))
+two_elements (x ∷ []) s u (suc k, lt, e) other apart = absurd (omega (arith, lt))
+two_elements (x ∷ []) s u (zero, lt, e) (suc k, gt, f) apart = absurd (omega (arith, gt))
 two_elements (x ∷ y ∷ xs) s u one other apart = omega arith
 
 -- two allowed routes go on from the operation to different successors
@@ -91,14 +90,20 @@ fork_goes_two_ways problem fixings decisions o fork = by_next (after o.op fork.o
     by_next : (a b : Option ℕ) → after o.op fork.one ≡ a → after o.op fork.other ≡ b → GoesTwoWays problem fixings decisions o
     by_next None None one other = absurd (fork.apart (one ∙ sym other))
     by_next (Some s) None one other =
-      let next = route_goes_on (train_at problem o.train) o.op s fork.other fork.other_allowed.is_route (reaches fork.other fork.other_allowed) (route_to_successor (train_at problem o.train) o.op s fork.one fork.one_allowed.is_route one) in
-      absurd (none-some next.0 (sym other ∙ next.1))
+        let next = route_goes_on (train_at problem o.train) o.op s fork.other fork.other_allowed.is_route (reaches fork.other fork.other_allowed) (route_to_successor (train_at problem o.train) o.op s fork.one fork.one_allowed.is_route one) in
+        absurd (none-some next.0 (sym other ∙ next.1))
     by_next None (Some s) one other =
-      let next = route_goes_on (train_at problem o.train) o.op s fork.one fork.one_allowed.is_route (reaches fork.one fork.one_allowed) (route_to_successor (train_at problem o.train) o.op s fork.other fork.other_allowed.is_route other) in
-      absurd (none-some next.0 (sym one ∙ next.1))
+        let next = route_goes_on (train_at problem o.train) o.op s fork.one fork.one_allowed.is_route (reaches fork.one fork.one_allowed) (route_to_successor (train_at problem o.train) o.op s fork.other fork.other_allowed.is_route other) in
+        absurd (none-some next.0 (sym one ∙ next.1))
     by_next (Some s) (Some u) one other = record {
-      one = fork.one; other = fork.other; one_allowed = fork.one_allowed; other_allowed = fork.other_allowed;
-      one_next = s; other_next = u; one_goes = one; other_goes = other;
+      one = fork.one;
+      other = fork.other;
+      one_allowed = fork.one_allowed;
+      other_allowed = fork.other_allowed;
+      one_next = s;
+      other_next = u;
+      one_goes = one;
+      other_goes = other;
       apart = λ same. fork.apart (one ∙ ap (λ (n : ℕ). Some n) same ∙ sym other);
     }
 
@@ -115,42 +120,42 @@ fork_is_open problem fixings decisions o next fork decided = fork.apart (goes fo
   where
     goes : (route : List ℕ) → IsAllowed problem fixings decisions o.train route → after o.op route ≡ Some next
     goes route allowed =
-      let parts = fork.alike route allowed in
-      let there = contains_in o.op route (subst (IsIn o.op) (sym parts.1) (in_middle o.op fork.front parts.0)) in
-      All-contains (AgreesWithDecision o.train route) decisions (Go o next) allowed.decisions_agree decided refl there
+        let parts = fork.alike route allowed in
+        let there = contains_in o.op route (subst (IsIn o.op) (sym parts.1) (in_middle o.op fork.front parts.0)) in
+        All-contains (AgreesWithDecision o.train route) decisions (Go o next) allowed.decisions_agree decided refl there
 
 -- ---- a clash
 
 filter_keeps : (p : Listing → Bool) (ls : List Listing) (l : Listing) → Contains ls l → p l ≡ true → filter p ls ≡ [] → ⊥
-filter_keeps p [] l (k , lt , e) is none = omega arith
-filter_keeps p (m ∷ ls) l (zero , lt , e) is none =
+filter_keeps p [] l (k, lt, e) is none = omega arith
+filter_keeps p (m ∷ ls) l (zero, lt, e) is none =
     let here : p m ≡ true = subst (λ (x : Listing). p x ≡ true) (sym e) is in
     let kept : m ∷ filter p ls ≡ [] = rw here at none in
     absurd cc
-filter_keeps p (m ∷ ls) l (suc k , lt , e) is none = elim (cases_Bool (p m)) [
-    | inl here ↦ let kept : m ∷ filter p ls ≡ [] = rw here at none in absurd cc
-    | inr not ↦ filter_keeps p ls l (k , omega arith , e) is (rw not at none)
-  ]
+filter_keeps p (m ∷ ls) l (suc k, lt, e) is none = elim (cases_Bool (p m)) [
+  | inl here ↦ let kept : m ∷ filter p ls ≡ [] = rw here at none in absurd cc
+  | inr not ↦ filter_keeps p ls l (k, omega arith, e) is (rw not at none)
+]
 
 -- where no listing is shared, events keep apart
 no_shared : (a b : List Listing) (l k : Listing) → Contains a l → Contains b k → k.resource ≡ l.resource → shared_listings a b ≡ [] → ⊥
 no_shared a b l k own other same none = filter_keeps (λ l. list_any (λ k. k.resource == l.resource) b) a l own (list_any-from_Any (λ k. nat_eq k.resource l.resource) b (at b k other same)) none
   where
     at : (b : List Listing) (k : Listing) → Contains b k → k.resource ≡ l.resource → Any (λ k. nat_eq k.resource l.resource ≡ true) b
-    at b k (i , lt , e) same = (i , k , lt , e , eq-eqb k.resource l.resource same)
+    at b k (i, lt, e) same = (i, k, lt, e, eq-eqb k.resource l.resource same)
 
 clash_conflicts : (problem : Problem) (decisions : List Decision) (plan : List Event) (a b : Op) → IsOpenClash problem decisions plan a b → Conflicts problem a b
 clash_conflicts problem decisions plan a b free = record {
   trains = λ same. omega (arith, free.trains, same);
   shared = λ none. free.clash.not_apart (λ o p at there k d lt any. absurd (
-    elim free.clash.names [
-      | inl straight ↦ no_shared (listings_of problem a) (listings_of problem b) (get_or o.listings k d) any.1
-          (subst (λ (ls : List Listing). Contains ls (get_or o.listings k d)) (sym (names_op problem a free.clash.earlier o straight.0 at)) (Contains-get_or o.listings k d lt))
-          (subst (λ (ls : List Listing). Contains ls any.1) (sym (names_op problem b free.clash.later p straight.1 there)) (any.0 , any.2 , any.3)) any.4 none
-      | inr crossed ↦ no_shared (listings_of problem a) (listings_of problem b) any.1 (get_or o.listings k d)
-          (subst (λ (ls : List Listing). Contains ls any.1) (sym (names_op problem a free.clash.later p crossed.1 there)) (any.0 , any.2 , any.3))
-          (subst (λ (ls : List Listing). Contains ls (get_or o.listings k d)) (sym (names_op problem b free.clash.earlier o crossed.0 at)) (Contains-get_or o.listings k d lt)) (sym any.4) none
-    ]));
+      elim free.clash.names [
+        | inl straight ↦ no_shared (listings_of problem a) (listings_of problem b) (get_or o.listings k d) any.1
+            (subst (λ (ls : List Listing). Contains ls (get_or o.listings k d)) (sym (names_op problem a free.clash.earlier o straight.0 at)) (Contains-get_or o.listings k d lt))
+            (subst (λ (ls : List Listing). Contains ls any.1) (sym (names_op problem b free.clash.later p straight.1 there)) (any.0, any.2, any.3)) any.4 none
+        | inr crossed ↦ no_shared (listings_of problem a) (listings_of problem b) any.1 (get_or o.listings k d)
+            (subst (λ (ls : List Listing). Contains ls any.1) (sym (names_op problem a free.clash.later p crossed.1 there)) (any.0, any.2, any.3))
+            (subst (λ (ls : List Listing). Contains ls (get_or o.listings k d)) (sym (names_op problem b free.clash.earlier o crossed.0 at)) (Contains-get_or o.listings k d lt)) (sym any.4) none
+      ]));
 }
 
 -- a picked choice may be made
@@ -161,17 +166,17 @@ picked_is_choice problem fixings decisions (Order a b) picked = clash_conflicts 
 -- ---- none is decided
 
 map_contains : (o : Op) (xs : List ℕ) (child : Decision) → Contains (map (λ s. Go o s) xs) child → (s : ℕ) × (Go o s ≡ child)
-map_contains o [] child (k , lt , e) = absurd (omega arith)
-map_contains o (x ∷ xs) child (zero , lt , e) = (x , e)
-map_contains o (x ∷ xs) child (suc k , lt , e) = map_contains o xs child (k , omega arith , e)
+map_contains o [] child (k, lt, e) = absurd (omega arith)
+map_contains o (x ∷ xs) child (zero, lt, e) = (x, e)
+map_contains o (x ∷ xs) child (suc k, lt, e) = map_contains o xs child (k, omega arith, e)
 
 pub picked_is_open : (problem : Problem) (fixings : List Fixing) (decisions : List Decision) (choice : Choice) (child : Decision) → IsPicked problem fixings decisions (Some choice) → Contains (children_of problem choice) child → Contains decisions child → ⊥
 picked_is_open problem fixings decisions (Route o) child picked is decided =
     let next = map_contains o (next_of (train_at problem o.train) o.op) child is in
     fork_is_open problem fixings decisions o next.0 picked.fork (subst (Contains decisions) (sym next.1) decided)
-picked_is_open problem fixings decisions (Order a b) child picked (zero , lt , e) decided = picked.first_clash.open_clash.undecided (subst (Contains decisions) (sym e) decided)
-picked_is_open problem fixings decisions (Order a b) child picked (suc zero , lt , e) decided = picked.first_clash.open_clash.undecided_back (subst (Contains decisions) (sym e) decided)
-picked_is_open problem fixings decisions (Order a b) child picked (suc (suc k) , lt , e) decided = omega (arith, lt)
+picked_is_open problem fixings decisions (Order a b) child picked (zero, lt, e) decided = picked.first_clash.open_clash.undecided (subst (Contains decisions) (sym e) decided)
+picked_is_open problem fixings decisions (Order a b) child picked (suc zero, lt, e) decided = picked.first_clash.open_clash.undecided_back (subst (Contains decisions) (sym e) decided)
+picked_is_open problem fixings decisions (Order a b) child picked (suc (suc k), lt, e) decided = omega (arith, lt)
 
 -- ---- the cost where none is picked
 
@@ -180,32 +185,32 @@ one_longest problem fixings decisions o s t one other =
     omega (arith, one.none_longer other.reached.0 t other.reached.1 other.reached.2 other.reached.3, other.none_longer one.reached.0 s one.reached.1 one.reached.2 one.reached.3)
 
 contains_at : (plan : List Event) (e : Event) → Contains plan e → (i : ℕ) × (slice_get plan i ≡ Some e)
-contains_at [] e (k , lt , same) = absurd (omega arith)
-contains_at (f ∷ plan) e (zero , lt , same) = (0 , ap (λ (g : Event). Some g) same)
-contains_at (f ∷ plan) e (suc k , lt , same) = let later = contains_at plan e (k , omega arith , same) in (suc later.0 , later.1)
+contains_at [] e (k, lt, same) = absurd (omega arith)
+contains_at (f ∷ plan) e (zero, lt, same) = (0, ap (λ (g : Event). Some g) same)
+contains_at (f ∷ plan) e (suc k, lt, same) = let later = contains_at plan e (k, omega arith, same) in (suc later.0, later.1)
 
 at_contains : (plan : List Event) (i : ℕ) (e : Event) → slice_get plan i ≡ Some e → Contains plan e
 at_contains [] i e at = absurd (none-some e at)
-at_contains (f ∷ plan) zero e at = (0 , omega arith , same_Some f e at)
-at_contains (f ∷ plan) (suc i) e at = let later = at_contains plan i e at in (suc later.0 , omega (arith, later.1) , later.2)
+at_contains (f ∷ plan) zero e at = (0, omega arith, same_Some f e at)
+at_contains (f ∷ plan) (suc i) e at = let later = at_contains plan i e at in (suc later.0, omega (arith, later.1), later.2)
 
 same_op : (o : Op) (e : Event) → Starts o e → op_of e ≡ o
 same_op o e starts = rw (starts.train, starts.operation) refl
 
 adds_cost : (problem : Problem) (fixings : List Fixing) (decisions : List Decision) (plan : List Event) (c : Component) (cost : ℕ) → IsEarliest problem fixings decisions plan → IsValid problem fixings plan → Adds problem fixings decisions c cost → cost_in plan c ≡ cost
-adds_cost problem fixings decisions plan c cost earliest valid (inl (total , forced , longest , cost_is)) =
+adds_cost problem fixings decisions plan c cost earliest valid (inl (total, forced, longest, cost_is)) =
     let o = component_op c in
     let run = earliest.each_run o forced in
     let at = contains_at plan run.0 run.1 in
     let time = one_longest problem fixings decisions o run.0.time total (subst (λ (p : Op). IsLongest problem fixings decisions p run.0.time) (same_op o run.0 run.2) (earliest.none_else run.0 run.1).1) longest in
-    ap (λ (found : Option ℕ). option_map_or (cost_at c) found 0) (start_is problem fixings plan o at.0 run.0 valid (at.1 , run.2)) ∙ ap (cost_at c) time ∙ sym cost_is
-adds_cost problem fixings decisions plan c cost earliest valid (inr (free , cost_is)) = by_start (start_of plan c.train c.operation) refl
+    ap (λ (found : Option ℕ). option_map_or (cost_at c) found 0) (start_is problem fixings plan o at.0 run.0 valid (at.1, run.2)) ∙ ap (cost_at c) time ∙ sym cost_is
+adds_cost problem fixings decisions plan c cost earliest valid (inr (free, cost_is)) = by_start (start_of plan c.train c.operation) refl
   where
     by_start : (found : Option ℕ) → start_of plan c.train c.operation ≡ found → cost_in plan c ≡ cost
     by_start None at = ap (λ (found : Option ℕ). option_map_or (cost_at c) found 0) at ∙ sym cost_is
     by_start (Some t) at =
-      let run = start_is_started c.train c.operation t plan at in
-      absurd (free (subst (IsForced problem fixings decisions) (same_op (component_op c) run.1 run.2.1) (earliest.none_else run.1 (at_contains plan run.0 run.1 run.2.0)).0))
+        let run = start_is_started c.train c.operation t plan at in
+        absurd (free (subst (IsForced problem fixings decisions) (same_op (component_op c) run.1 run.2.1) (earliest.none_else run.1 (at_contains plan run.0 run.1 run.2.0)).0))
 
 add_cost : (problem : Problem) (fixings : List Fixing) (decisions : List Decision) (plan : List Event) → IsEarliest problem fixings decisions plan → IsValid problem fixings plan → (components : List Component) (bound : ℕ) → AddUp problem fixings decisions components bound → sum_by (cost_in plan) components ≡ bound
 add_cost problem fixings decisions plan earliest valid [] bound adds = sym adds

@@ -1,7 +1,7 @@
 -- Events of one train in a valid plan: in which order they stand, and how far apart they start.
-use Rattle.std.proofs.Common.{◌≡◌, ℕ, zero, suc, ◌+◌, ◌<◌, ◌≤◌, List, [], ◌∷◌, ◌++◌, length, get_or, take, drop, map, Option, Some, None, Bool, true, false, cond, refl, sym, ap, subst, ◌∙◌, arith, rules, inl, inr, append_assoc}
-use Rattle.std.specs.Prelude.{nat_eq, slice_get, slice_index_or, Contains, All, IsSome, IfSome, sum_by, ◌⊎◌, ◌&&◌}
-use Rattle.std.proofs.lemmas.Bool.{cases_Bool, cases_lt, eq-eqb, eqb-true, eqb-false, and_parts, false≢true}
+use Rattle.std.proofs.Common.{◌≡◌, ℕ, zero, suc, ◌+◌, ◌<◌, ◌≤◌, List, [], ◌∷◌, ◌++◌, take, drop, map, Option, Some, None, Bool, true, false, cond, refl, sym, ap, subst, ◌∙◌, arith, inl, inr}
+use Rattle.std.specs.Prelude.{nat_eq, slice_get, IsSome, IfSome, sum_by, ◌&&◌}
+use Rattle.std.proofs.lemmas.Bool.{eq-eqb, eqb-true, and_parts, false≢true}
 use Rattle.std.proofs.lemmas.Option.{none-some, same_Some, slice_get_within, get_or_from_slice_get}
 use Rattle.std.proofs.lemmas.List.{map-append}
 use Rattle.std.proofs.lemmas.List.Elements.{filter-append}
@@ -11,23 +11,22 @@ use Rattle.disp_model.specs.declared.train.Operation.{Operation}
 use Rattle.disp_model.specs.declared.plan.Event.{Event}
 use Rattle.disp_model.specs.declared.fixing.Fixing.{Fixing}
 use Rattle.disp_model.specs.declared.problem.Problem.{Problem}
-use Rattle.disp_model.specs.Train.{duration_of, IsSuccessor, GoesOn, IsRoute}
-use Rattle.disp_model.specs.WellFormed.{LeadsTo, IsAcyclic}
-use Rattle.disp_model.specs.Plan.{run_of, operations_of, start_of, first_of, end_of}
-use Rattle.disp_model.specs.Valid.{train_at, operation_of, MayStart, IsValid}
-use Rattle.disp_model.specs.Routes.{Starts}
-use Rattle.disp_model.proofs.Paths.{IsIn, is_in, contains_in, leads_along}
+use Rattle.disp_model.specs.Train.{duration_of, IsRoute}
+use Rattle.disp_model.specs.WellFormed.{LeadsTo}
+use Rattle.disp_model.specs.Plan.{run_of, operations_of, start_of, end_of}
+use Rattle.disp_model.specs.Valid.{train_at, operation_of, IsValid}
+use Rattle.disp_model.proofs.Paths.{IsIn, leads_along}
 use Rattle.disp_model.proofs.Runs.{Spaced, Spaced-suffix, Lasts, runs_are_spaced, split_at}
-use Rattle.disp_model.proofs.Branching.{IsStartedAt, own_operations, operations_append, named_train, get_later, route_from, started_is_in, one_place}
+use Rattle.disp_model.proofs.Branching.{IsStartedAt, get_later, route_from}
 
 -- ---- what is run is started somewhere
 
 started_at_head : (t o : ℕ) (e : Event) (plan : List Event) (b : Bool) → nat_eq e.train t ≡ b
     → (IsIn o (operations_of t plan) → (i : ℕ) × (f : Event) × IsStartedAt plan (record { train = t; op = o }) i f)
     → IsIn o (map (λ f. f.operation) (cond b (e ∷ run_of t plan) (run_of t plan))) → (i : ℕ) × (f : Event) × IsStartedAt (e ∷ plan) (record { train = t; op = o }) i f
-started_at_head t o e plan false is later h = let found = later h in (suc found.0 , found.1 , found.2)
-started_at_head t o e plan true is later (inl same) = (0 , e , (refl , record { train = eqb-true e.train t is; operation = same }))
-started_at_head t o e plan true is later (inr h) = let found = later h in (suc found.0 , found.1 , found.2)
+started_at_head t o e plan false is later h = let found = later h in (suc found.0, found.1, found.2)
+started_at_head t o e plan true is later (inl same) = (0, e, (refl, record { train = eqb-true e.train t is; operation = same }))
+started_at_head t o e plan true is later (inr h) = let found = later h in (suc found.0, found.1, found.2)
 
 pub in_is_started : (t o : ℕ) (plan : List Event) → IsIn o (operations_of t plan) → (i : ℕ) × (e : Event) × IsStartedAt plan (record { train = t; op = o }) i e
 in_is_started t o [] h = absurd h
@@ -36,10 +35,10 @@ in_is_started t o (e ∷ plan) h = started_at_head t o e plan (nat_eq e.train t)
 start_at_head : (t o time : ℕ) (e : Event) (plan : List Event) (b : Bool) → ((nat_eq e.train t) && (nat_eq e.operation o)) ≡ b
     → (start_of plan t o ≡ Some time → (i : ℕ) × (f : Event) × IsStartedAt plan (record { train = t; op = o }) i f × (f.time ≡ time))
     → cond b (Some e.time) (start_of plan t o) ≡ Some time → (i : ℕ) × (f : Event) × IsStartedAt (e ∷ plan) (record { train = t; op = o }) i f × (f.time ≡ time)
-start_at_head t o time e plan false is later h = let found = later h in (suc found.0 , found.1 , found.2 , found.3)
+start_at_head t o time e plan false is later h = let found = later h in (suc found.0, found.1, found.2, found.3)
 start_at_head t o time e plan true is later h =
     let both = and_parts (nat_eq e.train t) (nat_eq e.operation o) is in
-    (0 , e , (refl , record { train = eqb-true e.train t both.0; operation = eqb-true e.operation o both.1 }) , same_Some e.time time h)
+    (0, e, (refl, record { train = eqb-true e.train t both.0; operation = eqb-true e.operation o both.1 }), same_Some e.time time h)
 
 -- what has a start is started then
 pub start_is_started : (t o time : ℕ) (plan : List Event) → start_of plan t o ≡ Some time → (i : ℕ) × (e : Event) × IsStartedAt plan (record { train = t; op = o }) i e × (e.time ≡ time)
@@ -61,7 +60,7 @@ own_run t e rest same = rw (same, eq-eqb t t refl) refl
 run_split : (t : ℕ) (plan : List Event) (i : ℕ) (e : Event) → slice_get plan i ≡ Some e → e.train ≡ t → run_of t plan ≡ run_of t (take i plan) ++ e ∷ run_of t (drop (i + 1) plan)
 run_split t plan i e at same =
     ap (run_of t) (split_at plan i e at) ∙ filter-append (λ g. nat_eq g.train t) (take i plan) (e ∷ drop (i + 1) plan)
-      ∙ ap (λ (l : List Event). run_of t (take i plan) ++ l) (own_run t e (drop (i + 1) plan) same)
+    ∙ ap (λ (l : List Event). run_of t (take i plan) ++ l) (own_run t e (drop (i + 1) plan) same)
 
 pub around : (o p : Op) (plan : List Event) (i j : ℕ) (e f : Event) → o.train ≡ p.train → i < j → IsStartedAt plan o i e → IsStartedAt plan p j f → IsAround o.train plan e f
 around o p plan i j e f same lt first second =
@@ -83,7 +82,7 @@ ops_of run = map (λ e. e.operation) run
 pub operations_around : (t : ℕ) (plan : List Event) (e f : Event) (a : IsAround t plan e f) → operations_of t plan ≡ ops_of a.before ++ e.operation ∷ (ops_of a.between ++ f.operation ∷ ops_of a.behind)
 operations_around t plan e f a =
     ap ops_of a.run_is ∙ map-append (λ g. g.operation) a.before (e ∷ (a.between ++ f ∷ a.behind))
-      ∙ ap (λ (l : List ℕ). ops_of a.before ++ e.operation ∷ l) (map-append (λ g. g.operation) a.between (f ∷ a.behind))
+    ∙ ap (λ (l : List ℕ). ops_of a.before ++ e.operation ∷ l) (map-append (λ g. g.operation) a.between (f ∷ a.behind))
 
 -- along a spaced run the durations pass
 spaced_sum : (train : List Operation) (e : Event) (between : List Event) (f : Event) (behind : List Event) → Spaced train (e ∷ (between ++ f ∷ behind)) → e.time + sum_by (duration_of train) (e.operation ∷ ops_of between) ≤ f.time
@@ -113,8 +112,8 @@ valid_spaced problem fixings plan t valid = runs_are_spaced problem.trains plan 
 -- ---- ways join
 
 pub leads_then : (train : List Operation) (n m o p q : ℕ) → LeadsTo train n o p → LeadsTo train m p q → (k : ℕ) × LeadsTo train k o q
-leads_then train zero m o p q first second = (suc m , (p , first , second))
-leads_then train (suc n) m o p q (r , step , rest) second = let joined = leads_then train n m r p q rest second in (suc joined.0 , (r , step , joined.1))
+leads_then train zero m o p q first second = (suc m, (p, first, second))
+leads_then train (suc n) m o p q (r, step, rest) second = let joined = leads_then train n m r p q rest second in (suc joined.0, (r, step, joined.1))
 
 -- a route leads from each operation to each later one
 pub route_leads : (train : List Operation) (before : List ℕ) (u : ℕ) (between : List ℕ) (v : ℕ) (behind : List ℕ) → IsRoute train (before ++ u ∷ (between ++ v ∷ behind)) → (n : ℕ) × LeadsTo train n u v

@@ -1,6 +1,6 @@
 -- An accepted tree says the truth of each valid plan.
-use Rattle.std.proofs.Common.{◌≡◌, ℕ, zero, suc, ◌+◌, ◌<◌, ◌≤◌, List, [], ◌∷◌, ◌++◌, length, get_or, map, refl, sym, ap, subst, ◌∙◌, arith, rules, inl, inr}
-use Rattle.std.specs.Prelude.{Contains, All, ◌⊎◌}
+use Rattle.std.proofs.Common.{zero, suc, ◌≤◌, List, [], ◌∷◌, ◌++◌, map, refl, sym, subst, arith, inl, inr}
+use Rattle.std.specs.Prelude.{Contains, ◌⊎◌}
 use Rattle.std.proofs.lemmas.List.Elements.{Contains-append_left, Contains-append_right}
 use Rattle.disp_model.specs.declared.fixing.Fixing.{Fixing}
 use Rattle.disp_model.specs.declared.plan.Event.{Event}
@@ -53,14 +53,14 @@ abbrev FollowsSome : List Event → List (List Decision) → Type 0
 FollowsSome plan places = (decisions : List Decision) × Contains places decisions × Follows plan decisions
 
 first_or_later : (plan : List Event) (decisions : List Decision) (places : List (List Decision)) → FollowsSome plan (decisions ∷ places) → Follows plan decisions ⊎ FollowsSome plan places
-first_or_later plan decisions places (d , (zero , lt , e) , follows) = inl (subst (Follows plan) (sym e) follows)
-first_or_later plan decisions places (d , (suc k , lt , e) , follows) = inr (d , (k , omega arith , e) , follows)
+first_or_later plan decisions places (d, (zero, lt, e), follows) = inl (subst (Follows plan) (sym e) follows)
+first_or_later plan decisions places (d, (suc k, lt, e), follows) = inr (d, (k, omega arith, e), follows)
 
 fills_say : (problem : Problem) (fixings : List Fixing) (plan : List Event) (verdict : Verdict) → IsValid problem fixings plan
     → (tree : List TreeNode) (places : List (List Decision)) → Fills problem fixings verdict places tree → FollowsSome plan places → SaysOf problem plan verdict
-fills_say problem fixings plan verdict valid [] [] fills (d , (k , lt , e) , follows) = absurd (omega arith)
+fills_say problem fixings plan verdict valid [] [] fills (d, (k, lt, e), follows) = absurd (omega arith)
 fills_say problem fixings plan verdict valid [] (decisions ∷ places) fills some = absurd fills
-fills_say problem fixings plan verdict valid (node ∷ tree) [] fills (d , (k , lt , e) , follows) = absurd (omega arith)
+fills_say problem fixings plan verdict valid (node ∷ tree) [] fills (d, (k, lt, e), follows) = absurd (omega arith)
 fills_say problem fixings plan verdict valid (Leaf leaf ∷ tree) (decisions ∷ places) fills some =
     elim (first_or_later plan decisions places some) [
       | inl follows ↦ leaf_says problem fixings plan decisions verdict leaf valid follows fills.0
@@ -72,9 +72,9 @@ fills_say problem fixings plan verdict valid (Branch choice children ∷ tree) (
       | inl follows ↦
           let child = covers problem fixings plan decisions choice valid follows fills.0 in
           let there : Contains below (decisions ++ child.0 ∷ []) = contains_map (λ d. decisions ++ d ∷ []) (children_of problem choice) child.0 child.1 in
-          fills_say problem fixings plan verdict valid tree (below ++ places) fills.2 (decisions ++ child.0 ∷ [] , Contains-append_left below places (decisions ++ child.0 ∷ []) there , child.2)
-      | inr later ↦ fills_say problem fixings plan verdict valid tree (below ++ places) fills.2 (later.0 , Contains-append_right below places later.0 later.1 , later.2)
+          fills_say problem fixings plan verdict valid tree (below ++ places) fills.2 (decisions ++ child.0 ∷ [], Contains-append_left below places (decisions ++ child.0 ∷ []) there, child.2)
+      | inr later ↦ fills_say problem fixings plan verdict valid tree (below ++ places) fills.2 (later.0, Contains-append_right below places later.0 later.1, later.2)
     ]
 
 pub tree_says : (problem : Problem) (fixings : List Fixing) (plan : List Event) (verdict : Verdict) (tree : List TreeNode) → IsValid problem fixings plan → Accepts problem fixings verdict tree → SaysOf problem plan verdict
-tree_says problem fixings plan verdict tree valid accepts = fills_say problem fixings plan verdict valid tree ([] ∷ []) accepts ([] , (0 , omega arith , refl) , λ k d lt. absurd (omega arith))
+tree_says problem fixings plan verdict tree valid accepts = fills_say problem fixings plan verdict valid tree ([] ∷ []) accepts ([], (0, omega arith, refl), λ k d lt. absurd (omega arith))

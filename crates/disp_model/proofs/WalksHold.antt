@@ -1,8 +1,8 @@
 -- In a valid plan that follows the decisions arcs have no cycle, and each walk is at most as long as the start of its end.
-use Rattle.std.proofs.Common.{◌≡◌, ℕ, zero, suc, ◌+◌, ◌<◌, ◌≤◌, List, [], ◌∷◌, ◌++◌, length, get_or, map, max, Option, Some, None, Bool, true, false, cond, refl, sym, ap, subst, ◌∙◌, arith, rules, inl, inr}
-use Rattle.std.specs.Prelude.{nat_eq, slice_get, slice_index_or, Contains, All, IsSome, IfSome, unwrap_or, ◌⊎◌, ◌&&◌, ◌==◌}
+use Rattle.std.proofs.Common.{◌≡◌, ℕ, ◌+◌, ◌<◌, ◌≤◌, List, [], ◌∷◌, ◌++◌, Option, Some, None, Bool, true, false, cond, refl, sym, ap, subst, ◌∙◌, arith, inl, inr}
+use Rattle.std.specs.Prelude.{nat_eq, slice_get, All, IfSome, unwrap_or, ◌&&◌}
 use Rattle.std.specs.Option.{option_map_or}
-use Rattle.std.proofs.lemmas.Bool.{cases_Bool, and_parts, eqb-true, false≢true}
+use Rattle.std.proofs.lemmas.Bool.{and_parts, eqb-true}
 use Rattle.std.proofs.lemmas.Option.{none-some, same_Some, slice_get_within, get_or_from_slice_get}
 use Rattle.std.proofs.lemmas.List.Elements.{All-tail}
 use Rattle.disp_model.specs.declared.train.Op.{Op}
@@ -16,13 +16,12 @@ use Rattle.disp_model.specs.Plan.{start_of, operations_of}
 use Rattle.disp_model.specs.Fixing.{IsMet}
 use Rattle.disp_model.specs.Valid.{train_at, operation_of, MayStart, IsValid}
 use Rattle.disp_model.specs.Follows.{Follows}
-use Rattle.disp_model.specs.Routes.{Starts, HasNoRoute, IsForced}
-use Rattle.disp_model.specs.Arcs.{IsArc, HasArc}
-use Rattle.disp_model.specs.Walks.{fixed_start, lower_of, upper_of, WalksOn, IsWalk, EndsIn, ClosesTo, IsCycle, HasCycle}
-use Rattle.disp_model.specs.Nodes.{HasLate, IsDead}
+use Rattle.disp_model.specs.Routes.{HasNoRoute, IsForced}
+use Rattle.disp_model.specs.Walks.{fixed_start, lower_of, upper_of, WalksOn, IsWalk, EndsIn, ClosesTo, IsCycle}
+use Rattle.disp_model.specs.Nodes.{IsDead}
 use Rattle.disp_model.proofs.Branching.{IsStartedAt, one_place}
 use Rattle.disp_model.proofs.Positions.{start_is_started, named_at}
-use Rattle.disp_model.proofs.Arcs.{Holds, some_is, run_allowed, forced_is_run, arc_holds}
+use Rattle.disp_model.proofs.Arcs.{some_is, run_allowed, forced_is_run, arc_holds}
 
 -- one event starts an operation
 pub one_event : (problem : Problem) (fixings : List Fixing) (plan : List Event) (o : Op) (i j : ℕ) (e f : Event) → IsValid problem fixings plan → IsStartedAt plan o i e → IsStartedAt plan o j f → e ≡ f
@@ -77,7 +76,7 @@ may_start problem fixings plan o i e valid started =
     subst (λ (f : Event). IfSome (operation_of problem f) (λ o. MayStart o f.time)) (get_or_from_slice_get plan i e e started.0) (valid.windows i e (slice_get_within plan i e started.0)) in
     let own : slice_get (train_at problem o.train) o.op ≡ Some p.0 =
     subst (λ (n : ℕ). slice_get (train_at problem o.train) n ≡ Some p.0) started.1.operation (subst (λ (t : ℕ). slice_get (train_at problem t) e.operation ≡ Some p.0) started.1.train p.1) in
-    (p.0 , own , subst (λ (found : Option Operation). IfSome found (λ o. MayStart o e.time)) p.1 window)
+    (p.0, own, subst (λ (found : Option Operation). IfSome found (λ o. MayStart o e.time)) p.1 window)
 
 lower_at : (time lower : ℕ) (fixed : Option ℕ) → ((s : ℕ) → fixed ≡ Some s → time ≡ s) → lower ≤ time → unwrap_or fixed lower ≤ time
 lower_at time lower None is le = le
@@ -107,7 +106,7 @@ ends_one u o (x ∷ y ∷ front) same = absurd cc
 
 ends_more : (u v o : Op) (rest : List Op) (front : List Op) → u ∷ v ∷ rest ≡ front ++ o ∷ [] → EndsIn (v ∷ rest) o
 ends_more u v o rest [] same = absurd cc
-ends_more u v o rest (x ∷ front) same = (front , cc same)
+ends_more u v o rest (x ∷ front) same = (front, cc same)
 
 walks_on : (problem : Problem) (fixings : List Fixing) (plan : List Event) (decisions : List Decision) → IsValid problem fixings plan → Follows plan decisions
     → (u : Op) (walked : ℕ) (rest : List Op) (total : ℕ) → WalksOn problem fixings decisions u walked rest total → (i : ℕ) (e : Event) → IsStartedAt plan u i e → walked ≤ e.time
@@ -150,7 +149,7 @@ in_time problem fixings plan decisions walk total o upper valid follows is ends 
     omega (arith, walk_holds problem fixings plan decisions walk total o there.0 there.1 valid follows is ends there.2, starts_until_upper problem fixings plan o there.0 there.1 upper valid there.2 at)
 
 pub has_routes : (problem : Problem) (fixings : List Fixing) (plan : List Event) (decisions : List Decision) → IsValid problem fixings plan → Follows plan decisions → HasNoRoute problem fixings decisions → ⊥
-has_routes problem fixings plan decisions valid follows none = none.2 (operations_of none.0 plan , run_allowed problem fixings plan decisions none.0 valid follows none.1)
+has_routes problem fixings plan decisions valid follows none = none.2 (operations_of none.0 plan, run_allowed problem fixings plan decisions none.0 valid follows none.1)
 
 -- a node that a valid plan follows is not dead
 pub not_dead : (problem : Problem) (fixings : List Fixing) (plan : List Event) (decisions : List Decision) → IsValid problem fixings plan → Follows plan decisions → IsDead problem fixings decisions → ⊥
@@ -158,9 +157,9 @@ not_dead problem fixings plan decisions valid follows dead =
     elim dead [
       | inl none ↦ has_routes problem fixings plan decisions valid follows none
       | inr rest ↦ elim rest [
-          | inl cycle ↦ no_cycle problem fixings plan decisions cycle.0 valid follows cycle.1
-          | inr late ↦
-              let reached = late.longest.reached in
-              omega (arith, late.late, in_time problem fixings plan decisions reached.0 late.total late.operation late.upper valid follows reached.3 reached.1 late.upper_is)
-        ]
+        | inl cycle ↦ no_cycle problem fixings plan decisions cycle.0 valid follows cycle.1
+        | inr late ↦
+            let reached = late.longest.reached in
+            omega (arith, late.late, in_time problem fixings plan decisions reached.0 late.total late.operation late.upper valid follows reached.3 reached.1 late.upper_is)
+      ]
     ]

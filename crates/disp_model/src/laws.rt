@@ -29,24 +29,21 @@ pub fn branching_covers()
     ensures { (problem : Problem) (fixings : List Fixing) (plan : List Event) (decisions : List Decision) (choice : Choice)
         → IsValid problem fixings plan → Follows plan decisions → IsChoice problem choice
         → (child : Decision) × Contains (children_of problem choice) child × Follows plan (decisions ++ child ∷ []) }
-{
-}
+{}
 
 /// In a valid plan that follows the decisions the run of each train is an allowed route.
 pub fn runs_are_allowed()
     ensures { (problem : Problem) (fixings : List Fixing) (plan : List Event) (decisions : List Decision) (t : ℕ)
         → IsValid problem fixings plan → Follows plan decisions → t < length problem.trains
         → IsAllowed problem fixings decisions t (operations_of t plan) }
-{
-}
+{}
 
 /// In a valid plan that follows the decisions each forced operation is run.
 pub fn forced_are_run()
     ensures { (problem : Problem) (fixings : List Fixing) (plan : List Event) (decisions : List Decision) (o : Op)
         → IsValid problem fixings plan → Follows plan decisions → IsForced problem fixings decisions o
         → (i : ℕ) × (e : Event) × (slice_get plan i ≡ Some e) × Starts o e }
-{
-}
+{}
 
 /// In a valid plan that follows the decisions the end of an arc stands behind its beginning, and starts
 /// at least the arc's length after it.
@@ -55,8 +52,7 @@ pub fn arcs_hold()
         → IsValid problem fixings plan → Follows plan decisions → IsArc problem fixings decisions u v arc_length
         → slice_get plan i ≡ Some e → Starts u e → slice_get plan j ≡ Some f → Starts v f
         → (i < j) × (e.time + arc_length ≤ f.time) }
-{
-}
+{}
 
 /// In a valid plan that follows the decisions a walk is no longer than the start of its end, and no
 /// longer than that end's upper.
@@ -67,16 +63,14 @@ pub fn walks_hold()
     ensures uppers { (problem : Problem) (fixings : List Fixing) (plan : List Event) (decisions : List Decision) (walk : List Op) (total : ℕ) (o : Op) (upper : ℕ)
         → IsValid problem fixings plan → Follows plan decisions → IsWalk problem fixings decisions walk total → EndsIn walk o
         → upper_of problem fixings o ≡ Some upper → total ≤ upper }
-{
-}
+{}
 
 /// A node whose decisions a valid plan follows is not dead: each train has an allowed route, the arcs
 /// have no cycle, and no forced operation's longest walk is longer than its upper.
 pub fn followed_is_not_dead()
     ensures { (problem : Problem) (fixings : List Fixing) (plan : List Event) (decisions : List Decision)
         → IsValid problem fixings plan → Follows plan decisions → IsDead problem fixings decisions → ⊥ }
-{
-}
+{}
 
 /// Costs grow: a component costs no less at a later start; walks to distinct components cost together no
 /// more than a valid plan that follows the decisions.
@@ -85,16 +79,14 @@ pub fn costs_grow()
     ensures together { (problem : Problem) (fixings : List Fixing) (plan : List Event) (decisions : List Decision) (walks : List ComponentWalk) (sum : ℕ)
         → IsValid problem fixings plan → Follows plan decisions → HaveDistinct walks → WalksCost problem fixings decisions walks sum
         → sum ≤ cost_of problem.components plan }
-{
-}
+{}
 
 /// A node's bound is at most the cost of every valid plan that follows its decisions.
 pub fn bound_holds()
     ensures { (problem : Problem) (fixings : List Fixing) (plan : List Event) (decisions : List Decision) (bound : ℕ)
         → IsValid problem fixings plan → Follows plan decisions → IsBound problem fixings decisions bound
         → bound ≤ cost_of problem.components plan }
-{
-}
+{}
 
 /// A tree's yes: where a tree is accepted for 'optimal' with a cost no valid plan costs less, and where
 /// it is accepted for 'infeasible' no plan is valid.
@@ -103,8 +95,7 @@ pub fn trees_say_yes()
         → Accepts problem fixings (Optimal cost) tree → IsValid problem fixings plan → cost ≤ cost_of problem.components plan }
     ensures infeasible { (problem : Problem) (fixings : List Fixing) (tree : List TreeNode)
         → Accepts problem fixings Infeasible tree → IsInfeasible problem fixings }
-{
-}
+{}
 
 /// What is picked: a choice that a branch may have, of which no child is decided there; a route's
 /// operation goes on to two successors on allowed routes.
@@ -117,8 +108,7 @@ pub fn picked_is_open()
         → IsPicked problem fixings decisions (Some (Route o))
         → (one other : List ℕ) × (next another : ℕ) × IsAllowed problem fixings decisions o.train one × IsAllowed problem fixings decisions o.train other
         × (after o.op one ≡ Some next) × (after o.op other ≡ Some another) × (next ≢ another) }
-{
-}
+{}
 
 /// None is picked exactly where each train has one allowed route and the earliest plan is valid; then its
 /// cost is the bound.
@@ -128,5 +118,4 @@ pub fn unpicked_costs_bound()
     ensures costs { (problem : Problem) (fixings : List Fixing) (decisions : List Decision) (plan : List Event) (bound : ℕ)
         → IsEarliest problem fixings decisions plan → IsValid problem fixings plan → IsBound problem fixings decisions bound
         → cost_of problem.components plan ≡ bound }
-{
-}
+{}

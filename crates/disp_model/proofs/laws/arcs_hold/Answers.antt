@@ -3,5 +3,5 @@ use Rattle.disp_model.proofs.laws.arcs_hold.Goals as goal
 
 pub returns : goal.returns
 returns c = λ problem fixings plan decisions u v arc_length i j e f valid follows arc at starts there ends.
-    let holds = arc_holds problem fixings plan decisions u v arc_length i j e f valid follows arc (at , starts) (there , ends) in
-    (holds.position , holds.time)
+    let holds = arc_holds problem fixings plan decisions u v arc_length i j e f valid follows arc (at, starts) (there, ends) in
+    (holds.position, holds.time)

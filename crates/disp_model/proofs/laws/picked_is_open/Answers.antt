@@ -7,5 +7,5 @@ returns c = record {
   undecided = picked_is_open;
   two_ways = λ problem fixings decisions o picked.
       let ways = fork_goes_two_ways problem fixings decisions o picked.fork in
-      (ways.one , ways.other , ways.one_next , ways.other_next , ways.one_allowed , ways.other_allowed , ways.one_goes , ways.other_goes , ways.apart);
+      (ways.one, ways.other, ways.one_next, ways.other_next, ways.one_allowed, ways.other_allowed, ways.one_goes, ways.other_goes, ways.apart);
 }
