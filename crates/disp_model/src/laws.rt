@@ -8,6 +8,7 @@ ghost use Rattle.disp_model.specs.declared.plan.Event.{Event};
 ghost use Rattle.disp_model.specs.declared.decision.Decision.{Decision};
 ghost use Rattle.disp_model.specs.declared.decision.Choice.{Choice};
 ghost use Rattle.disp_model.specs.declared.decision.Choice.TheVariants.{Route};
+ghost use Rattle.disp_model.specs.declared.reply.Reply.TheVariants.{Accepted};
 ghost use Rattle.disp_model.specs.declared.tree.ComponentWalk.{ComponentWalk};
 ghost use Rattle.disp_model.specs.declared.tree.TreeNode.{TreeNode};
 ghost use Rattle.disp_model.specs.declared.tree.Verdict.TheVariants.{Optimal, Infeasible};
@@ -16,11 +17,12 @@ ghost use Rattle.disp_model.specs.Fixing.{after};
 ghost use Rattle.disp_model.specs.Cost.{cost_at, cost_of, IsInfeasible};
 ghost use Rattle.disp_model.specs.Valid.{IsValid};
 ghost use Rattle.disp_model.specs.Follows.{Follows};
-ghost use Rattle.disp_model.specs.Routes.{Starts, IsAllowed, IsForced};
-ghost use Rattle.disp_model.specs.Arcs.{IsArc};
-ghost use Rattle.disp_model.specs.Walks.{upper_of, IsWalk, EndsIn, IsLongest, HasCycle};
+ghost use Rattle.disp_model.specs.Routes.{Starts, IsAllowed, HasRoute, HasNoRoute, IsForced};
+ghost use Rattle.disp_model.specs.Arcs.{IsArc, IsTrainArc, IsReleaseArc};
+ghost use Rattle.disp_model.specs.Walks.{lower_of, upper_of, IsWalk, EndsIn, IsLongest, HasCycle};
 ghost use Rattle.disp_model.specs.Nodes.{IsDead, IsBound};
 ghost use Rattle.disp_model.specs.Trees.{IsChoice, children_of, HaveDistinct, WalksCost, Accepts};
+ghost use Rattle.disp_model.specs.Replies.{IsReply};
 ghost use Rattle.disp_model.specs.Earliest.{IsEarliest, IsPicked};
 
 /// Branching covers: a valid plan that follows the decisions follows them with one of the choice's
@@ -119,3 +121,27 @@ pub fn unpicked_costs_bound()
         → IsEarliest problem fixings decisions plan → IsValid problem fixings plan → IsBound problem fixings decisions bound
         → cost_of problem.components plan ≡ bound }
 {}
+
+/// Fixings only tighten: with more of them allowed routes are among those before, a train without one has
+/// none, what is forced stays forced while its train has a route, an arc in a train is no shorter, and an
+/// arc from what follows a holder stays. With an accepted one no lower falls and no upper rises.
+pub fn fixings_tighten()
+    ensures routes { (problem : Problem) (fixings more : List Fixing) (decisions : List Decision) (t : ℕ) (route : List ℕ)
+        → IsAllowed problem (fixings ++ more) decisions t route → IsAllowed problem fixings decisions t route }
+    ensures none { (problem : Problem) (fixings more : List Fixing) (decisions : List Decision)
+        → HasNoRoute problem fixings decisions → HasNoRoute problem (fixings ++ more) decisions }
+    ensures forced { (problem : Problem) (fixings more : List Fixing) (decisions : List Decision) (o : Op)
+        → IsForced problem fixings decisions o → HasRoute problem (fixings ++ more) decisions o.train
+        → IsForced problem (fixings ++ more) decisions o }
+    ensures train_arcs { (problem : Problem) (fixings more : List Fixing) (decisions : List Decision) (u v : Op) (before behind : ℕ)
+        → IsTrainArc problem fixings decisions u v before → IsTrainArc problem (fixings ++ more) decisions u v behind → before ≤ behind }
+    ensures release_arcs { (problem : Problem) (fixings more : List Fixing) (decisions : List Decision) (n b : Op) (arc_length : ℕ)
+        → IsReleaseArc problem fixings decisions n b arc_length → HasRoute problem (fixings ++ more) decisions n.train
+        → IsReleaseArc problem (fixings ++ more) decisions n b arc_length }
+    ensures lowers { (problem : Problem) (fixings : List Fixing) (fixing : Fixing) (number : ℕ) (o : Op)
+        → IsReply problem fixings fixing (Accepted number) → lower_of problem fixings o ≤ lower_of problem (fixings ++ fixing ∷ []) o }
+    ensures uppers { (problem : Problem) (fixings : List Fixing) (fixing : Fixing) (number : ℕ) (o : Op) (upper : ℕ)
+        → IsReply problem fixings fixing (Accepted number) → upper_of problem fixings o ≡ Some upper
+        → (u : ℕ) × (upper_of problem (fixings ++ fixing ∷ []) o ≡ Some u) × (u ≤ upper) }
+{
+}
