@@ -1,6 +1,6 @@
 -- An accepted fixing only tightens: fewer routes, more that is forced, later lowers, earlier uppers.
-use Rattle.std.proofs.Common.{◌≡◌, ℕ, zero, suc, ◌+◌, ◌<◌, ◌≤◌, List, [], ◌∷◌, ◌++◌, length, get_or, Option, Some, None, Bool, true, false, cond, refl, sym, ap, subst, ◌∙◌, arith, rules, inl, inr}
-use Rattle.std.specs.Prelude.{nat_eq, slice_get, slice_index_or, Contains, All, IfSome, MatchOption, unwrap_or, ◌⊎◌, ◌&&◌}
+use Rattle.std.proofs.Common.{◌≡◌, ℕ, ◌<◌, ◌≤◌, List, [], ◌∷◌, ◌++◌, Option, Some, None, Bool, true, false, cond, refl, sym, subst, arith, inl, inr}
+use Rattle.std.specs.Prelude.{nat_eq, slice_get, All, IfSome, MatchOption, unwrap_or, ◌&&◌}
 use Rattle.std.specs.Option.{option_map_or, option_or}
 use Rattle.std.proofs.lemmas.Bool.{cases_lt, and_parts, eqb-true}
 use Rattle.std.proofs.lemmas.Option.{none-some, same_Some, get_or_from_slice_get}
@@ -11,7 +11,7 @@ use Rattle.disp_model.specs.declared.fixing.Fixing.{Fixing}
 use Rattle.disp_model.specs.declared.fixing.Fixing.TheVariants.{Started, Chosen}
 use Rattle.disp_model.specs.declared.decision.Decision.{Decision}
 use Rattle.disp_model.specs.declared.reply.Reply.{Reply}
-use Rattle.disp_model.specs.declared.reply.Reply.TheVariants.{Accepted, Known, Refused}
+use Rattle.disp_model.specs.declared.reply.Reply.TheVariants.{Accepted, Refused}
 use Rattle.disp_model.specs.declared.reply.Refusal.TheVariants.{NoTrain, NoOperation, TooLarge, BelowLower, AboveUpper}
 use Rattle.disp_model.specs.declared.problem.Problem.{Problem}
 use Rattle.disp_model.specs.Valid.{train_at}
@@ -40,7 +40,7 @@ still_forced problem fixings more decisions o forced left = record {
 }
 
 pub still_none : (problem : Problem) (fixings more : List Fixing) (decisions : List Decision) → HasNoRoute problem fixings decisions → HasNoRoute problem (fixings ++ more) decisions
-still_none problem fixings more decisions none = (none.0 , none.1 , λ left. none.2 (left.0 , routes_before problem fixings more decisions none.0 left.0 left.1))
+still_none problem fixings more decisions none = (none.0, none.1, λ left. none.2 (left.0, routes_before problem fixings more decisions none.0 left.0 left.1))
 
 pub train_arc_grows : (problem : Problem) (fixings more : List Fixing) (decisions : List Decision) (u v : Op) (before behind : ℕ) → IsTrainArc problem fixings decisions u v before → IsTrainArc problem (fixings ++ more) decisions u v behind → before ≤ behind
 train_arc_grows problem fixings more decisions u v before behind old new =
@@ -52,7 +52,7 @@ release_arc_stays problem fixings more decisions n b arc_length arc left = recor
   decided = arc.decided;
   forced = still_forced problem fixings more decisions arc.holder arc.forced (subst (HasRoute problem (fixings ++ more) decisions) arc.goes_to.0 left);
   conflicts = arc.conflicts;
-  goes_to = (arc.goes_to.0 , λ route allowed. arc.goes_to.1 route (routes_before problem fixings more decisions arc.holder.train route allowed));
+  goes_to = (arc.goes_to.0, λ route allowed. arc.goes_to.1 route (routes_before problem fixings more decisions arc.holder.train route allowed));
   length_is = arc.length_is;
 }
 
@@ -71,9 +71,9 @@ until problem fixings t o time n p reply = by_upper p.upper refl
     by_upper : (upper : Option ℕ) → p.upper ≡ upper → IfSome upper (λ u. time ≤ u)
     by_upper None at = tt
     by_upper (Some u) at =
-      let large = within_row (Refused TooLarge) n (λ e. absurd cc) reply in
-      let low = within_row (Refused (BelowLower p.lower)) n (λ e. absurd cc) large.1 in
-      at_least time u (within_row (Refused (AboveUpper u)) n (λ e. absurd cc) (rw at at low.1)).0
+        let large = within_row (Refused TooLarge) n (λ e. absurd cc) reply in
+        let low = within_row (Refused (BelowLower p.lower)) n (λ e. absurd cc) large.1 in
+        at_least time u (within_row (Refused (AboveUpper u)) n (λ e. absurd cc) (rw at at low.1)).0
 
 -- what an accepted start says of the operation and its time
 pub accepted_start : (problem : Problem) (fixings : List Fixing) (t o time n : ℕ) → IsReply problem fixings (Started t o time) (Accepted n) → (p : Operation) × (slice_get (train_at problem t) o ≡ Some p) × (p.lower ≤ time) × IfSome p.upper (λ u. time ≤ u)
@@ -84,10 +84,10 @@ accepted_start problem fixings t o time n reply = by_train (slice_get problem.tr
         → (p : Operation) × (slice_get (train_at problem t) o ≡ Some p) × (p.lower ≤ time) × IfSome p.upper (λ u. time ≤ u)
     by_operation train own None at reply = absurd cc
     by_operation train own (Some p) at reply =
-      let place : train_at problem t ≡ train = get_or_from_slice_get problem.trains t train [] own in
-      let large = within_row (Refused TooLarge) n (λ e. absurd cc) reply in
-      let low = within_row (Refused (BelowLower p.lower)) n (λ e. absurd cc) large.1 in
-      (p , subst (λ (l : List Operation). slice_get l o ≡ Some p) (sym place) at , at_least p.lower time low.0 , until problem fixings t o time n p reply)
+        let place : train_at problem t ≡ train = get_or_from_slice_get problem.trains t train [] own in
+        let large = within_row (Refused TooLarge) n (λ e. absurd cc) reply in
+        let low = within_row (Refused (BelowLower p.lower)) n (λ e. absurd cc) large.1 in
+        (p, subst (λ (l : List Operation). slice_get l o ≡ Some p) (sym place) at, at_least p.lower time low.0, until problem fixings t o time n p reply)
 
     by_train : (found : Option (List Operation)) → slice_get problem.trains t ≡ found
         → MatchOption found (Accepted n ≡ Refused NoTrain) (λ train. MatchOption (slice_get train o) (Accepted n ≡ Refused NoOperation) (λ operation. RepliesToStart problem fixings t o time operation (Accepted n)))
@@ -118,13 +118,13 @@ fixed_within problem fixings (Started t p time) n o s reply at = here ((nat_eq t
         → (q : Operation) × (slice_get (train_at problem o.train) o.op ≡ Some q) × (q.lower ≤ s) × IfSome q.upper (λ u. s ≤ u)
     here false is at = absurd (none-some s at)
     here true is at =
-      let both = and_parts (nat_eq t o.train) (nat_eq p o.op) is in
-      let found = accepted_start problem fixings t p time n reply in
-      let time_is : time ≡ s = same_Some time s at in
-      let place : slice_get (train_at problem o.train) o.op ≡ Some found.0 =
+        let both = and_parts (nat_eq t o.train) (nat_eq p o.op) is in
+        let found = accepted_start problem fixings t p time n reply in
+        let time_is : time ≡ s = same_Some time s at in
+        let place : slice_get (train_at problem o.train) o.op ≡ Some found.0 =
         subst (λ (u : ℕ). slice_get (train_at problem u) o.op ≡ Some found.0) (eqb-true t o.train both.0)
         (subst (λ (q : ℕ). slice_get (train_at problem t) q ≡ Some found.0) (eqb-true p o.op both.1) found.1) in
-      (found.0 , place , omega (arith, found.2, time_is) , subst (λ (x : ℕ). IfSome found.0.upper (λ u. x ≤ u)) time_is found.3)
+        (found.0, place, omega (arith, found.2, time_is), subst (λ (x : ℕ). IfSome found.0.upper (λ u. x ≤ u)) time_is found.3)
 
 pub lower_grows : (problem : Problem) (fixings : List Fixing) (fixing : Fixing) (n : ℕ) (o : Op) → IsReply problem fixings fixing (Accepted n) → lower_of problem fixings o ≤ lower_of problem (fixings ++ fixing ∷ []) o
 lower_grows problem fixings fixing n o reply =
@@ -144,11 +144,11 @@ upper_falls problem fixings fixing n o upper reply at =
     by : (old new : Option ℕ) → ((s : ℕ) → new ≡ Some s → (p : Operation) × (slice_get (train_at problem o.train) o.op ≡ Some p) × (p.lower ≤ s) × IfSome p.upper (λ u. s ≤ u))
         → option_map_or Some old (option_map_or (λ p. p.upper) (slice_get (train_at problem o.train) o.op) None) ≡ Some upper
         → (u : ℕ) × (option_map_or Some (option_or old new) (option_map_or (λ p. p.upper) (slice_get (train_at problem o.train) o.op) None) ≡ Some u) × (u ≤ upper)
-    by (Some s) new within at = (upper , at , omega arith)
-    by None None within at = (upper , at , omega arith)
+    by (Some s) new within at = (upper, at, omega arith)
+    by None None within at = (upper, at, omega arith)
     by None (Some s) within at =
-      let p = within s refl in
-      (s , refl , fits p.0.upper p.3 (rw p.1 at at))
+        let p = within s refl in
+        (s, refl, fits p.0.upper p.3 (rw p.1 at at))
       where
         fits : (own : Option ℕ) → IfSome own (λ u. s ≤ u) → own ≡ Some upper → s ≤ upper
         fits None le at = absurd (none-some upper at)

@@ -143,5 +143,4 @@ pub fn fixings_tighten()
     ensures uppers { (problem : Problem) (fixings : List Fixing) (fixing : Fixing) (number : ℕ) (o : Op) (upper : ℕ)
         → IsReply problem fixings fixing (Accepted number) → upper_of problem fixings o ≡ Some upper
         → (u : ℕ) × (upper_of problem (fixings ++ fixing ∷ []) o ≡ Some u) × (u ≤ upper) }
-{
-}
+{}
