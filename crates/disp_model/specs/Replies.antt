@@ -1,5 +1,5 @@
 -- The reply to a fixing: that of the first row that holds.
-use Rattle.std.specs.Prelude.{◌≡◌, ◌⊎◌, ℕ, ◌+◌, ◌<◌, ◌==◌, ◌&&◌, Bool, false, List, [], ◌∷◌, ◌++◌, length, Option, Some, None, MatchOption, slice_get, if◌then◌else◌}
+use Rattle.std.specs.Prelude.{◌≡◌, ◌⊎◌, ℕ, ◌+◌, ◌<◌, ◌==◌, ◌&&◌, Bool, false, List, [], ◌∷◌, ◌++◌, length, take, Option, Some, None, MatchOption, slice_get, if◌then◌else◌}
 use Rattle.std.specs.Option.{option_map}
 use Rattle.disp_model.specs.declared.train.Op.{Op}
 use Rattle.disp_model.specs.declared.train.Operation.{Operation}
@@ -76,3 +76,7 @@ IsReply problem fixings (Started t o time) reply =
 IsReply problem fixings (Chosen t o next) reply =
     MatchOption (slice_get problem.trains t) (reply ≡ Refused NoTrain)
     (λ train. MatchOption (slice_get train o) (reply ≡ Refused NoOperation) (λ operation. RepliesToChoice problem fixings t o next reply))
+
+-- the fixings are those of an edition: each was accepted behind the ones before it, with the next number
+abbrev pub IsEdition : Problem → List Fixing → Type 0
+IsEdition problem fixings = (i : ℕ) (fixing : Fixing) → slice_get fixings i ≡ Some fixing → IsReply problem (take i fixings) fixing (Accepted (i + 1))

@@ -119,9 +119,14 @@ abbrev pub FitsChoice : Choice → Type 0
 FitsChoice (Route o) = FitsOp o
 FitsChoice (Order a b) = FitsOp a × FitsOp b
 
+-- how many children a branch has that can be written: at least one of a route, two of an order
+abbrev pub FitsChildren : Choice → ℕ → Type 0
+FitsChildren (Route o) children = (1 ≤ children) × (children ≤ MOST_COMPONENTS)
+FitsChildren (Order a b) children = children ≡ 2
+
 -- a node of a tree that can be written: numbers up to 2147483647, and counts up to 1048575
 abbrev pub FitsNode : TreeNode → Type 0
-FitsNode (Branch choice children) = FitsChoice choice × (children ≤ MOST_COMPONENTS)
+FitsNode (Branch choice children) = FitsChoice choice × FitsChildren choice children
 FitsNode (Leaf leaf) = FitsLeaf leaf
 
 -- a verdict that can be written

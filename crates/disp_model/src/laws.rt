@@ -1,5 +1,5 @@
 // Laws over the definitions, each the contract of a function without a body, for every crate to cite.
-ghost use Rattle.std.specs.Prelude.{◌≡◌, ◌≢◌, ◌↔◌, ◌+◌, ◌<◌, ◌≤◌, ℕ, List, [], ◌∷◌, ◌++◌, Contains, Some, None, slice_get, length};
+ghost use Rattle.std.specs.Prelude.{◌≡◌, ◌≢◌, ◌⊎◌, ◌↔◌, ◌+◌, ◌<◌, ◌≤◌, ℕ, List, [], ◌∷◌, ◌++◌, Contains, Some, None, slice_get, length};
 ghost use Rattle.disp_model.specs.declared.problem.Problem.{Problem};
 ghost use Rattle.disp_model.specs.declared.train.Component.{Component};
 ghost use Rattle.disp_model.specs.declared.train.Op.{Op};
@@ -144,3 +144,15 @@ pub fn fixings_tighten()
         → IsReply problem fixings fixing (Accepted number) → upper_of problem fixings o ≡ Some upper
         → (u : ℕ) × (upper_of problem (fixings ++ fixing ∷ []) o ≡ Some u) × (u ≤ upper) }
 {}
+
+/// The allowed routes of a train are a finite list; so whether there is one, and whether an operation is
+/// forced, is decided.
+pub fn allowed_routes_are_listed()
+    ensures listed { (problem : Problem) (fixings : List Fixing) (decisions : List Decision) (t : ℕ) → t < length problem.trains
+        → (routes : List (List ℕ)) × ((route : List ℕ) → IsAllowed problem fixings decisions t route ↔ Contains routes route) }
+    ensures route { (problem : Problem) (fixings : List Fixing) (decisions : List Decision) (t : ℕ) → t < length problem.trains
+        → HasRoute problem fixings decisions t ⊎ (HasRoute problem fixings decisions t → ⊥) }
+    ensures forced { (problem : Problem) (fixings : List Fixing) (decisions : List Decision) (o : Op)
+        → IsForced problem fixings decisions o ⊎ (IsForced problem fixings decisions o → ⊥) }
+{
+}

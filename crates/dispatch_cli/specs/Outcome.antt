@@ -44,6 +44,15 @@ line_of NotJson = codes "problem: NotJson\n"
 line_of NotPlain = codes "problem: NotPlain\n"
 line_of Memory = codes "memory\n"
 
+-- what is due where something stopped a run, before the line for want of memory: nothing where that is what stopped it
+abbrev pub due_line : Cause → List ℕ
+due_line Words = line_of Words
+due_line Failed = line_of Failed
+due_line TooLong = line_of TooLong
+due_line NotJson = line_of NotJson
+due_line NotPlain = line_of NotPlain
+due_line Memory = []
+
 -- the status for what stopped a run
 abbrev pub status_of : Cause → ℕ
 status_of Words = 2
@@ -154,12 +163,13 @@ abbrev pub Fails : List (List ℕ) → Holdings → Counts → Counts → ℕ �
 Fails words holds old_counts new_counts old_faults new_faults old new =
     CannotRead words holds old_counts new_counts old_faults new_faults old new ⊎ CannotWrite words holds old_faults new_faults old new
 
--- the text is what would have been written, or there was none yet
+-- the text is what would have been written: the lines of a solved problem, the line for what stopped the run, or
+-- nothing where that was want of memory
 abbrev pub IsDue : List (List ℕ) → Holdings → Counts → Counts → List ℕ → Type 0
 IsDue words holds old_counts new_counts text =
-    (text ≡ []) ⊎ (IsSolved words holds text ⊎ ((cause : Cause) × Stops words holds old_counts new_counts cause × (text ≡ line_of cause)))
+    IsSolved words holds text ⊎ ((cause : Cause) × Stops words holds old_counts new_counts cause × (text ≡ due_line cause))
 
--- status 5: some of what would have been written went out, and some of the line for want of memory behind it
+-- status 5: some of what would have been written went out, and behind it some of the line for want of memory, once
 pub record GivesUp (words : List (List ℕ)) (holds : Holdings) (old_counts new_counts : Counts) (old new : Option (List ℕ)) : Type 0 where
   pub text : List ℕ
   pub due : IsDue words holds old_counts new_counts text
@@ -189,4 +199,4 @@ pub record Halts (old_faults new_faults : ℕ) (old new : Option (List ℕ)) (ca
   pub statuses : (status ≡ status_of cause) ⊎ (status ≡ 5)
   pub part : status ≢ 5 → WritesPart old new (line_of cause)
   pub whole : status ≢ 5 → new_faults ≡ old_faults → Writes old new (line_of cause)
-  pub memory : status ≡ 5 → WritesThenGivesUp old new (line_of cause)
+  pub memory : status ≡ 5 → WritesThenGivesUp old new (due_line cause)
