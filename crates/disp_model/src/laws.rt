@@ -154,5 +154,4 @@ pub fn allowed_routes_are_listed()
         → HasRoute problem fixings decisions t ⊎ (HasRoute problem fixings decisions t → ⊥) }
     ensures forced { (problem : Problem) (fixings : List Fixing) (decisions : List Decision) (o : Op)
         → IsForced problem fixings decisions o ⊎ (IsForced problem fixings decisions o → ⊥) }
-{
-}
+{}

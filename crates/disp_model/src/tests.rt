@@ -68,11 +68,23 @@ fn texts_and_names_are_copied(rt: HostRuntime) -> Result<(), Fail> {
 
 #[test]
 fn the_limits_are_those_of_the_formats(rt: HostRuntime) -> Result<(), Fail> {
-    assert_eq!(rt; (MOST_TRAINS, MOST_OPERATIONS, MOST_COMPONENTS), (65535, 1048575, 1048575));
-    assert_eq!(rt; (GREATEST_NUMBER, GREATEST_COST), (2147483647, 9223372036854775807));
-    assert_eq!(rt; (MOST_EVENTS, GREATEST_EVENT_TIME), (1048575, 4611686018427387904));
+    assert_eq!(rt;
+        (MOST_TRAINS, MOST_OPERATIONS, MOST_COMPONENTS),
+        (65535, 1048575, 1048575)
+    );
+    assert_eq!(rt;
+        (GREATEST_NUMBER, GREATEST_COST),
+        (2147483647, 9223372036854775807)
+    );
+    assert_eq!(rt;
+        (MOST_EVENTS, GREATEST_EVENT_TIME),
+        (1048575, 4611686018427387904)
+    );
     assert_eq!(rt; (MOST_FIXINGS, MOST_CALLERS), (65535, 64));
-    assert_eq!(rt; (MOST_LINE_BYTES, MOST_LINES, MOST_FILE_BYTES), (256, 1048576, 268435456));
+    assert_eq!(rt;
+        (MOST_LINE_BYTES, MOST_LINES, MOST_FILE_BYTES),
+        (256, 1048576, 268435456)
+    );
     Ok(())
 }
 
@@ -127,7 +139,10 @@ fn a_tree_and_the_outcome_of_a_search_are_copied(rt: HostRuntime) -> Result<(), 
         bound: 18,
     };
     let copy = alone.copy()?;
-    assert_eq!(rt; (copy.answer, copy.spent, copy.bound), (Answer::Optimal(18), 1, 18));
+    assert_eq!(rt;
+        (copy.answer, copy.spent, copy.bound),
+        (Answer::Optimal(18), 1, 18)
+    );
     assert_eq!(rt; copy.plan.is_some(), true);
     assert_eq!(rt; copy.tree.len(), 5);
     Ok(())

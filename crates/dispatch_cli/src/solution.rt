@@ -31,7 +31,6 @@ fn push_index(text: &mut String, index: u32) -> Result<(), Memory>
 }
 
 /// Adds the text of an event.
-
 fn push_event(text: &mut String, event: &Event) -> Result<(), Memory>
     ensures ok { OnOk result (Adds (string_bytes text.old) (string_bytes text.new) (event_text event.now)) }
 {

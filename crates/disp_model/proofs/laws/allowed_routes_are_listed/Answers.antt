@@ -5,7 +5,7 @@ pub returns : goal.returns
 returns c = record {
   listed = λ problem fixings decisions t there.
       let all = allowed_routes problem fixings decisions t there in
-      (all.routes , λ route. (λ allowed. all.each route allowed , λ found. all.only route found));
+      (all.routes, λ route. (λ allowed. all.each route allowed, λ found. all.only route found));
   route = has_route_or_not;
   forced = is_forced_or_not;
 }
