@@ -80,12 +80,12 @@ passes_sum train route u v total acyclic is passes =
 
 -- ---- a route on which both stand
 
-record Parted (o : ℕ) (l : List ℕ) : Type 0 where
+pub record Parted (o : ℕ) (l : List ℕ) : Type 0 where
   pub before : List ℕ
   pub rest : List ℕ
   pub is : l ≡ before ++ o ∷ rest
 
-parted : (o : ℕ) (l : List ℕ) → IsIn o l → Parted o l
+pub parted : (o : ℕ) (l : List ℕ) → IsIn o l → Parted o l
 parted o [] there = absurd there
 parted o (x ∷ l) (inl same) = record { before = []; rest = l; is = ap (λ (y : ℕ). y ∷ l) same }
 parted o (x ∷ l) (inr there) = let later = parted o l there in record { before = x ∷ later.before; rest = later.rest; is = ap (λ (xs : List ℕ). x ∷ xs) later.is }
@@ -97,7 +97,7 @@ in_parts v (x ∷ before) u rest (inl same) = inl (inl same)
 in_parts v (x ∷ before) u rest (inr there) = elim (in_parts v before u rest there) [ inl h ↦ inl (inr h) | inr h ↦ inr h ]
 
 -- where u leads to v, a route that has both passes u and then v
-passes_both : (train : List Operation) (route : List ℕ) (u v n : ℕ) → IsAcyclic train → IsRoute train route → LeadsTo train n u v → IsIn u route → IsIn v route → (total : ℕ) × Passes train route u v total
+pub passes_both : (train : List Operation) (route : List ℕ) (u v n : ℕ) → IsAcyclic train → IsRoute train route → LeadsTo train n u v → IsIn u route → IsIn v route → (total : ℕ) × Passes train route u v total
 passes_both train route u v n acyclic is leads one other =
     let at = parted u route one in
     let route_is = subst (IsRoute train) at.is is in

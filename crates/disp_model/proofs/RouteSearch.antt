@@ -29,7 +29,7 @@ Decided P = P ⊎ (P → ⊥)
 contained_or_not : (o : ℕ) (ops : List ℕ) → Decided (Contains ops o)
 contained_or_not o ops = elim (in_or_not o ops) [ inl h ↦ inl (contains_in o ops h) | inr n ↦ inr (λ h. n (is_in o ops h)) ]
 
-same_option : (a b : Option ℕ) → Decided (a ≡ b)
+pub same_option : (a b : Option ℕ) → Decided (a ≡ b)
 same_option None None = inl refl
 same_option None (Some y) = inr (λ e. none-some y e)
 same_option (Some x) None = inr (λ e. none-some x (sym e))
@@ -38,10 +38,10 @@ same_option (Some x) (Some y) = elim (cases_Bool (nat_eq x y)) [
     | inr is ↦ inr (λ e. eqb-false x y is (same_Some x y e))
   ]
 
-same_number : (x y : ℕ) → Decided (x ≡ y)
+pub same_number : (x y : ℕ) → Decided (x ≡ y)
 same_number x y = elim (cases_Bool (nat_eq x y)) [ inl is ↦ inl (eqb-true x y is) | inr is ↦ inr (λ e. eqb-false x y is e) ]
 
-both : {P Q : Type 0} → Decided P → Decided Q → Decided (P × Q)
+pub both : {P Q : Type 0} → Decided P → Decided Q → Decided (P × Q)
 both (inl p) (inl q) = inl (p , q)
 both (inl p) (inr n) = inr (λ h. n h.1)
 both (inr n) q = inr (λ h. n h.0)
@@ -51,7 +51,7 @@ implied (inl p) (inl q) = inl (λ h. q)
 implied (inl p) (inr n) = inr (λ h. n (h p))
 implied (inr n) q = inl (λ p. absurd (n p))
 
-denied : {P : Type 0} → Decided P → Decided (P → ⊥)
+pub denied : {P : Type 0} → Decided P → Decided (P → ⊥)
 denied (inl p) = inr (λ n. n p)
 denied (inr n) = inl n
 
