@@ -92,7 +92,7 @@ in_order problem fixings plan u v i j e f n valid same there leads first second 
     itself : (train : List Operation) → IsAcyclic (train_at problem u.train) → u.op ≡ v.op → ⊥
     itself train acyclic alike = acyclic.no_cycle n u.op (subst (λ (p : ℕ). LeadsTo (train_at problem u.train) n u.op p) (sym alike) leads)
 
-passes_leads : (train : List Operation) (route : List ℕ) (u v total : ℕ) → IsRoute train route → Passes train route u v total → (n : ℕ) × LeadsTo train n u v
+pub passes_leads : (train : List Operation) (route : List ℕ) (u v total : ℕ) → IsRoute train route → Passes train route u v total → (n : ℕ) × LeadsTo train n u v
 passes_leads train route u v total is_route passes = route_leads train passes.before u passes.between v passes.behind (subst (IsRoute train) passes.route_is is_route)
 
 pub train_arc_holds : (problem : Problem) (fixings : List Fixing) (plan : List Event) (decisions : List Decision) (u v : Op) (arc_length i j : ℕ) (e f : Event) → IsValid problem fixings plan → Follows plan decisions → u.train < length problem.trains

@@ -11,6 +11,8 @@ ghost use Rattle.disp_model.specs.declared.decision.Choice.TheVariants.{Route};
 ghost use Rattle.disp_model.specs.declared.reply.Reply.TheVariants.{Accepted};
 ghost use Rattle.disp_model.specs.declared.tree.ComponentWalk.{ComponentWalk};
 ghost use Rattle.disp_model.specs.declared.tree.TreeNode.{TreeNode};
+ghost use Rattle.disp_model.specs.declared.tree.Leaf.{Leaf as TreeLeaf};
+ghost use Rattle.disp_model.specs.declared.tree.Verdict.{Verdict};
 ghost use Rattle.disp_model.specs.declared.tree.Verdict.TheVariants.{Optimal, Infeasible};
 ghost use Rattle.disp_model.specs.Plan.{operations_of};
 ghost use Rattle.disp_model.specs.Fixing.{after};
@@ -18,10 +20,10 @@ ghost use Rattle.disp_model.specs.Cost.{cost_at, cost_of, IsInfeasible};
 ghost use Rattle.disp_model.specs.Valid.{IsValid};
 ghost use Rattle.disp_model.specs.Follows.{Follows};
 ghost use Rattle.disp_model.specs.Routes.{Starts, IsAllowed, HasRoute, HasNoRoute, IsForced};
-ghost use Rattle.disp_model.specs.Arcs.{IsArc, IsTrainArc, IsReleaseArc};
+ghost use Rattle.disp_model.specs.Arcs.{IsArc, IsLongestArc};
 ghost use Rattle.disp_model.specs.Walks.{lower_of, upper_of, IsWalk, EndsIn, IsLongest, HasCycle};
 ghost use Rattle.disp_model.specs.Nodes.{IsDead, IsBound};
-ghost use Rattle.disp_model.specs.Trees.{IsChoice, children_of, HaveDistinct, WalksCost, Accepts};
+ghost use Rattle.disp_model.specs.Trees.{IsChoice, children_of, HaveDistinct, WalksCost, LeafHolds, Accepts};
 ghost use Rattle.disp_model.specs.Replies.{IsReply};
 ghost use Rattle.disp_model.specs.Earliest.{IsEarliest, IsPicked};
 
@@ -123,8 +125,8 @@ pub fn unpicked_costs_bound()
 {}
 
 /// Fixings only tighten: with more of them allowed routes are among those before, a train without one has
-/// none, what is forced stays forced while its train has a route, an arc in a train is no shorter, and an
-/// arc from what follows a holder stays. With an accepted one no lower falls and no upper rises.
+/// none, what is forced stays forced while its train has a route, and each arc stays, and is no shorter,
+/// while its trains have routes. With an accepted one no lower falls and no upper rises.
 pub fn fixings_tighten()
     ensures routes { (problem : Problem) (fixings more : List Fixing) (decisions : List Decision) (t : ℕ) (route : List ℕ)
         → IsAllowed problem (fixings ++ more) decisions t route → IsAllowed problem fixings decisions t route }
@@ -133,11 +135,9 @@ pub fn fixings_tighten()
     ensures forced { (problem : Problem) (fixings more : List Fixing) (decisions : List Decision) (o : Op)
         → IsForced problem fixings decisions o → HasRoute problem (fixings ++ more) decisions o.train
         → IsForced problem (fixings ++ more) decisions o }
-    ensures train_arcs { (problem : Problem) (fixings more : List Fixing) (decisions : List Decision) (u v : Op) (before behind : ℕ)
-        → IsTrainArc problem fixings decisions u v before → IsTrainArc problem (fixings ++ more) decisions u v behind → before ≤ behind }
-    ensures release_arcs { (problem : Problem) (fixings more : List Fixing) (decisions : List Decision) (n b : Op) (arc_length : ℕ)
-        → IsReleaseArc problem fixings decisions n b arc_length → HasRoute problem (fixings ++ more) decisions n.train
-        → IsReleaseArc problem (fixings ++ more) decisions n b arc_length }
+    ensures arcs { (problem : Problem) (fixings more : List Fixing) (decisions : List Decision) (u v : Op) (before : ℕ)
+        → IsArc problem fixings decisions u v before → HasRoute problem (fixings ++ more) decisions u.train → HasRoute problem (fixings ++ more) decisions v.train
+        → (behind : ℕ) × IsArc problem (fixings ++ more) decisions u v behind × (before ≤ behind) }
     ensures lowers { (problem : Problem) (fixings : List Fixing) (fixing : Fixing) (number : ℕ) (o : Op)
         → IsReply problem fixings fixing (Accepted number) → lower_of problem fixings o ≤ lower_of problem (fixings ++ fixing ∷ []) o }
     ensures uppers { (problem : Problem) (fixings : List Fixing) (fixing : Fixing) (number : ℕ) (o : Op) (upper : ℕ)
@@ -155,3 +155,22 @@ pub fn allowed_routes_are_listed()
     ensures forced { (problem : Problem) (fixings : List Fixing) (decisions : List Decision) (o : Op)
         → IsForced problem fixings decisions o ⊎ (IsForced problem fixings decisions o → ⊥) }
 {}
+
+/// Where there is an arc between two operations there is a longest one.
+pub fn longest_arcs_exist()
+    ensures { (problem : Problem) (fixings : List Fixing) (decisions : List Decision) (u v : Op) (arc_length : ℕ)
+        → IsArc problem fixings decisions u v arc_length → (longest : ℕ) × IsLongestArc problem fixings decisions u v longest }
+{
+}
+
+/// Leaves stay good: with an accepted fixing added a leaf that holds still holds for the same decisions and
+/// verdict, and an accepted tree is still accepted.
+pub fn leaves_stay_good()
+    ensures leaves { (problem : Problem) (fixings : List Fixing) (fixing : Fixing) (number : ℕ) (decisions : List Decision) (verdict : Verdict) (leaf : TreeLeaf)
+        → IsReply problem fixings fixing (Accepted number) → LeafHolds problem fixings decisions verdict leaf
+        → LeafHolds problem (fixings ++ fixing ∷ []) decisions verdict leaf }
+    ensures trees { (problem : Problem) (fixings : List Fixing) (fixing : Fixing) (number : ℕ) (verdict : Verdict) (tree : List TreeNode)
+        → IsReply problem fixings fixing (Accepted number) → Accepts problem fixings verdict tree
+        → Accepts problem (fixings ++ fixing ∷ []) verdict tree }
+{
+}
