@@ -1,7 +1,7 @@
 -- The least sum of durations between two operations of a train exists, so an arc in a train stays when fixings are added.
-use Rattle.std.proofs.Common.{◌≡◌, ℕ, zero, suc, ◌+◌, ◌<◌, ◌≤◌, List, [], ◌∷◌, ◌++◌, length, get_or, Option, Some, None, Bool, true, false, cond, refl, sym, ap, subst, ◌∙◌, arith, rules, inl, inr}
-use Rattle.std.specs.Prelude.{nat_eq, slice_get, Contains, All, sum_by, ◌⊎◌}
-use Rattle.std.proofs.lemmas.Bool.{cases_Bool, cases_lt, eq-eqb, eqb-true, eqb-false}
+use Rattle.std.proofs.Common.{◌≡◌, ℕ, zero, suc, ◌+◌, ◌<◌, ◌≤◌, List, [], ◌∷◌, ◌++◌, false, cond, refl, sym, ap, subst, ◌∙◌, arith, inl, inr}
+use Rattle.std.specs.Prelude.{nat_eq, Contains, sum_by, ◌⊎◌}
+use Rattle.std.proofs.lemmas.Bool.{cases_Bool, cases_lt, eq-eqb, eqb-true}
 use Rattle.std.proofs.lemmas.List.Sums.{sum_by-cons}
 use Rattle.disp_model.specs.declared.train.Op.{Op}
 use Rattle.disp_model.specs.declared.train.Operation.{Operation}
@@ -11,11 +11,11 @@ use Rattle.disp_model.specs.declared.problem.Problem.{Problem}
 use Rattle.disp_model.specs.Train.{duration_of, GoesOn, IsRoute}
 use Rattle.disp_model.specs.WellFormed.{LeadsTo, IsAcyclic}
 use Rattle.disp_model.specs.Valid.{train_at}
-use Rattle.disp_model.specs.Routes.{IsAllowed, HasRoute, IsForced}
+use Rattle.disp_model.specs.Routes.{IsAllowed, IsForced}
 use Rattle.disp_model.specs.Arcs.{Passes, IsTrainArc}
-use Rattle.disp_model.proofs.Paths.{IsIn, is_in, leads_along, never_again}
+use Rattle.disp_model.proofs.Paths.{IsIn, is_in, leads_along}
 use Rattle.disp_model.proofs.Branching.{route_from}
-use Rattle.disp_model.proofs.Positions.{leads_then, route_leads}
+use Rattle.disp_model.proofs.Positions.{leads_then}
 use Rattle.disp_model.proofs.Arcs.{passes_leads}
 use Rattle.disp_model.proofs.Tightened.{routes_before}
 use Rattle.disp_model.proofs.RouteSearch.{allowed_routes, IsListed}
@@ -75,7 +75,7 @@ passes_sum train route u v total acyclic is passes =
     let first = from_there train u v passes.before rest (not_before_on_route train u passes.before rest acyclic parts) in
     let second = up_to_there train v passes.between passes.behind (not_before train u v passes.between passes.behind acyclic goes) in
     let both : sum_from train u v route ≡ duration_of train u + sum_by (duration_of train) passes.between =
-      ap (sum_from train u v) passes.route_is ∙ first ∙ ap (λ (s : ℕ). duration_of train u + s) second in
+    ap (sum_from train u v) passes.route_is ∙ first ∙ ap (λ (s : ℕ). duration_of train u + s) second in
     omega (arith, passes.total_is, both, sum_by-cons (duration_of train) u passes.between)
 
 -- ---- a route on which both stand
@@ -104,11 +104,11 @@ passes_both train route u v n acyclic is leads one other =
     elim (in_parts v at.before u at.rest (subst (IsIn v) at.is other)) [
       | inl early ↦ absurd (back at.before at.rest route_is early)
       | inr late ↦ elim late [
-          | inl same ↦ absurd (acyclic.no_cycle n u (subst (λ (x : ℕ). LeadsTo train n u x) (sym same) leads))
-          | inr behind ↦
-              let part = parted v at.rest behind in
-              (sum_by (duration_of train) (u ∷ part.before) , record { before = at.before; between = part.before; behind = part.rest; route_is = at.is ∙ ap (λ (l : List ℕ). at.before ++ u ∷ l) part.is; total_is = refl })
-        ]
+        | inl same ↦ absurd (acyclic.no_cycle n u (subst (λ (x : ℕ). LeadsTo train n u x) (sym same) leads))
+        | inr behind ↦
+            let part = parted v at.rest behind in
+            (sum_by (duration_of train) (u ∷ part.before), record { before = at.before; between = part.before; behind = part.rest; route_is = at.is ∙ ap (λ (l : List ℕ). at.before ++ u ∷ l) part.is; total_is = refl })
+      ]
     ]
   where
     back : (before rest : List ℕ) → IsRoute train (before ++ u ∷ rest) → IsIn v before → ⊥
@@ -118,7 +118,7 @@ passes_both train route u v n acyclic is leads one other =
         around later = let joined = leads_then train n later.0 u v u leads later.1 in acyclic.no_cycle joined.0 u joined.1
 
         along : (p : ℕ) (before rest : List ℕ) → GoesOn train p (before ++ u ∷ rest) → IsIn v (p ∷ before) → (m : ℕ) × LeadsTo train m v u
-        along p before rest goes (inl same) = let later = leads_along train p u (before ++ u ∷ rest) goes (in_later u before rest) in (later.0 , subst (λ (x : ℕ). LeadsTo train later.0 x u) same later.1)
+        along p before rest goes (inl same) = let later = leads_along train p u (before ++ u ∷ rest) goes (in_later u before rest) in (later.0, subst (λ (x : ℕ). LeadsTo train later.0 x u) same later.1)
         along p [] rest goes (inr there) = absurd there
         along p (q ∷ before) rest goes (inr there) = along q before rest goes.1 there
 
@@ -134,26 +134,26 @@ record IsLeastOf (f : List ℕ → ℕ) (routes : List (List ℕ)) : Type 0 wher
   pub least : (other : List ℕ) → Contains routes other → f route ≤ f other
 
 least_of : (f : List ℕ → ℕ) (first : List ℕ) (routes : List (List ℕ)) → IsLeastOf f (first ∷ routes)
-least_of f first [] = record { route = first; there = (0 , omega arith , refl); least = λ other there. only other there }
+least_of f first [] = record { route = first; there = (0, omega arith, refl); least = λ other there. only other there }
   where
     only : (other : List ℕ) → Contains (first ∷ []) other → f first ≤ f other
-    only other (zero , lt , e) = subst (λ (r : List ℕ). f first ≤ f r) e (omega arith)
-    only other (suc k , lt , e) = absurd (omega (arith, lt))
+    only other (zero, lt, e) = subst (λ (r : List ℕ). f first ≤ f r) e (omega arith)
+    only other (suc k, lt, e) = absurd (omega (arith, lt))
 least_of f first (second ∷ routes) = better (least_of f second routes)
   where
     better : IsLeastOf f (second ∷ routes) → IsLeastOf f (first ∷ second ∷ routes)
     better rest = elim (cases_lt (f first) (f rest.route)) [
-        | inl lt ↦ record { route = first; there = (0 , omega arith , refl); least = λ other there. first_least rest lt other there }
-        | inr le ↦ record { route = rest.route; there = (suc rest.there.0 , omega (arith, rest.there.1) , rest.there.2); least = λ other there. rest_least rest le other there }
-      ]
+      | inl lt ↦ record { route = first; there = (0, omega arith, refl); least = λ other there. first_least rest lt other there }
+      | inr le ↦ record { route = rest.route; there = (suc rest.there.0, omega (arith, rest.there.1), rest.there.2); least = λ other there. rest_least rest le other there }
+    ]
       where
         first_least : (rest : IsLeastOf f (second ∷ routes)) → f first < f rest.route → (other : List ℕ) → Contains (first ∷ second ∷ routes) other → f first ≤ f other
-        first_least rest lt other (zero , within , e) = subst (λ (r : List ℕ). f first ≤ f r) e (omega arith)
-        first_least rest lt other (suc k , within , e) = omega (arith, lt, rest.least other (k , omega (arith, within) , e))
+        first_least rest lt other (zero, within, e) = subst (λ (r : List ℕ). f first ≤ f r) e (omega arith)
+        first_least rest lt other (suc k, within, e) = omega (arith, lt, rest.least other (k, omega (arith, within), e))
 
         rest_least : (rest : IsLeastOf f (second ∷ routes)) → f rest.route ≤ f first → (other : List ℕ) → Contains (first ∷ second ∷ routes) other → f rest.route ≤ f other
-        rest_least rest le other (zero , within , e) = subst (λ (r : List ℕ). f rest.route ≤ f r) e le
-        rest_least rest le other (suc k , within , e) = rest.least other (k , omega (arith, within) , e)
+        rest_least rest le other (zero, within, e) = subst (λ (r : List ℕ). f rest.route ≤ f r) e le
+        rest_least rest le other (suc k, within, e) = rest.least other (k, omega (arith, within), e)
 
 -- ---- an arc in a train stays
 
@@ -167,28 +167,30 @@ train_arc_exists problem fixings decisions u v n same leads one other = from_lis
 
     has_both : (route : List ℕ) → IsAllowed problem fixings decisions u.train route → (total : ℕ) × Passes (train_at problem u.train) route u.op v.op total
     has_both route allowed =
-      passes_both (train_at problem u.train) route u.op v.op n (problem.well_formed.acyclic u.train [] one.train) allowed.is_route leads (is_in u.op route (one.each_has route allowed))
-      (is_in v.op route (other.each_has route (subst (λ (t : ℕ). IsAllowed problem fixings decisions t route) same allowed)))
+        passes_both (train_at problem u.train) route u.op v.op n (problem.well_formed.acyclic u.train [] one.train) allowed.is_route leads (is_in u.op route (one.each_has route allowed))
+        (is_in v.op route (other.each_has route (subst (λ (t : ℕ). IsAllowed problem fixings decisions t route) same allowed)))
 
     from_least : (routes : List (List ℕ)) → ((route : List ℕ) → IsAllowed problem fixings decisions u.train route → Contains routes route) → ((route : List ℕ) → Contains routes route → IsAllowed problem fixings decisions u.train route)
         → IsLeastOf (sum_from (train_at problem u.train) u.op v.op) routes → (arc_length : ℕ) × IsTrainArc problem fixings decisions u v arc_length
     from_least routes each only best =
-      let train = train_at problem u.train in
-      let acyclic = problem.well_formed.acyclic u.train [] one.train in
-      let allowed = only best.route best.there in
-      let passes = has_both best.route allowed in
-      (passes.0 , record {
-          same_train = same;
-          reached = (best.route , allowed , passes.1);
-          least = λ route total is through. omega (arith, passes_sum train best.route u.op v.op passes.0 acyclic allowed.is_route passes.1, passes_sum train route u.op v.op total acyclic is.is_route through, best.least route (each route is));
-        })
+        let train = train_at problem u.train in
+        let acyclic = problem.well_formed.acyclic u.train [] one.train in
+        let allowed = only best.route best.there in
+        let passes = has_both best.route allowed in (
+          passes.0,
+          record {
+            same_train = same;
+            reached = (best.route, allowed, passes.1);
+            least = λ route total is through. omega (arith, passes_sum train best.route u.op v.op passes.0 acyclic allowed.is_route passes.1, passes_sum train route u.op v.op total acyclic is.is_route through, best.least route (each route is));
+          },
+        )
 
     from_routes : (routes : List (List ℕ)) → ((route : List ℕ) → IsAllowed problem fixings decisions u.train route → Contains routes route) → ((route : List ℕ) → Contains routes route → IsAllowed problem fixings decisions u.train route)
         → (arc_length : ℕ) × IsTrainArc problem fixings decisions u v arc_length
     from_routes [] each only = absurd (nowhere one.allowed.0 (each one.allowed.0 one.allowed.1))
       where
         nowhere : (route : List ℕ) → Contains [] route → ⊥
-        nowhere route (k , lt , e) = omega arith
+        nowhere route (k, lt, e) = omega arith
     from_routes (first ∷ routes) each only = from_least (first ∷ routes) each only (least_of (sum_from (train_at problem u.train) u.op v.op) first routes)
 
     from_list : IsListed problem fixings decisions u.train → (arc_length : ℕ) × IsTrainArc problem fixings decisions u v arc_length
@@ -201,4 +203,4 @@ train_arc_stays problem fixings more decisions u v before arc one other =
     let way = passes_leads (train_at problem u.train) arc.reached.0 u.op v.op before arc.reached.1.is_route arc.reached.2 in
     let new = train_arc_exists problem (fixings ++ more) decisions u v way.0 arc.same_train way.1 one other in
     let reached = new.1.reached in
-    (new.0 , new.1 , arc.least reached.0 new.0 (routes_before problem fixings more decisions u.train reached.0 reached.1) reached.2)
+    (new.0, new.1, arc.least reached.0 new.0 (routes_before problem fixings more decisions u.train reached.0 reached.1) reached.2)

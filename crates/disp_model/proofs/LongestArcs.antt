@@ -1,8 +1,7 @@
 -- Whether there is an arc of a length is decided, so between two nodes with an arc there is a longest one.
-use Rattle.std.proofs.Common.{◌≡◌, ℕ, zero, suc, ◌+◌, ◌<◌, ◌≤◌, List, [], ◌∷◌, ◌++◌, length, get_or, Option, Some, None, Bool, true, false, cond, refl, sym, ap, subst, ◌∙◌, arith, rules, inl, inr}
-use Rattle.std.specs.Prelude.{nat_eq, Contains, All, sum_by, ◌⊎◌, ◌≢◌}
-use Rattle.std.proofs.lemmas.Bool.{cases_Bool, cases_lt, eqb-true, eqb-false}
-use Rattle.std.proofs.lemmas.List.Sums.{sum_by-cons}
+use Rattle.std.proofs.Common.{◌≡◌, ℕ, zero, suc, ◌+◌, ◌<◌, ◌≤◌, List, [], ◌∷◌, ◌++◌, length, Some, refl, sym, ap, subst, ◌∙◌, arith, inl, inr}
+use Rattle.std.specs.Prelude.{Contains, sum_by}
+use Rattle.std.proofs.lemmas.Bool.{cases_lt}
 use Rattle.disp_model.specs.declared.train.Op.{Op}
 use Rattle.disp_model.specs.declared.train.Listing.{Listing}
 use Rattle.disp_model.specs.declared.train.Operation.{Operation}
@@ -23,11 +22,11 @@ use Rattle.disp_model.proofs.LeastSums.{train_arc_exists, passes_both, parted}
 -- ---- a greatest number
 
 pub greatest_of : (P : ℕ → Type 0) → ((n : ℕ) → Decided (P n)) → (most : ℕ) → ((n : ℕ) → P n → n ≤ most) → (m : ℕ) → P m → (g : ℕ) × P g × ((n : ℕ) → P n → n ≤ g)
-greatest_of P each zero within m holds = (m , holds , λ n h. omega (arith, within n h))
+greatest_of P each zero within m holds = (m, holds, λ n h. omega (arith, within n h))
 greatest_of P each (suc most) within m holds = elim (each (suc most)) [
-    | inl top ↦ (suc most , top , within)
-    | inr n ↦ greatest_of P each most (λ k h. less P most k n (within k h) h) m holds
-  ]
+  | inl top ↦ (suc most, top, within)
+  | inr n ↦ greatest_of P each most (λ k h. less P most k n (within k h) h) m holds
+]
   where
     less : (P : ℕ → Type 0) (most k : ℕ) → (P (suc most) → ⊥) → k ≤ suc most → P k → k ≤ most
     less P most k n le h = elim (cases_lt most k) [ inl lt ↦ (let same : k ≡ suc most = omega (arith, lt, le) in absurd (n (subst P same h))) | inr ok ↦ ok ]
@@ -38,35 +37,35 @@ pub some_or_not : {X : Type 0} (P : X → Type 0) → ((x : X) → Decided (P x)
 some_or_not P each [] = inr (λ h. nowhere P h)
   where
     nowhere : {X : Type 0} (P : X → Type 0) → ((x : X) × Contains [] x × P x) → ⊥
-    nowhere P (x , (k , lt , e) , p) = omega arith
+    nowhere P (x, (k, lt, e), p) = omega arith
 some_or_not P each (y ∷ xs) = elim (each y) [
-    | inl here ↦ inl (y , (0 , omega arith , refl) , here)
-    | inr n ↦ elim (some_or_not P each xs) [
-        | inl later ↦ inl (later.0 , (suc later.1.0 , omega (arith, later.1.1) , later.1.2) , later.2)
-        | inr none ↦ inr (λ h. neither P y xs n none h)
-      ]
+  | inl here ↦ inl (y, (0, omega arith, refl), here)
+  | inr n ↦ elim (some_or_not P each xs) [
+    | inl later ↦ inl (later.0, (suc later.1.0, omega (arith, later.1.1), later.1.2), later.2)
+    | inr none ↦ inr (λ h. neither P y xs n none h)
   ]
+]
   where
     neither : {X : Type 0} (P : X → Type 0) (y : X) (xs : List X) → (P y → ⊥) → (((x : X) × Contains xs x × P x) → ⊥) → ((x : X) × Contains (y ∷ xs) x × P x) → ⊥
-    neither P y xs n none (x , (zero , lt , e) , p) = n (subst P (sym e) p)
-    neither P y xs n none (x , (suc k , lt , e) , p) = none (x , (k , omega arith , e) , p)
+    neither P y xs n none (x, (zero, lt, e), p) = n (subst P (sym e) p)
+    neither P y xs n none (x, (suc k, lt, e), p) = none (x, (k, omega arith, e), p)
 
 -- ---- arcs in a train
 
 same_op_or_not : (a b : Op) → Decided (a ≡ b)
 same_op_or_not a b = elim (same_number a.train b.train) [
-    | inr n ↦ inr (λ e. n (ap (λ (o : Op). o.train) e))
-    | inl t ↦ elim (same_number a.op b.op) [
-        | inr n ↦ inr (λ e. n (ap (λ (o : Op). o.op) e))
-        | inl o ↦ inl (made a b t o)
-      ]
+  | inr n ↦ inr (λ e. n (ap (λ (o : Op). o.train) e))
+  | inl t ↦ elim (same_number a.op b.op) [
+    | inr n ↦ inr (λ e. n (ap (λ (o : Op). o.op) e))
+    | inl o ↦ inl (made a b t o)
   ]
+]
   where
     made : (a b : Op) → a.train ≡ b.train → a.op ≡ b.op → a ≡ b
     made a b t o =
-      let first : ℕ → Op = λ n. record { train = n; op = a.op } in
-      let second : ℕ → Op = λ n. record { train = b.train; op = n } in
-      ap first t ∙ ap second o
+        let first : ℕ → Op = λ n. record { train = n; op = a.op } in
+        let second : ℕ → Op = λ n. record { train = b.train; op = n } in
+        ap first t ∙ ap second o
 
 passes_or_not : (train : List Operation) (route : List ℕ) (u v : ℕ) → Decided ((total : ℕ) × Passes train route u v total)
 passes_or_not train [] u v = inr (λ h. nothing h.0 h.1)
@@ -78,22 +77,22 @@ passes_or_not train [] u v = inr (λ h. nothing h.0 h.1)
         empty [] rest e = absurd cc
         empty (x ∷ before) rest e = absurd cc
 passes_or_not train (x ∷ route) u v = elim (both (same_number x u) (in_or_not v route)) [
-    | inl here ↦
-        let part = parted v route here.1 in
-        inl (sum_by (duration_of train) (u ∷ part.before) , record { before = []; between = part.before; behind = part.rest; route_is = cc (here.0, part.is); total_is = refl })
-    | inr n ↦ elim (passes_or_not train route u v) [
-        | inl later ↦ inl (later.0 , record { before = x ∷ later.1.before; between = later.1.between; behind = later.1.behind; route_is = ap (λ (l : List ℕ). x ∷ l) later.1.route_is; total_is = later.1.total_is })
-        | inr none ↦ inr (λ h. neither n none h.0 h.1)
-      ]
+  | inl here ↦
+      let part = parted v route here.1 in
+      inl (sum_by (duration_of train) (u ∷ part.before), record { before = []; between = part.before; behind = part.rest; route_is = cc (here.0, part.is); total_is = refl })
+  | inr n ↦ elim (passes_or_not train route u v) [
+    | inl later ↦ inl (later.0, record { before = x ∷ later.1.before; between = later.1.between; behind = later.1.behind; route_is = ap (λ (l : List ℕ). x ∷ l) later.1.route_is; total_is = later.1.total_is })
+    | inr none ↦ inr (λ h. neither n none h.0 h.1)
   ]
+]
   where
     in_later : (v : ℕ) (between behind : List ℕ) → IsIn v (between ++ v ∷ behind)
     in_later v [] behind = inl refl
     in_later v (y ∷ between) behind = inr (in_later v between behind)
 
     split : (before between behind : List ℕ) (total : ℕ) → (((x ≡ u) × IsIn v route) → ⊥) → (((total : ℕ) × Passes train route u v total) → ⊥) → x ∷ route ≡ before ++ u ∷ (between ++ v ∷ behind) → total ≡ sum_by (duration_of train) (u ∷ between) → ⊥
-    split [] between behind total n none is sum = n (cc is , subst (IsIn v) (sym (cc is)) (in_later v between behind))
-    split (y ∷ before) between behind total n none is sum = none (total , record { before = before; between = between; behind = behind; route_is = cc is; total_is = sum })
+    split [] between behind total n none is sum = n (cc is, subst (IsIn v) (sym (cc is)) (in_later v between behind))
+    split (y ∷ before) between behind total n none is sum = none (total, record { before = before; between = between; behind = behind; route_is = cc is; total_is = sum })
 
     neither : (((x ≡ u) × IsIn v route) → ⊥) → (((total : ℕ) × Passes train route u v total) → ⊥) → (total : ℕ) → Passes train (x ∷ route) u v total → ⊥
     neither n none total passes = split passes.before passes.between passes.behind total n none passes.route_is passes.total_is
@@ -101,38 +100,38 @@ passes_or_not train (x ∷ route) u v = elim (both (same_number x u) (in_or_not 
 -- whether there is an arc in the train between forced operations, and of which length
 train_arc_or_not : (problem : Problem) (fixings : List Fixing) (decisions : List Decision) (u v : Op) → IsForced problem fixings decisions u → IsForced problem fixings decisions v → Decided ((n : ℕ) × IsTrainArc problem fixings decisions u v n)
 train_arc_or_not problem fixings decisions u v one other = elim (same_number u.train v.train) [
-    | inr n ↦ inr (λ arc. n arc.1.same_train)
-    | inl same ↦
-        let train = train_at problem u.train in
-        let route = one.allowed in
-        elim (passes_or_not train route.0 u.op v.op) [
-          | inl passes ↦
-              let way = passes_leads train route.0 u.op v.op passes.0 route.1.is_route passes.1 in
-              inl (train_arc_exists problem fixings decisions u v way.0 same way.1 one other)
-          | inr n ↦ inr (λ arc. n (through same arc))
-        ]
-  ]
+  | inr n ↦ inr (λ arc. n arc.1.same_train)
+  | inl same ↦
+      let train = train_at problem u.train in
+      let route = one.allowed in
+      elim (passes_or_not train route.0 u.op v.op) [
+        | inl passes ↦
+            let way = passes_leads train route.0 u.op v.op passes.0 route.1.is_route passes.1 in
+            inl (train_arc_exists problem fixings decisions u v way.0 same way.1 one other)
+        | inr n ↦ inr (λ arc. n (through same arc))
+      ]
+]
   where
     through : u.train ≡ v.train → ((n : ℕ) × IsTrainArc problem fixings decisions u v n) → (total : ℕ) × Passes (train_at problem u.train) one.allowed.0 u.op v.op total
     through same arc =
-      let train = train_at problem u.train in
-      let reached = arc.1.reached in
-      let way = passes_leads train reached.0 u.op v.op arc.0 reached.1.is_route reached.2 in
-      let route = one.allowed in
-      passes_both train route.0 u.op v.op way.0 (problem.well_formed.acyclic u.train [] one.train) route.1.is_route way.1 (is_in u.op route.0 (one.each_has route.0 route.1))
-      (is_in v.op route.0 (other.each_has route.0 (subst (λ (t : ℕ). IsAllowed problem fixings decisions t route.0) same route.1)))
+        let train = train_at problem u.train in
+        let reached = arc.1.reached in
+        let way = passes_leads train reached.0 u.op v.op arc.0 reached.1.is_route reached.2 in
+        let route = one.allowed in
+        passes_both train route.0 u.op v.op way.0 (problem.well_formed.acyclic u.train [] one.train) route.1.is_route way.1 (is_in u.op route.0 (one.each_has route.0 route.1))
+        (is_in v.op route.0 (other.each_has route.0 (subst (λ (t : ℕ). IsAllowed problem fixings decisions t route.0) same route.1)))
 
 one_train_arc : (problem : Problem) (fixings : List Fixing) (decisions : List Decision) (u v : Op) (m n : ℕ) → IsTrainArc problem fixings decisions u v m → IsTrainArc problem fixings decisions u v n → m ≡ n
 one_train_arc problem fixings decisions u v m n one other = omega (arith, one.least other.reached.0 n other.reached.1 other.reached.2, other.least one.reached.0 m one.reached.1 one.reached.2)
 
 train_arc_of_or_not : (problem : Problem) (fixings : List Fixing) (decisions : List Decision) (u v : Op) (n : ℕ) → IsForced problem fixings decisions u → IsForced problem fixings decisions v → Decided (IsTrainArc problem fixings decisions u v n)
 train_arc_of_or_not problem fixings decisions u v n one other = elim (train_arc_or_not problem fixings decisions u v one other) [
-    | inr none ↦ inr (λ arc. none (n , arc))
-    | inl found ↦ elim (same_number found.0 n) [
-        | inl same ↦ inl (subst (IsTrainArc problem fixings decisions u v) same found.1)
-        | inr apart ↦ inr (λ arc. apart (one_train_arc problem fixings decisions u v found.0 n found.1 arc))
-      ]
+  | inr none ↦ inr (λ arc. none (n, arc))
+  | inl found ↦ elim (same_number found.0 n) [
+    | inl same ↦ inl (subst (IsTrainArc problem fixings decisions u v) same found.1)
+    | inr apart ↦ inr (λ arc. apart (one_train_arc problem fixings decisions u v found.0 n found.1 arc))
   ]
+]
 
 -- ---- arcs of decided orders
 
@@ -142,9 +141,9 @@ no_listings_or_not (l ∷ ls) = inr (λ e. absurd cc)
 
 conflicts_or_not : (problem : Problem) (a b : Op) → Decided (Conflicts problem a b)
 conflicts_or_not problem a b = elim (both (denied (same_number a.train b.train)) (denied (no_listings_or_not (shared_listings (listings_of problem a) (listings_of problem b))))) [
-    | inl is ↦ inl (record { trains = is.0; shared = is.1 })
-    | inr n ↦ inr (λ conflicts. n (conflicts.trains , conflicts.shared))
-  ]
+  | inl is ↦ inl (record { trains = is.0; shared = is.1 })
+  | inr n ↦ inr (λ conflicts. n (conflicts.trains, conflicts.shared))
+]
 
 -- the decision has its second operation there
 abbrev IsOrder : Op → Op → Decision → Type 0
@@ -161,15 +160,15 @@ order_is a b (First c d) is = ap (λ (x : Op). First x d) is.0 ∙ ap (λ (x : O
 
 decided_or_not : (decisions : List Decision) (a b : Op) → Decided (Contains decisions (First a b))
 decided_or_not decisions a b = elim (some_or_not (IsOrder a b) (is_order_or_not a b) decisions) [
-    | inl found ↦ inl (subst (Contains decisions) (order_is a b found.0 found.2) found.1)
-    | inr none ↦ inr (λ there. none (First a b , there , (refl , refl)))
-  ]
+  | inl found ↦ inl (subst (Contains decisions) (order_is a b found.0 found.2) found.1)
+  | inr none ↦ inr (λ there. none (First a b, there, (refl, refl)))
+]
 
 order_arc_or_not : (problem : Problem) (decisions : List Decision) (u v : Op) (n : ℕ) → Decided (IsOrderArc problem decisions u v n)
 order_arc_or_not problem decisions u v n = elim (both (decided_or_not decisions u v) (both (conflicts_or_not problem u v) (same_number n (min_of problem u + release_of problem u v)))) [
-    | inl is ↦ inl (record { decided = is.0; conflicts = is.1.0; length_is = is.1.1 })
-    | inr not ↦ inr (λ arc. not (arc.decided , (arc.conflicts , arc.length_is)))
-  ]
+  | inl is ↦ inl (record { decided = is.0; conflicts = is.1.0; length_is = is.1.1 })
+  | inr not ↦ inr (λ arc. not (arc.decided, (arc.conflicts, arc.length_is)))
+]
 
 goes_to_or_not : (problem : Problem) (fixings : List Fixing) (decisions : List Decision) (a n : Op) → a.train < length problem.trains → Decided (GoesTo problem fixings decisions a n)
 goes_to_or_not problem fixings decisions a n there =
@@ -184,40 +183,43 @@ Gives problem fixings decisions n b arc_length (First h c) =
 gives_or_not : (problem : Problem) (fixings : List Fixing) (decisions : List Decision) (n b : Op) (arc_length : ℕ) (decision : Decision) → Decided (Gives problem fixings decisions n b arc_length decision)
 gives_or_not problem fixings decisions n b arc_length (Go o next) = inr (λ h. h)
 gives_or_not problem fixings decisions n b arc_length (First h c) = elim (is_forced_or_not problem fixings decisions h) [
-    | inr not ↦ inr (λ is. not is.1.0)
-    | inl forced ↦ both (same_op_or_not c b) (both (inl forced) (both (conflicts_or_not problem h b) (both (goes_to_or_not problem fixings decisions h n forced.train) (same_number arc_length (release_of problem h b)))))
-  ]
+  | inr not ↦ inr (λ is. not is.1.0)
+  | inl forced ↦ both (same_op_or_not c b) (both (inl forced) (both (conflicts_or_not problem h b) (both (goes_to_or_not problem fixings decisions h n forced.train) (same_number arc_length (release_of problem h b)))))
+]
 
 gives_arc : (problem : Problem) (fixings : List Fixing) (decisions : List Decision) (n b : Op) (arc_length : ℕ) (decision : Decision) → Contains decisions decision → Gives problem fixings decisions n b arc_length decision → IsReleaseArc problem fixings decisions n b arc_length
 gives_arc problem fixings decisions n b arc_length (Go o next) there gives = absurd gives
 gives_arc problem fixings decisions n b arc_length (First h c) there gives = record {
   holder = h;
   decided = subst (λ (x : Op). Contains decisions (First h x)) gives.0 there;
-  forced = gives.1.0; conflicts = gives.1.1.0; goes_to = gives.1.1.1.0; length_is = gives.1.1.1.1;
+  forced = gives.1.0;
+  conflicts = gives.1.1.0;
+  goes_to = gives.1.1.1.0;
+  length_is = gives.1.1.1.1;
 }
 
 release_arc_or_not : (problem : Problem) (fixings : List Fixing) (decisions : List Decision) (n b : Op) (arc_length : ℕ) → Decided (IsReleaseArc problem fixings decisions n b arc_length)
 release_arc_or_not problem fixings decisions n b arc_length = elim (some_or_not (Gives problem fixings decisions n b arc_length) (gives_or_not problem fixings decisions n b arc_length) decisions) [
-    | inl found ↦ inl (gives_arc problem fixings decisions n b arc_length found.0 found.1 found.2)
-    | inr none ↦ inr (λ arc. none (First arc.holder b , arc.decided , (refl , (arc.forced , (arc.conflicts , (arc.goes_to , arc.length_is))))))
-  ]
+  | inl found ↦ inl (gives_arc problem fixings decisions n b arc_length found.0 found.1 found.2)
+  | inr none ↦ inr (λ arc. none (First arc.holder b, arc.decided, (refl, (arc.forced, (arc.conflicts, (arc.goes_to, arc.length_is))))))
+]
 
 -- ---- the longest arc
 
 pub arc_or_not : (problem : Problem) (fixings : List Fixing) (decisions : List Decision) (u v : Op) (n : ℕ) → Decided (IsArc problem fixings decisions u v n)
 arc_or_not problem fixings decisions u v n = elim (both (is_forced_or_not problem fixings decisions u) (is_forced_or_not problem fixings decisions v)) [
-    | inr not ↦ inr (λ arc. not (arc.from_forced , arc.to_forced))
-    | inl forced ↦ elim (train_arc_of_or_not problem fixings decisions u v n forced.0 forced.1) [
-        | inl train ↦ inl (record { from_forced = forced.0; to_forced = forced.1; kind = inl train })
-        | inr no_train ↦ elim (order_arc_or_not problem decisions u v n) [
-            | inl order ↦ inl (record { from_forced = forced.0; to_forced = forced.1; kind = inr (inl order) })
-            | inr no_order ↦ elim (release_arc_or_not problem fixings decisions u v n) [
-                | inl release ↦ inl (record { from_forced = forced.0; to_forced = forced.1; kind = inr (inr release) })
-                | inr no_release ↦ inr (λ arc. elim arc.kind [ inl k ↦ no_train k | inr r ↦ elim r [ inl k ↦ no_order k | inr k ↦ no_release k ] ])
-              ]
-          ]
+  | inr not ↦ inr (λ arc. not (arc.from_forced, arc.to_forced))
+  | inl forced ↦ elim (train_arc_of_or_not problem fixings decisions u v n forced.0 forced.1) [
+    | inl train ↦ inl (record { from_forced = forced.0; to_forced = forced.1; kind = inl train })
+    | inr no_train ↦ elim (order_arc_or_not problem decisions u v n) [
+      | inl order ↦ inl (record { from_forced = forced.0; to_forced = forced.1; kind = inr (inl order) })
+      | inr no_order ↦ elim (release_arc_or_not problem fixings decisions u v n) [
+        | inl release ↦ inl (record { from_forced = forced.0; to_forced = forced.1; kind = inr (inr release) })
+        | inr no_release ↦ inr (λ arc. elim arc.kind [ inl k ↦ no_train k | inr r ↦ elim r [ inl k ↦ no_order k | inr k ↦ no_release k ] ])
       ]
+    ]
   ]
+]
 
 -- what the decisions release at most
 released_by : Problem → Op → Decision → ℕ
@@ -230,25 +232,31 @@ all_released problem b (decision ∷ decisions) = released_by problem b decision
 
 released_within : (problem : Problem) (h b : Op) (decisions : List Decision) → Contains decisions (First h b) → release_of problem h b ≤ all_released problem b decisions
 unfolding all_released released_by
-released_within problem h b [] (k , lt , e) = absurd (omega arith)
-released_within problem h b (decision ∷ decisions) (zero , lt , e) =
+released_within problem h b [] (k, lt, e) = absurd (omega arith)
+released_within problem h b (decision ∷ decisions) (zero, lt, e) =
     let here : released_by problem b decision ≡ release_of problem h b = ap (released_by problem b) e in omega (arith, here)
-released_within problem h b (decision ∷ decisions) (suc k , lt , e) = omega (arith, released_within problem h b decisions (k , omega arith , e))
+released_within problem h b (decision ∷ decisions) (suc k, lt, e) = omega (arith, released_within problem h b decisions (k, omega arith, e))
 
 pub longest_arc : (problem : Problem) (fixings : List Fixing) (decisions : List Decision) (u v : Op) (m : ℕ) → IsArc problem fixings decisions u v m → (g : ℕ) × IsLongestArc problem fixings decisions u v g
 longest_arc problem fixings decisions u v m arc =
     let within = most arc.from_forced arc.to_forced in
     let found = greatest_of (IsArc problem fixings decisions u v) (arc_or_not problem fixings decisions u v) within.0 within.1 m arc in
-    (found.0 , record { there = found.1; longest = found.2 })
+    (found.0, record { there = found.1; longest = found.2 })
   where
     most : IsForced problem fixings decisions u → IsForced problem fixings decisions v → (bound : ℕ) × ((n : ℕ) → IsArc problem fixings decisions u v n → n ≤ bound)
     most one other = elim (train_arc_or_not problem fixings decisions u v one other) [
-        | inl found ↦ (found.0 + (min_of problem u + release_of problem u v) + all_released problem v decisions , λ n arc. elim arc.kind [
-            | inl train ↦ omega (arith, one_train_arc problem fixings decisions u v found.0 n found.1 train)
-            | inr r ↦ elim r [ inl order ↦ omega (arith, order.length_is) | inr release ↦ omega (arith, release.length_is, released_within problem release.holder v decisions release.decided) ]
-          ])
-        | inr none ↦ ((min_of problem u + release_of problem u v) + all_released problem v decisions , λ n arc. elim arc.kind [
-            | inl train ↦ absurd (none (n , train))
-            | inr r ↦ elim r [ inl order ↦ omega (arith, order.length_is) | inr release ↦ omega (arith, release.length_is, released_within problem release.holder v decisions release.decided) ]
-          ])
-      ]
+      | inl found ↦ (
+        found.0 + (min_of problem u + release_of problem u v) + all_released problem v decisions,
+        λ n arc. elim arc.kind [
+          | inl train ↦ omega (arith, one_train_arc problem fixings decisions u v found.0 n found.1 train)
+          | inr r ↦ elim r [ inl order ↦ omega (arith, order.length_is) | inr release ↦ omega (arith, release.length_is, released_within problem release.holder v decisions release.decided) ]
+        ],
+      )
+      | inr none ↦ (
+        (min_of problem u + release_of problem u v) + all_released problem v decisions,
+        λ n arc. elim arc.kind [
+          | inl train ↦ absurd (none (n, train))
+          | inr r ↦ elim r [ inl order ↦ omega (arith, order.length_is) | inr release ↦ omega (arith, release.length_is, released_within problem release.holder v decisions release.decided) ]
+        ],
+      )
+    ]

@@ -1,11 +1,10 @@
 -- Whether a train has an allowed route is decided by a search through lists; so a least sum of durations exists.
-use Rattle.std.proofs.Common.{◌≡◌, ℕ, zero, suc, ◌+◌, ◌<◌, ◌≤◌, List, [], ◌∷◌, ◌++◌, length, get_or, map, Option, Some, None, Bool, true, false, cond, refl, sym, ap, subst, ◌∙◌, arith, rules, inl, inr}
-use Rattle.std.specs.Prelude.{nat_eq, slice_get, slice_index_or, Contains, All, sum_by, ◌⊎◌, ◌&&◌}
+use Rattle.std.proofs.Common.{◌≡◌, ℕ, zero, suc, ◌<◌, ◌≤◌, List, [], ◌∷◌, ◌++◌, length, get_or, map, Option, Some, None, true, false, refl, sym, ap, subst, arith, inl, inr}
+use Rattle.std.specs.Prelude.{nat_eq, Contains, All, ◌⊎◌}
 use Rattle.std.specs.List.{list_any, IsDistinct, AllByRecursion}
-use Rattle.std.proofs.lemmas.Bool.{cases_Bool, cases_lt, eq-eqb, eqb-true, eqb-false, false≢true}
+use Rattle.std.proofs.lemmas.Bool.{cases_Bool, cases_lt, eqb-true, eqb-false, false≢true}
 use Rattle.std.proofs.lemmas.Option.{none-some, same_Some}
 use Rattle.std.proofs.lemmas.List.Elements.{All-contains, All-tail, Contains-append_left, Contains-append_right, Contains-get_or}
-use Rattle.std.proofs.lemmas.List.Sums.{sum_by-cons}
 use Rattle.std.proofs.lemmas.Map.Steps.{length-le_from_distinct_below}
 use Rattle.disp_model.specs.declared.train.Op.{Op}
 use Rattle.disp_model.specs.declared.train.Operation.{Operation}
@@ -14,12 +13,12 @@ use Rattle.disp_model.specs.declared.fixing.Fixing.TheVariants.{Started, Chosen}
 use Rattle.disp_model.specs.declared.decision.Decision.{Decision}
 use Rattle.disp_model.specs.declared.decision.Decision.TheVariants.{Go, First}
 use Rattle.disp_model.specs.declared.problem.Problem.{Problem}
-use Rattle.disp_model.specs.Train.{next_of, duration_of, IsSuccessor, IsEntry, IsExit, GoesOn, IsRoute}
-use Rattle.disp_model.specs.WellFormed.{LeadsTo, IsAcyclic}
+use Rattle.disp_model.specs.Train.{next_of, IsSuccessor, IsEntry, IsExit, GoesOn, IsRoute}
+use Rattle.disp_model.specs.WellFormed.{IsAcyclic}
 use Rattle.disp_model.specs.Fixing.{after}
 use Rattle.disp_model.specs.Valid.{train_at}
 use Rattle.disp_model.specs.Routes.{AgreesWithFixing, AgreesWithDecision, IsAllowed, HasRoute, IsForced}
-use Rattle.disp_model.proofs.Paths.{IsIn, is_in, contains_in, in_or_not, leads_along, never_again}
+use Rattle.disp_model.proofs.Paths.{IsIn, is_in, contains_in, in_or_not, never_again}
 
 -- ---- what is decided
 
@@ -34,15 +33,15 @@ same_option None None = inl refl
 same_option None (Some y) = inr (λ e. none-some y e)
 same_option (Some x) None = inr (λ e. none-some x (sym e))
 same_option (Some x) (Some y) = elim (cases_Bool (nat_eq x y)) [
-    | inl is ↦ inl (ap (λ (n : ℕ). Some n) (eqb-true x y is))
-    | inr is ↦ inr (λ e. eqb-false x y is (same_Some x y e))
-  ]
+  | inl is ↦ inl (ap (λ (n : ℕ). Some n) (eqb-true x y is))
+  | inr is ↦ inr (λ e. eqb-false x y is (same_Some x y e))
+]
 
 pub same_number : (x y : ℕ) → Decided (x ≡ y)
 same_number x y = elim (cases_Bool (nat_eq x y)) [ inl is ↦ inl (eqb-true x y is) | inr is ↦ inr (λ e. eqb-false x y is e) ]
 
 pub both : {P Q : Type 0} → Decided P → Decided Q → Decided (P × Q)
-both (inl p) (inl q) = inl (p , q)
+both (inl p) (inl q) = inl (p, q)
 both (inl p) (inr n) = inr (λ h. n h.1)
 both (inr n) q = inr (λ h. n h.0)
 
@@ -62,9 +61,9 @@ all_cons P x xs here rest (suc k) d lt = rest k d (omega arith)
 pub all_or_not : {X : Type 0} (P : X → Type 0) → ((x : X) → Decided (P x)) → (xs : List X) → Decided (All P xs)
 all_or_not P each [] = inl (λ k d lt. absurd (omega arith))
 all_or_not P each (x ∷ xs) = elim (each x) [
-    | inl here ↦ elim (all_or_not P each xs) [ inl rest ↦ inl (all_cons P x xs here rest) | inr n ↦ inr (λ h. n (All-tail P x xs h)) ]
-    | inr n ↦ inr (λ h. n (h 0 x (omega arith)))
-  ]
+  | inl here ↦ elim (all_or_not P each xs) [ inl rest ↦ inl (all_cons P x xs here rest) | inr n ↦ inr (λ h. n (All-tail P x xs h)) ]
+  | inr n ↦ inr (λ h. n (h 0 x (omega arith)))
+]
 
 -- ---- whether a list is a route
 
@@ -76,12 +75,12 @@ contains_below : (n k : ℕ) → k < n → Contains (below n) k
 unfolding below
 contains_below zero k lt = absurd (omega arith)
 contains_below (suc n) k lt = elim (cases_Bool (nat_eq n k)) [
-    | inl is ↦ (0 , omega arith , eqb-true n k is)
-    | inr is ↦ let later = contains_below n k (omega (arith, lt, eqb-false n k is)) in (suc later.0 , omega (arith, later.1) , later.2)
-  ]
+  | inl is ↦ (0, omega arith, eqb-true n k is)
+  | inr is ↦ let later = contains_below n k (omega (arith, lt, eqb-false n k is)) in (suc later.0, omega (arith, later.1), later.2)
+]
 
 nothing_behind : (train : List Operation) (p s : ℕ) → length train ≤ p → IsSuccessor train p s → ⊥
-nothing_behind [] p s le (k , lt , e) = omega arith
+nothing_behind [] p s le (k, lt, e) = omega arith
 nothing_behind (o ∷ train) zero s le next = omega arith
 nothing_behind (o ∷ train) (suc p) s le next = nothing_behind train p s (omega arith) next
 
@@ -92,9 +91,9 @@ is_entry_or_not : (train : List Operation) (o : ℕ) → Decided (IsEntry train 
 is_entry_or_not train o =
     elim (cases_lt o (length train)) [
       | inl lt ↦ elim (all_or_not (λ p. IsSuccessor train p o → ⊥) (λ p. denied (contained_or_not o (next_of train p))) (below (length train))) [
-          | inl none ↦ inl (record { there = lt; first = λ p next. All-contains (λ (p : ℕ). IsSuccessor train p o → ⊥) (below (length train)) p none (contains_below (length train) p (within_train train p o next)) next })
-          | inr n ↦ inr (λ entry. n (λ k d lt. entry.first (get_or (below (length train)) k d)))
-        ]
+        | inl none ↦ inl (record { there = lt; first = λ p next. All-contains (λ (p : ℕ). IsSuccessor train p o → ⊥) (below (length train)) p none (contains_below (length train) p (within_train train p o next)) next })
+        | inr n ↦ inr (λ entry. n (λ k d lt. entry.first (get_or (below (length train)) k d)))
+      ]
       | inr le ↦ inr (λ entry. omega (arith, entry.there, le))
     ]
 
@@ -129,12 +128,12 @@ pub is_allowed_or_not : (problem : Problem) (fixings : List Fixing) (decisions :
 is_allowed_or_not problem fixings decisions t route =
     elim (is_route_or_not (train_at problem t) route) [
       | inl is ↦ elim (all_or_not (AgreesWithFixing t route) (agrees_with_fixing_or_not t route) fixings) [
-          | inl fixed ↦ elim (all_or_not (AgreesWithDecision t route) (agrees_with_decision_or_not t route) decisions) [
-              | inl decided ↦ inl (record { is_route = is; fixings_agree = fixed; decisions_agree = decided })
-              | inr n ↦ inr (λ allowed. n allowed.decisions_agree)
-            ]
-          | inr n ↦ inr (λ allowed. n allowed.fixings_agree)
+        | inl fixed ↦ elim (all_or_not (AgreesWithDecision t route) (agrees_with_decision_or_not t route) decisions) [
+          | inl decided ↦ inl (record { is_route = is; fixings_agree = fixed; decisions_agree = decided })
+          | inr n ↦ inr (λ allowed. n allowed.decisions_agree)
         ]
+        | inr n ↦ inr (λ allowed. n allowed.fixings_agree)
+      ]
       | inr n ↦ inr (λ allowed. n allowed.is_route)
     ]
 
@@ -150,9 +149,9 @@ onward train zero o = [] ∷ []
 onward train (suc n) o = [] ∷ spread (onward train n) (next_of train o)
 
 map_contains : {X Y : Type 0} (f : X → Y) (xs : List X) (x : X) → Contains xs x → Contains (map f xs) (f x)
-map_contains f [] x (k , lt , e) = absurd (omega arith)
-map_contains f (y ∷ xs) x (zero , lt , e) = (0 , omega arith , ap f e)
-map_contains f (y ∷ xs) x (suc k , lt , e) = let c = map_contains f xs x (k , omega arith , e) in (suc c.0 , omega (arith, c.1) , c.2)
+map_contains f [] x (k, lt, e) = absurd (omega arith)
+map_contains f (y ∷ xs) x (zero, lt, e) = (0, omega arith, ap f e)
+map_contains f (y ∷ xs) x (suc k, lt, e) = let c = map_contains f xs x (k, omega arith, e) in (suc c.0, omega (arith, c.1), c.2)
 
 contains_spread : (f : ℕ → List (List ℕ)) (nexts : List ℕ) (s : ℕ) (rest : List ℕ) → IsIn s nexts → Contains (f s) rest → Contains (spread f nexts) (s ∷ rest)
 unfolding spread
@@ -164,12 +163,12 @@ contains_spread f (n ∷ nexts) s rest (inr later) found = Contains-append_right
 
 contains_onward : (train : List Operation) (n o : ℕ) (rest : List ℕ) → GoesOn train o rest → length rest ≤ n → Contains (onward train n o) rest
 unfolding onward
-contains_onward train zero o [] goes le = (0 , omega arith , refl)
+contains_onward train zero o [] goes le = (0, omega arith, refl)
 contains_onward train zero o (s ∷ rest) goes le = absurd (omega arith)
-contains_onward train (suc n) o [] goes le = (0 , omega arith , refl)
+contains_onward train (suc n) o [] goes le = (0, omega arith, refl)
 contains_onward train (suc n) o (s ∷ rest) goes le =
     let found = contains_spread (onward train n) (next_of train o) s rest (is_in s (next_of train o) goes.0) (contains_onward train n s rest goes.1 (omega arith)) in
-    (suc found.0 , omega (arith, found.1) , found.2)
+    (suc found.0, omega (arith, found.1), found.2)
 
 -- ---- a route is no longer than its train
 
@@ -181,12 +180,12 @@ each_within train o (s ∷ rest) goes q (inr h) = each_within train s rest goes.
 
 not_among : (o : ℕ) (rest : List ℕ) → (IsIn o rest → ⊥) → AllByRecursion (λ y. nat_eq o y ≡ false) rest
 not_among o [] n = tt
-not_among o (s ∷ rest) n = (elim (cases_Bool (nat_eq o s)) [ inl is ↦ absurd (n (inl (sym (eqb-true o s is)))) | inr is ↦ is ] , not_among o rest (λ h. n (inr h)))
+not_among o (s ∷ rest) n = (elim (cases_Bool (nat_eq o s)) [ inl is ↦ absurd (n (inl (sym (eqb-true o s is)))) | inr is ↦ is ], not_among o rest (λ h. n (inr h)))
 
 route_distinct : (train : List Operation) (o : ℕ) (rest : List ℕ) → IsAcyclic train → GoesOn train o rest → IsDistinct nat_eq (o ∷ rest)
 unfolding IsDistinct
-route_distinct train o [] acyclic goes = (tt , tt)
-route_distinct train o (s ∷ rest) acyclic goes = (not_among o (s ∷ rest) (λ h. never_again train o (s ∷ rest) acyclic goes h) , route_distinct train s rest acyclic goes.1)
+route_distinct train o [] acyclic goes = (tt, tt)
+route_distinct train o (s ∷ rest) acyclic goes = (not_among o (s ∷ rest) (λ h. never_again train o (s ∷ rest) acyclic goes h), route_distinct train s rest acyclic goes.1)
 
 any_is_in : (q : ℕ) (xs : List ℕ) → list_any (nat_eq q) xs ≡ true → IsIn q xs
 any_is_in q [] h = absurd (false≢true h)
@@ -212,27 +211,27 @@ is_candidate train (o ∷ rest) acyclic is =
 -- ---- the allowed routes
 
 kept : {X : Type 0} (P : X → Type 0) (x y : X) (xs ys : List X) → (Contains xs x → Contains ys x) → Contains (y ∷ xs) x → Contains (y ∷ ys) x
-kept P x y xs ys later (zero , lt , e) = (0 , omega arith , e)
-kept P x y xs ys later (suc k , lt , e) = let found = later (k , omega (arith, lt) , e) in (suc found.0 , omega (arith, found.1) , found.2)
+kept P x y xs ys later (zero, lt, e) = (0, omega arith, e)
+kept P x y xs ys later (suc k, lt, e) = let found = later (k, omega (arith, lt), e) in (suc found.0, omega (arith, found.1), found.2)
 
 holds_in : {X : Type 0} (P : X → Type 0) (x y : X) (ys : List X) → P y → (Contains ys x → P x) → Contains (y ∷ ys) x → P x
-holds_in P x y ys here later (zero , lt , e) = subst P e here
-holds_in P x y ys here later (suc k , lt , e) = later (k , omega (arith, lt) , e)
+holds_in P x y ys here later (zero, lt, e) = subst P e here
+holds_in P x y ys here later (suc k, lt, e) = later (k, omega (arith, lt), e)
 
 left_out : {X : Type 0} (P : X → Type 0) (x y : X) (xs ys : List X) → (P y → ⊥) → P x → (Contains xs x → Contains ys x) → Contains (y ∷ xs) x → Contains ys x
-left_out P x y xs ys n p later (zero , lt , e) = absurd (n (subst P (sym e) p))
-left_out P x y xs ys n p later (suc k , lt , e) = later (k , omega (arith, lt) , e)
+left_out P x y xs ys n p later (zero, lt, e) = absurd (n (subst P (sym e) p))
+left_out P x y xs ys n p later (suc k, lt, e) = later (k, omega (arith, lt), e)
 
 holds_in_none : {X : Type 0} (P : X → Type 0) (x : X) → Contains [] x → P x
-holds_in_none P x (k , lt , e) = absurd (omega arith)
+holds_in_none P x (k, lt, e) = absurd (omega arith)
 
 -- the elements of a list of which P holds
 pub decided_part : {X : Type 0} (P : X → Type 0) → ((x : X) → Decided (P x)) → (xs : List X) → (ys : List X) × ((x : X) → Contains xs x → P x → Contains ys x) × ((x : X) → Contains ys x → P x)
-decided_part P each [] = ([] , λ x there holds. there , λ x there. holds_in_none P x there)
+decided_part P each [] = ([], λ x there holds. there, λ x there. holds_in_none P x there)
 decided_part P each (y ∷ xs) = elim (each y) [
-    | inl holds ↦ let rest = decided_part P each xs in (y ∷ rest.0 , λ x there p. kept P x y xs rest.0 (λ h. rest.1 x h p) there , λ x there. holds_in P x y rest.0 holds (λ h. rest.2 x h) there)
-    | inr n ↦ let rest = decided_part P each xs in (rest.0 , λ x there p. left_out P x y xs rest.0 n p (λ h. rest.1 x h p) there , rest.2)
-  ]
+  | inl holds ↦ let rest = decided_part P each xs in (y ∷ rest.0, λ x there p. kept P x y xs rest.0 (λ h. rest.1 x h p) there, λ x there. holds_in P x y rest.0 holds (λ h. rest.2 x h) there)
+  | inr n ↦ let rest = decided_part P each xs in (rest.0, λ x there p. left_out P x y xs rest.0 n p (λ h. rest.1 x h p) there, rest.2)
+]
 
 -- a list of all allowed routes of a train
 pub record IsListed (problem : Problem) (fixings : List Fixing) (decisions : List Decision) (t : ℕ) : Type 0 where
@@ -257,8 +256,8 @@ has_route_or_not problem fixings decisions t there = by_list (allowed_routes pro
     first [] each only = inr (λ has. nowhere has.0 (each has.0 has.1))
       where
         nowhere : (route : List ℕ) → Contains [] route → ⊥
-        nowhere route (k , lt , e) = omega arith
-    first (route ∷ routes) each only = inl (route , only route (0 , omega arith , refl))
+        nowhere route (k, lt, e) = omega arith
+    first (route ∷ routes) each only = inl (route, only route (0, omega arith, refl))
 
     by_list : IsListed problem fixings decisions t → Decided (HasRoute problem fixings decisions t)
     by_list listed = first listed.routes listed.each listed.only
@@ -278,10 +277,10 @@ is_forced_or_not problem fixings decisions o =
     elim (cases_lt o.train (length problem.trains)) [
       | inr le ↦ inr (λ forced. omega (arith, forced.train, le))
       | inl lt ↦ elim (has_route_or_not problem fixings decisions o.train lt) [
-          | inr n ↦ inr (λ forced. n forced.allowed)
-          | inl has ↦ elim (each_allowed_or_not problem fixings decisions o.train (λ route. Contains route o.op) lt (contained_or_not o.op)) [
-              | inl each ↦ inl (record { train = lt; allowed = has; each_has = each })
-              | inr n ↦ inr (λ forced. n forced.each_has)
-            ]
+        | inr n ↦ inr (λ forced. n forced.allowed)
+        | inl has ↦ elim (each_allowed_or_not problem fixings decisions o.train (λ route. Contains route o.op) lt (contained_or_not o.op)) [
+          | inl each ↦ inl (record { train = lt; allowed = has; each_has = each })
+          | inr n ↦ inr (λ forced. n forced.each_has)
         ]
+      ]
     ]

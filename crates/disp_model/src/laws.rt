@@ -160,8 +160,7 @@ pub fn allowed_routes_are_listed()
 pub fn longest_arcs_exist()
     ensures { (problem : Problem) (fixings : List Fixing) (decisions : List Decision) (u v : Op) (arc_length : ℕ)
         → IsArc problem fixings decisions u v arc_length → (longest : ℕ) × IsLongestArc problem fixings decisions u v longest }
-{
-}
+{}
 
 /// Leaves stay good: with an accepted fixing added a leaf that holds still holds for the same decisions and
 /// verdict, and an accepted tree is still accepted.
@@ -172,5 +171,4 @@ pub fn leaves_stay_good()
     ensures trees { (problem : Problem) (fixings : List Fixing) (fixing : Fixing) (number : ℕ) (verdict : Verdict) (tree : List TreeNode)
         → IsReply problem fixings fixing (Accepted number) → Accepts problem fixings verdict tree
         → Accepts problem (fixings ++ fixing ∷ []) verdict tree }
-{
-}
+{}

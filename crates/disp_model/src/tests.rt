@@ -63,6 +63,10 @@ fn texts_and_names_are_copied(rt: HostRuntime) -> Result<(), Fail> {
         next: 3,
     };
     assert_eq!(rt; fixing.copy()?, fixing);
+    assert_eq!(rt;
+        format!(in rt.alloc(); "{Memory}")?.as_str(),
+        "out of memory"
+    );
     Ok(())
 }
 
