@@ -1,0 +1,12 @@
+// Worked examples of the dispatcher's definitions. Each function is empty, and its contract states facts
+// of the definitions at concrete trains: which plans are valid and what they cost, what a fixing is
+// answered, which routes are left, what a node is bounded by, which trees are accepted and which
+// histories are legal. A definition that says something else fails the proof of its example.
+#![tactic(auto)]
+
+mod plans;
+
+pub use plans::{
+    a_later_listing_at_the_same_time_is_too_late, a_release_time_keeps_trains_apart,
+    resources_are_not_swapped_at_once, the_first_train_first, the_second_train_first,
+};
