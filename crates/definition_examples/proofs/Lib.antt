@@ -1,3 +1,6 @@
 pub mod Problems
 pub mod Pairs
 pub mod JudgedPlans
+pub mod Holding
+pub mod Answered
+pub mod JudgedHistories

@@ -36,3 +36,9 @@ at_pair P k (z ∷ xs) h (suc i) (suc j) x y lt at_i at_j =
     let here : k + suc i ≡ (k + 1) + i = omega arith in
     let there : k + suc j ≡ (k + 1) + j = omega arith in
     rw here (rw there (at_pair P (k + 1) xs h.1 i j x y less at_i at_j))
+
+-- what holds of each place, from the first on
+pub at_each : {X : Type 0} (P : ℕ → X → Type 0) (xs : List X) → Places P 0 xs → (j : ℕ) (x : X) → slice_get xs j ≡ Some x → P j x
+at_each P xs h j x at =
+    let same : 0 + j ≡ j = omega arith in
+    subst (λ k. P k x) same (at_place P 0 xs h j x at)

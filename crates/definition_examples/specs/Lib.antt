@@ -1,2 +1,3 @@
 pub mod Trains
 pub mod Plans
+pub mod Histories

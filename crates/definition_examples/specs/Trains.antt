@@ -1,5 +1,5 @@
 -- The trains of the examples, and the problems that have them.
-use Rattle.std.specs.Prelude.{◌≡◌, ℕ, List, [], ◌∷◌, None}
+use Rattle.std.specs.Prelude.{◌≡◌, ℕ, List, [], ◌∷◌, None, Some}
 use Rattle.disp_model.specs.declared.train.Op.{Op}
 use Rattle.disp_model.specs.declared.train.Operation.{Operation}
 use Rattle.disp_model.specs.declared.train.Listing.{Listing}
@@ -71,4 +71,13 @@ forked = lasting 0 [] (1 ∷ 2 ∷ []) ∷ lasting 5 [] (3 ∷ []) ∷ lasting 3
 -- a problem with the forked train
 pub record HasForkedTrain (problem : Problem) : Type 0 where
   pub trains : problem.trains ≡ forked ∷ []
+  pub components : problem.components ≡ []
+
+-- one train whose first operation may start from 2 to 5
+abbrev pub windowed : List Operation
+windowed = record { lower = 2; upper = Some 5; min = 1; listings = []; next = 1 ∷ [] } ∷ lasting 0 [] [] ∷ []
+
+-- a problem with the train of a window
+pub record HasWindowedTrain (problem : Problem) : Type 0 where
+  pub trains : problem.trains ≡ windowed ∷ []
   pub components : problem.components ≡ []

@@ -4,9 +4,16 @@
 // histories are legal. A definition that says something else fails the proof of its example.
 #![tactic(auto)]
 
+mod histories;
 mod plans;
+mod replies;
 
+pub use histories::{
+    a_plan_is_judged_by_the_newest_edition, an_edition_is_not_stopped_early,
+    an_edition_is_settled_once,
+};
 pub use plans::{
     a_later_listing_at_the_same_time_is_too_late, a_release_time_keeps_trains_apart,
     resources_are_not_swapped_at_once, the_first_train_first, the_second_train_first,
 };
+pub use replies::{a_fixing_names_what_is_there, a_start_is_fixed_once, a_start_is_within_its_window};

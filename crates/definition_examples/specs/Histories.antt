@@ -1,0 +1,38 @@
+-- The histories of the examples, on the two trains.
+use Rattle.std.specs.Prelude.{ℕ, List, [], ◌∷◌, None, Some}
+use Rattle.disp_model.specs.declared.fixing.Fixing.{Fixing}
+use Rattle.disp_model.specs.declared.fixing.Fixing.TheVariants.{Started}
+use Rattle.disp_model.specs.declared.reply.Reply.TheVariants.{Accepted}
+use Rattle.disp_model.specs.declared.tree.TreeNode.{TreeNode}
+use Rattle.disp_model.specs.declared.tree.Verdict.TheVariants.{Optimal}
+use Rattle.disp_model.specs.declared.entry.Entry.{Entry}
+use Rattle.disp_model.specs.declared.entry.Entry.TheVariants.{Asked, Shown, Published, Settled, Stopped}
+use Rattle.disp_model.specs.declared.entry.Mark.TheVariants as mark
+use Rattle.disp_model.specs.declared.plan.Event.{Event}
+use Rattle.definition_examples.specs.Plans.{first_first, second_first}
+
+-- the first train starts at 0
+abbrev pub a0_at_0 : Fixing
+a0_at_0 = Started 0 0 0
+
+-- the fixing is accepted, and a feed is shown edition 1
+abbrev pub asked : List Entry
+asked = Asked 0 1 a0_at_0 (Accepted 1) ∷ Shown 0 2 (record { edition = 1; best = None; mark = mark.Working }) ∷ []
+
+-- then a plan is published for edition 1
+abbrev pub published : List Event → ℕ → List Entry
+published plan cost =
+    Asked 0 1 a0_at_0 (Accepted 1) ∷ Shown 0 2 (record { edition = 1; best = None; mark = mark.Working }) ∷ Published 1 plan cost ∷ []
+
+-- a plan is published before the fixing is accepted, and a feed is shown the edition after it
+abbrev pub outdated : List Entry
+outdated =
+    Published 0 second_first 18 ∷ Asked 0 1 a0_at_0 (Accepted 1) ∷ Shown 0 2 (record { edition = 1; best = None; mark = mark.Working }) ∷ []
+
+-- an edition is settled twice
+abbrev pub settled_twice : ℕ → List TreeNode → List TreeNode → List Entry
+settled_twice cost tree other = Published 0 second_first 18 ∷ Settled 0 (Optimal cost) tree ∷ Settled 0 (Optimal cost) other ∷ []
+
+-- an edition is stopped
+abbrev pub stopped : ℕ → ℕ → List Entry
+stopped spent bound = Stopped 0 spent bound ∷ []
