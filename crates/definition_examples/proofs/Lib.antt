@@ -4,3 +4,5 @@ pub mod JudgedPlans
 pub mod Holding
 pub mod Answered
 pub mod JudgedHistories
+pub mod Contained
+pub mod ForkedRoutes

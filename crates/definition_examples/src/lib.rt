@@ -7,6 +7,7 @@
 mod histories;
 mod plans;
 mod replies;
+mod routes;
 
 pub use histories::{
     a_plan_is_judged_by_the_newest_edition, an_edition_is_not_stopped_early,
@@ -17,3 +18,4 @@ pub use plans::{
     resources_are_not_swapped_at_once, the_first_train_first, the_second_train_first,
 };
 pub use replies::{a_fixing_names_what_is_there, a_start_is_fixed_once, a_start_is_within_its_window};
+pub use routes::{a_choice_leaves_one_route, a_decision_forces_its_branch, a_fork_forces_no_branch};
