@@ -8,13 +8,13 @@ use Rattle.disp_model.specs.declared.reply.Reply.TheVariants.{Accepted}
 use Rattle.disp_model.specs.WellFormed.{IsWellFormed}
 use Rattle.disp_model.specs.Replies.{IsReply}
 use Rattle.disp_model.specs.Routes.{IsAllowed, HasRoute}
-use Rattle.definition_examples.specs.Trains.{HasTwoTrains, two_trains, two_costs}
+use Rattle.definition_examples.specs.Trains.{HasTwoTrains, two_trains, two_costs, listing}
 use Rattle.definition_examples.proofs.Problems.{made, of_made}
 use Rattle.definition_examples.proofs.Holding.{route_there}
 
 started_allowed : (names : List (List ℕ)) (w : IsWellFormed (two_trains 0) two_costs names) → IsAllowed (made (two_trains 0) two_costs names w) (Started 0 0 0 ∷ []) [] 0 (0 ∷ 1 ∷ [])
 started_allowed names w = record {
-  is_route = route_there 10 0;
+  is_route = route_there 10 (listing 0 0 ∷ []) 0 [];
   fixings_agree = search rules;
   decisions_agree = search rules;
 }

@@ -10,7 +10,7 @@ in_two a b x (zero, lt, at) = inl (sym at)
 in_two a b x (suc zero, lt, at) = inr (sym at)
 in_two a b x (suc (suc k), lt, at) = absurd (omega (arith, lt))
 
-nil_parts : (xs : List ℕ) (y : ℕ) (ys : List ℕ) → [] ≡ xs ++ y ∷ ys → ⊥
+pub nil_parts : (xs : List ℕ) (y : ℕ) (ys : List ℕ) → [] ≡ xs ++ y ∷ ys → ⊥
 nil_parts [] y ys e = grind (arith, e)
 nil_parts (x ∷ xs) y ys e = grind (arith, e)
 

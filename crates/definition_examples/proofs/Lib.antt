@@ -6,3 +6,6 @@ pub mod Answered
 pub mod JudgedHistories
 pub mod Contained
 pub mod ForkedRoutes
+pub mod Heights
+pub mod TwoArcs
+pub mod TwoWalks
