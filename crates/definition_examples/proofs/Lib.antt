@@ -9,3 +9,6 @@ pub mod ForkedRoutes
 pub mod Heights
 pub mod TwoArcs
 pub mod TwoWalks
+pub mod TwoBounds
+pub mod JudgedTrees
+pub mod Swapped
