@@ -1,15 +1,13 @@
 -- The first start of the first of the two trains is accepted.
-use Rattle.std.proofs.Common.{◌≡◌, ℕ, ◌<◌, List, [], ◌∷◌, inl, inr, refl, rules, arith}
-use Rattle.std.specs.Prelude.{All}
-use Rattle.disp_model.specs.declared.fixing.Fixing.{Fixing}
+use Rattle.std.proofs.Common.{ℕ, List, [], ◌∷◌, inr, refl, rules, arith}
 use Rattle.disp_model.specs.declared.fixing.Fixing.TheVariants.{Started}
 use Rattle.disp_model.specs.declared.problem.Problem.{Problem}
 use Rattle.disp_model.specs.declared.reply.Reply.TheVariants.{Accepted}
 use Rattle.disp_model.specs.WellFormed.{IsWellFormed}
 use Rattle.disp_model.specs.Replies.{IsReply}
-use Rattle.disp_model.specs.Routes.{IsAllowed, HasRoute}
+use Rattle.disp_model.specs.Routes.{IsAllowed}
 use Rattle.definition_examples.specs.Trains.{HasTwoTrains, two_trains, two_costs, listing}
-use Rattle.definition_examples.proofs.Problems.{made, of_made}
+use Rattle.definition_examples.proofs.Made.{made, of_made}
 use Rattle.definition_examples.proofs.Holding.{route_there}
 
 started_allowed : (names : List (List ℕ)) (w : IsWellFormed (two_trains 0) two_costs names) → IsAllowed (made (two_trains 0) two_costs names w) (Started 0 0 0 ∷ []) [] 0 (0 ∷ 1 ∷ [])

@@ -1,5 +1,5 @@
 -- What a short list contains, and where a short list is parted.
-use Rattle.std.proofs.Common.{◌≡◌, ◌≢◌, ◌⊎◌, inl, inr, ℕ, zero, suc, ◌<◌, List, [], ◌∷◌, ◌++◌, refl, sym, arith}
+use Rattle.std.proofs.Common.{◌≡◌, ◌≢◌, ◌⊎◌, inl, inr, ℕ, zero, suc, List, [], ◌∷◌, ◌++◌, sym, arith}
 use Rattle.std.specs.Prelude.{Contains}
 
 pub in_one : (a x : ℕ) → Contains (a ∷ []) x → x ≡ a

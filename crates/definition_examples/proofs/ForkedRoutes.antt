@@ -1,8 +1,7 @@
 -- The two routes of the forked train, and what is left of them.
-use Rattle.std.proofs.Common.{◌≡◌, ◌≢◌, ◌⊎◌, inl, inr, ℕ, zero, suc, ◌+◌, ◌<◌, ◌≤◌, List, [], ◌∷◌, ◌++◌, Some, refl, sym, subst, ap, ◌∙◌, arith, rules}
-use Rattle.std.specs.Prelude.{All, Contains, sum_by}
+use Rattle.std.proofs.Common.{◌≡◌, ◌⊎◌, inl, inr, ℕ, zero, suc, ◌<◌, ◌≤◌, List, [], ◌∷◌, Some, refl, subst, ap, ◌∙◌, arith, rules}
+use Rattle.std.specs.Prelude.{Contains, sum_by}
 use Rattle.std.proofs.lemmas.Option.{same_Some}
-use Rattle.disp_model.specs.declared.fixing.Fixing.{Fixing}
 use Rattle.disp_model.specs.declared.fixing.Fixing.TheVariants.{Chosen, Started}
 use Rattle.disp_model.specs.declared.decision.Decision.{Decision}
 use Rattle.disp_model.specs.declared.decision.Decision.TheVariants.{Go}
@@ -16,7 +15,7 @@ use Rattle.disp_model.specs.Routes.{IsAllowed, IsForced, HasOneRoute, HasRoute}
 use Rattle.disp_model.specs.Arcs.{IsTrainArc, Passes}
 use Rattle.disp_model.specs.Replies.{IsReply}
 use Rattle.definition_examples.specs.Trains.{HasForkedTrain, forked, op_named}
-use Rattle.definition_examples.proofs.Problems.{made, of_made}
+use Rattle.definition_examples.proofs.Made.{made, of_made}
 use Rattle.definition_examples.proofs.Contained.{in_one, in_two, parted}
 
 abbrev by_1 : List ℕ
@@ -53,16 +52,16 @@ on_from_0 : (rest : List ℕ) → GoesOn forked 0 rest → (rest ≡ 1 ∷ 3 ∷
 on_from_0 [] h = absurd (grind (arith, h.last))
 on_from_0 (s ∷ rest) h =
     elim (in_two 1 2 s h.0) [
-        inl same ↦ inl (rw same (ap (λ (xs : List ℕ). 1 ∷ xs) (on_from_1 rest (subst (λ x. GoesOn forked x rest) same h.1))))
-        | inr same ↦ inr (rw same (ap (λ (xs : List ℕ). 2 ∷ xs) (on_from_2 rest (subst (λ x. GoesOn forked x rest) same h.1))))
+      | inl same ↦ inl (rw same (ap (λ (xs : List ℕ). 1 ∷ xs) (on_from_1 rest (subst (λ x. GoesOn forked x rest) same h.1))))
+      | inr same ↦ inr (rw same (ap (λ (xs : List ℕ). 2 ∷ xs) (on_from_2 rest (subst (λ x. GoesOn forked x rest) same h.1))))
     ]
 
 two_routes : (route : List ℕ) → IsRoute forked route → (route ≡ by_1) ⊎ (route ≡ by_2)
 two_routes [] h = absurd h
 two_routes (zero ∷ rest) h =
     elim (on_from_0 rest h.1) [
-        inl same ↦ inl (ap (λ (xs : List ℕ). 0 ∷ xs) same)
-        | inr same ↦ inr (ap (λ (xs : List ℕ). 0 ∷ xs) same)
+      | inl same ↦ inl (ap (λ (xs : List ℕ). 0 ∷ xs) same)
+      | inr same ↦ inr (ap (λ (xs : List ℕ). 0 ∷ xs) same)
     ]
 two_routes (suc zero ∷ rest) h = absurd (h.0.first 0 (0, omega arith, refl))
 two_routes (suc (suc zero) ∷ rest) h = absurd (h.0.first 0 (1, omega arith, refl))
@@ -81,15 +80,15 @@ none_behind_1 (suc (suc (suc k)), lt, at) = omega (arith, lt)
 with_1 : (route : List ℕ) → IsRoute forked route → after 0 route ≡ Some 1 → route ≡ by_1
 with_1 route h next =
     elim (two_routes route h) [
-        inl same ↦ same
-        | inr same ↦ absurd (let two : 2 ≡ 1 = same_Some 2 1 (subst (λ r. after 0 r ≡ Some 1) same next) in omega (arith, two))
+      | inl same ↦ same
+      | inr same ↦ absurd (let two : 2 ≡ 1 = same_Some 2 1 (subst (λ r. after 0 r ≡ Some 1) same next) in omega (arith, two))
     ]
 
 with_2 : (route : List ℕ) → IsRoute forked route → after 0 route ≡ Some 2 → route ≡ by_2
 with_2 route h next =
     elim (two_routes route h) [
-        inl same ↦ absurd (let one : 1 ≡ 2 = same_Some 1 2 (subst (λ r. after 0 r ≡ Some 2) same next) in omega (arith, one))
-        | inr same ↦ same
+      | inl same ↦ absurd (let one : 1 ≡ 2 = same_Some 1 2 (subst (λ r. after 0 r ≡ Some 2) same next) in omega (arith, one))
+      | inr same ↦ same
     ]
 
 sum_by_1 : (total : ℕ) → Passes forked by_1 0 3 total → total ≡ 5
@@ -105,8 +104,8 @@ sum_by_2 total p =
 at_least_3 : (route : List ℕ) (total : ℕ) → IsRoute forked route → Passes forked route 0 3 total → 3 ≤ total
 at_least_3 route total h p =
     elim (two_routes route h) [
-        inl same ↦ let five : total ≡ 5 = sum_by_1 total (subst (λ r. Passes forked r 0 3 total) same p) in omega (arith, five)
-        | inr same ↦ let three : total ≡ 3 = sum_by_2 total (subst (λ r. Passes forked r 0 3 total) same p) in omega (arith, three)
+      | inl same ↦ let five : total ≡ 5 = sum_by_1 total (subst (λ r. Passes forked r 0 3 total) same p) in omega (arith, five)
+      | inr same ↦ let three : total ≡ 3 = sum_by_2 total (subst (λ r. Passes forked r 0 3 total) same p) in omega (arith, three)
     ]
 
 -- ---- on a problem
@@ -120,8 +119,8 @@ follows_0 problem route allowed has = allowed.decisions_agree 0 (Go (op_named 0 
 from_0 : (route : List ℕ) → IsRoute forked route → Contains route 0
 from_0 route h =
     elim (two_routes route h) [
-        inl same ↦ rw same (0, omega arith, refl)
-        | inr same ↦ rw same (0, omega arith, refl)
+      | inl same ↦ rw same (0, omega arith, refl)
+      | inr same ↦ rw same (0, omega arith, refl)
     ]
 
 free_by_1 : (names : List (List ℕ)) (w : IsWellFormed (forked ∷ []) [] names) → IsAllowed (made (forked ∷ []) [] names w) [] [] 0 by_1

@@ -1,13 +1,12 @@
 -- Where each operation has a height that no arc passes, no walk is longer than the height of its end. Where each
 -- arc leads to a higher rank, there is no cycle.
-use Rattle.std.proofs.Common.{◌≡◌, ℕ, ◌+◌, ◌<◌, ◌≤◌, List, [], ◌∷◌, ◌++◌, drop, get_or, refl, sym, subst, ap, arith}
+use Rattle.std.proofs.Common.{◌≡◌, ℕ, ◌+◌, ◌<◌, ◌≤◌, List, [], ◌∷◌, ◌++◌, drop, get_or, subst, ap, arith}
 use Rattle.disp_model.specs.declared.train.Op.{Op}
 use Rattle.disp_model.specs.declared.fixing.Fixing.{Fixing}
 use Rattle.disp_model.specs.declared.decision.Decision.{Decision}
 use Rattle.disp_model.specs.declared.problem.Problem.{Problem}
-use Rattle.disp_model.specs.Routes.{IsForced}
-use Rattle.disp_model.specs.Arcs.{IsArc, HasArc}
-use Rattle.disp_model.specs.Walks.{lower_of, WalksOn, IsWalk, EndsIn, HasNoTwice, IsLongest, ClosesTo, IsCycle, HasCycle}
+use Rattle.disp_model.specs.Arcs.{IsArc}
+use Rattle.disp_model.specs.Walks.{lower_of, WalksOn, IsWalk, EndsIn, HasNoTwice, IsLongest, ClosesTo, HasCycle}
 
 no_end : (front : List Op) (o : Op) → [] ≡ front ++ o ∷ [] → ⊥
 no_end [] o e = grind (arith, e)

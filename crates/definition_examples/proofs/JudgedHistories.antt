@@ -1,9 +1,6 @@
 -- The histories of the examples, judged.
-use Rattle.std.proofs.Common.{◌≡◌, ℕ, ◌<◌, List, [], ◌∷◌, Some, None, inr, take, refl, sym, subst, rules, arith}
-use Rattle.std.specs.Prelude.{slice_get}
+use Rattle.std.proofs.Common.{◌≡◌, ℕ, ◌<◌, List, [], ◌∷◌, None, inr, take, refl, sym, subst, rules, arith}
 use Rattle.std.proofs.lemmas.Option.{same_Some}
-use Rattle.disp_model.specs.declared.fixing.Fixing.TheVariants.{Started}
-use Rattle.disp_model.specs.declared.plan.Event.{Event}
 use Rattle.disp_model.specs.declared.train.Component.{Component}
 use Rattle.disp_model.specs.declared.problem.Problem.{Problem}
 use Rattle.disp_model.specs.declared.entry.Entry.{Entry}
@@ -15,10 +12,8 @@ use Rattle.disp_model.specs.declared.tree.TreeNode.{TreeNode}
 use Rattle.disp_model.specs.declared.tree.Verdict.TheVariants.{Optimal}
 use Rattle.disp_model.specs.Cost.{cost_of}
 use Rattle.disp_model.specs.Valid.{IsValid}
-use Rattle.disp_model.specs.History.{mark_of, IsStanding}
-use Rattle.disp_model.specs.Replies.{IsReply}
 use Rattle.disp_model.specs.Legal.{IsLegal, IsLegalEntry, IsLegalPlan, IsLegalVerdict, IsLegalStop}
-use Rattle.definition_examples.specs.Trains.{HasTwoTrains, two_costs}
+use Rattle.definition_examples.specs.Trains.{HasTwoTrains}
 use Rattle.definition_examples.specs.Plans.{first_first, second_first}
 use Rattle.definition_examples.specs.Histories.{asked, published, outdated, settled_twice, stopped, a0_at_0}
 use Rattle.definition_examples.proofs.Pairs.{Places, at_each}

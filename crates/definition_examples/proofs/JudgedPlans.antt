@@ -1,10 +1,7 @@
 -- The plans of the examples, judged.
-use Rattle.std.proofs.Common.{◌≡◌, ◌≢◌, ℕ, zero, suc, ◌+◌, ◌<◌, ◌≤◌, List, [], ◌∷◌, length, Some, refl, subst, sym, arith}
-use Rattle.std.specs.Prelude.{slice_get, All, IsSome, IfSome}
+use Rattle.std.proofs.Common.{◌≡◌, ℕ, ◌+◌, ◌<◌, ◌≤◌, List, [], ◌∷◌, Some, refl, subst, arith}
+use Rattle.std.specs.Prelude.{All}
 use Rattle.std.specs.List.{Any}
-use Rattle.std.specs.List.Sorted.{IsNonDecreasingBy}
-use Rattle.std.proofs.lemmas.Option.{none-some, same_Some}
-use Rattle.std.proofs.lemmas.List.Elements.{All-from_recursion, All-nil}
 use Rattle.disp_model.specs.declared.plan.Event.{Event}
 use Rattle.disp_model.specs.declared.train.Operation.{Operation}
 use Rattle.disp_model.specs.declared.train.Listing.{Listing}
@@ -14,7 +11,7 @@ use Rattle.disp_model.specs.Plan.{end_of}
 use Rattle.disp_model.specs.Valid.{IsValid, IsReleased, KeepApart, operation_of}
 use Rattle.definition_examples.specs.Trains.{HasTwoTrains, HasSwapTrains, two_trains, two_costs, swap_trains, listing, lasting}
 use Rattle.definition_examples.specs.Plans.{event, listed_too_early, second_first, swap_at_once}
-use Rattle.definition_examples.proofs.Problems.{made, of_made}
+use Rattle.definition_examples.proofs.Made.{made, of_made}
 
 -- two events that share a resource keep apart only where the second is released
 too_near : (problem : Problem) (plan : List Event) (i j : ℕ) (e f : Event) (o p : Operation) (l : Listing)

@@ -1,5 +1,5 @@
 -- The trees of the examples, judged.
-use Rattle.std.proofs.Common.{◌≡◌, ◌≢◌, ◌⊎◌, inl, inr, ℕ, zero, suc, ◌+◌, ◌<◌, ◌≤◌, List, [], ◌∷◌, ◌++◌, Some, refl, sym, subst, ap, ◌∙◌, arith, rules}
+use Rattle.std.proofs.Common.{◌≡◌, ◌≢◌, inl, inr, ℕ, ◌+◌, ◌≤◌, List, [], ◌∷◌, Some, refl, sym, subst, ap, ◌∙◌, arith, rules}
 use Rattle.std.specs.Prelude.{slice_get}
 use Rattle.std.proofs.lemmas.Option.{same_Some}
 use Rattle.disp_model.specs.declared.train.Op.{Op}
@@ -12,18 +12,18 @@ use Rattle.disp_model.specs.declared.tree.Verdict.TheVariants.{Optimal}
 use Rattle.disp_model.specs.WellFormed.{IsWellFormed}
 use Rattle.disp_model.specs.Cost.{cost_at}
 use Rattle.disp_model.specs.Routes.{HasNoRoute}
-use Rattle.disp_model.specs.Walks.{IsWalk, EndsIn}
+use Rattle.disp_model.specs.Walks.{IsWalk}
 use Rattle.disp_model.specs.Nodes.{component_op, IsDead}
-use Rattle.disp_model.specs.Trees.{WalkCosts, WalksCost, HaveDistinct, CostsEnough, IsLateWalk, Accepts, LeafHolds}
+use Rattle.disp_model.specs.Trees.{WalkCosts, HaveDistinct, CostsEnough, IsLateWalk, Accepts}
 use Rattle.definition_examples.specs.Trains.{HasTwoTrains, two_trains, two_costs, op_named, a0, a1, b0, b1, each_unit}
 use Rattle.definition_examples.specs.Trees.{walk_to, first_before, second_before, order_tree, counted_twice, late_tree}
 use Rattle.definition_examples.specs.Histories.{a0_at_0}
-use Rattle.definition_examples.proofs.Problems.{of_made}
+use Rattle.definition_examples.proofs.Made.{of_made}
 use Rattle.definition_examples.proofs.Pairs.{PairPlaces, at_pair}
 use Rattle.definition_examples.proofs.Heights.{IsHeight, longest, walk_below}
 use Rattle.definition_examples.proofs.TwoArcs.{two, IsOpen}
 use Rattle.definition_examples.proofs.TwoWalks.{IsFromZero, a_then_b, b_then_a, opened, unfixed, started, ordered, free_from_zero, started_from_zero, once, own_walk, across, through}
-use Rattle.definition_examples.proofs.TwoBounds.{unit_cost, a_first, b_first, b_first_height}
+use Rattle.definition_examples.proofs.TwoBounds.{unit_cost, b_first, b_first_height}
 
 distinct : (walks : List ComponentWalk) → PairPlaces (λ i v j w. v.component ≢ w.component) 0 walks → HaveDistinct walks
 distinct walks h i j v w lt at_i at_j = at_pair (λ k x l y. x.component ≢ y.component) 0 walks h i j v w lt at_i at_j
@@ -94,10 +94,14 @@ second_enough names w fixings cost low open_all le =
 
 accepted_made : (names : List (List ℕ)) (w : IsWellFormed (two_trains 0) two_costs names) → Accepts (two 0 names w) [] (Optimal 18) order_tree
 accepted_made names w =
-    let low = free_from_zero 0 names w in
-    ((a_then_b 0 names w).conflicts, refl,
-    (inr (first_enough names w [] 18 low (opened 0 names w [] first_before unfixed (ordered 0 1)) (omega arith)),
-    (inr (second_enough names w [] 18 low (opened 0 names w [] second_before unfixed (ordered 1 0)) (omega arith)), tt)))
+    let low = free_from_zero 0 names w in (
+      (a_then_b 0 names w).conflicts,
+      refl,
+      (
+        inr (first_enough names w [] 18 low (opened 0 names w [] first_before unfixed (ordered 0 1)) (omega arith)),
+        (inr (second_enough names w [] 18 low (opened 0 names w [] second_before unfixed (ordered 1 0)) (omega arith)), tt),
+      ),
+    )
 
 pub accepted : (problem : Problem) → HasTwoTrains 0 problem → Accepts problem [] (Optimal 18) order_tree
 accepted problem has = of_made (λ p. Accepts p [] (Optimal 18) order_tree) (two_trains 0) two_costs accepted_made problem has.trains has.components
@@ -136,8 +140,8 @@ not_19 names w (conflicts, children, (first, (second, done))) =
     let low = free_from_zero 0 names w in
     let open_all = opened 0 names w [] second_before unfixed (ordered 1 0) in
     elim second [
-        inl none ↦ has_route 0 names w [] second_before open_all none
-        | inr enough ↦ let less : 19 ≤ 18 = second_at_most_18 names w [] 19 low open_all enough in omega (arith, less)
+      | inl none ↦ has_route 0 names w [] second_before open_all none
+      | inr enough ↦ let less : 19 ≤ 18 = second_at_most_18 names w [] 19 low open_all enough in omega (arith, less)
     ]
 
 pub too_much : (problem : Problem) → HasTwoTrains 0 problem → Accepts problem [] (Optimal 19) order_tree → ⊥
@@ -148,8 +152,8 @@ too_much problem has = of_made (λ p. Accepts p [] (Optimal 19) order_tree → �
 not_twice : (names : List (List ℕ)) (w : IsWellFormed (two_trains 0) two_costs names) → Accepts (two 0 names w) [] (Optimal 18) counted_twice → ⊥
 not_twice names w (conflicts, children, (first, (second, done))) =
     elim second [
-        inl none ↦ has_route 0 names w [] second_before (opened 0 names w [] second_before unfixed (ordered 1 0)) none
-        | inr enough ↦ enough.distinct 0 1 (walk_to 0 (b0 ∷ b1 ∷ a0 ∷ a1 ∷ [])) (walk_to 0 (b0 ∷ b1 ∷ a0 ∷ a1 ∷ [])) (omega arith) refl refl refl
+      | inl none ↦ has_route 0 names w [] second_before (opened 0 names w [] second_before unfixed (ordered 1 0)) none
+      | inr enough ↦ enough.distinct 0 1 (walk_to 0 (b0 ∷ b1 ∷ a0 ∷ a1 ∷ [])) (walk_to 0 (b0 ∷ b1 ∷ a0 ∷ a1 ∷ [])) (omega arith) refl refl refl
     ]
 
 pub one_component_twice : (problem : Problem) → HasTwoTrains 0 problem → Accepts problem [] (Optimal 18) counted_twice → ⊥
@@ -172,10 +176,14 @@ pub late_walk : (problem : Problem) → HasTwoTrains 0 problem → IsLateWalk pr
 late_walk problem has = of_made (λ p. IsLateWalk p (a0_at_0 ∷ []) second_before (b0 ∷ b1 ∷ a0 ∷ [])) (two_trains 0) two_costs late_walk_made problem has.trains has.components
 
 pub late_made : (names : List (List ℕ)) (w : IsWellFormed (two_trains 0) two_costs names) → Accepts (two 0 names w) (a0_at_0 ∷ []) (Optimal 24) late_tree
-late_made names w =
-    ((a_then_b 0 names w).conflicts, refl,
-    (inr (first_enough names w (a0_at_0 ∷ []) 24 (started_from_zero 0 names w) (opened 0 names w (a0_at_0 ∷ []) first_before started (ordered 0 1)) (omega arith)),
-    (inr (late_walk_made names w), tt)))
+late_made names w = (
+  (a_then_b 0 names w).conflicts,
+  refl,
+  (
+    inr (first_enough names w (a0_at_0 ∷ []) 24 (started_from_zero 0 names w) (opened 0 names w (a0_at_0 ∷ []) first_before started (ordered 0 1)) (omega arith)),
+    (inr (late_walk_made names w), tt),
+  ),
+)
 
 pub late_accepted : (problem : Problem) → HasTwoTrains 0 problem → Accepts problem (a0_at_0 ∷ []) (Optimal 24) late_tree
 late_accepted problem has = of_made (λ p. Accepts p (a0_at_0 ∷ []) (Optimal 24) late_tree) (two_trains 0) two_costs late_made problem has.trains has.components

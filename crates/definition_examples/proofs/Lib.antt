@@ -1,4 +1,4 @@
-pub mod Problems
+pub mod Made
 pub mod Pairs
 pub mod JudgedPlans
 pub mod Holding
@@ -12,3 +12,4 @@ pub mod TwoWalks
 pub mod TwoBounds
 pub mod JudgedTrees
 pub mod Swapped
+pub mod WellMade

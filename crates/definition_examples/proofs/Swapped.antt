@@ -1,5 +1,5 @@
 -- Two orders against each other make a cycle of length 0 of the two trains that swap.
-use Rattle.std.proofs.Common.{◌≡◌, ◌≢◌, ◌⊎◌, inl, inr, ℕ, zero, suc, ◌<◌, List, [], ◌∷◌, refl, sym, subst, ap, arith, rules}
+use Rattle.std.proofs.Common.{◌≡◌, inl, inr, ℕ, zero, suc, ◌<◌, List, [], ◌∷◌, refl, sym, ap, arith, rules}
 use Rattle.std.specs.Prelude.{Contains}
 use Rattle.disp_model.specs.declared.decision.Decision.TheVariants.{First}
 use Rattle.disp_model.specs.declared.problem.Problem.{Problem}
@@ -8,12 +8,12 @@ use Rattle.disp_model.specs.Fixing.{after}
 use Rattle.disp_model.specs.Valid.{train_at}
 use Rattle.disp_model.specs.Train.{IsRoute}
 use Rattle.disp_model.specs.Routes.{IsAllowed, IsForced}
-use Rattle.disp_model.specs.Arcs.{IsArc, IsReleaseArc, Conflicts, release_of}
+use Rattle.disp_model.specs.Arcs.{IsArc, Conflicts, release_of}
 use Rattle.disp_model.specs.Walks.{IsCycle}
 use Rattle.disp_model.specs.Nodes.{IsDead}
-use Rattle.definition_examples.specs.Trains.{HasSwapTrains, swap_trains, listing, op_named, a0, a1, b0, b1}
+use Rattle.definition_examples.specs.Trains.{HasSwapTrains, swap_trains, listing, op_named, a1, b1}
 use Rattle.definition_examples.specs.Trees.{both_started, against}
-use Rattle.definition_examples.proofs.Problems.{made, of_made}
+use Rattle.definition_examples.proofs.Made.{made, of_made}
 use Rattle.definition_examples.proofs.Holding.{both, only_route, route_there}
 
 abbrev swap : (names : List (List ℕ)) → IsWellFormed swap_trains [] names → Problem

@@ -1,5 +1,5 @@
 -- The arcs of the two trains: each train's own, and those of one order.
-use Rattle.std.proofs.Common.{◌≡◌, ◌≢◌, ◌⊎◌, inl, inr, ℕ, zero, suc, ◌+◌, ◌<◌, ◌≤◌, List, [], ◌∷◌, ◌++◌, Some, refl, sym, subst, ap, ◌∙◌, arith, rules}
+use Rattle.std.proofs.Common.{◌≡◌, ◌⊎◌, inl, inr, ℕ, zero, suc, ◌+◌, ◌<◌, List, [], ◌∷◌, Some, refl, sym, subst, ap, ◌∙◌, arith}
 use Rattle.std.specs.Prelude.{Contains, sum_by}
 use Rattle.std.proofs.lemmas.Option.{same_Some}
 use Rattle.disp_model.specs.declared.train.Op.{Op}
@@ -11,11 +11,11 @@ use Rattle.disp_model.specs.WellFormed.{IsWellFormed}
 use Rattle.disp_model.specs.Train.{IsRoute, duration_of}
 use Rattle.disp_model.specs.Fixing.{after}
 use Rattle.disp_model.specs.Valid.{train_at}
-use Rattle.disp_model.specs.Routes.{IsAllowed, IsForced}
-use Rattle.disp_model.specs.Arcs.{Conflicts, IsArc, IsTrainArc, IsOrderArc, IsReleaseArc, IsLongestArc, Passes, min_of, release_of}
+use Rattle.disp_model.specs.Routes.{IsAllowed}
+use Rattle.disp_model.specs.Arcs.{IsArc, IsTrainArc, IsReleaseArc, Passes, min_of, release_of}
 use Rattle.definition_examples.specs.Trains.{two_trains, two_costs, op_named, listing}
-use Rattle.definition_examples.proofs.Problems.{made}
-use Rattle.definition_examples.proofs.Holding.{both, only_route, passed, route_there}
+use Rattle.definition_examples.proofs.Made.{made}
+use Rattle.definition_examples.proofs.Holding.{both, only_route, passed}
 
 -- a problem of the two trains
 abbrev pub two : (release : ℕ) (names : List (List ℕ)) → IsWellFormed (two_trains release) two_costs names → Problem
@@ -92,11 +92,11 @@ pub free_arcs : (release : ℕ) (names : List (List ℕ)) (w : IsWellFormed (two
     → IsArc (two release names w) fixings [] u v arc_length → IsOwn u v arc_length
 free_arcs release names w fixings u v arc_length arc =
     elim arc.kind [
-        inl own ↦ own_arc release names w fixings [] u v arc_length arc.from_forced.train own
-        | inr other ↦ elim other [
-            inl order ↦ absurd (none_decided u v order.decided)
-            | inr freed ↦ absurd (none_decided freed.holder v freed.decided)
-        ]
+      | inl own ↦ own_arc release names w fixings [] u v arc_length arc.from_forced.train own
+      | inr other ↦ elim other [
+        | inl order ↦ absurd (none_decided u v order.decided)
+        | inr freed ↦ absurd (none_decided freed.holder v freed.decided)
+      ]
     ]
 
 -- the arcs of an order of the two first operations: the order's own, and that from behind the earlier one
@@ -133,15 +133,15 @@ pub ordered_arcs : (release : ℕ) (names : List (List ℕ)) (w : IsWellFormed (
     → IsOwn u v arc_length ⊎ (IsOrdered (two release names w) s t u v arc_length ⊎ IsFreed (two release names w) s t u v arc_length)
 ordered_arcs release names w fixings s t u v arc_length lt open_all arc =
     elim arc.kind [
-        inl own ↦ inl (own_arc release names w fixings (one_order s t) u v arc_length arc.from_forced.train own)
-        | inr other ↦ elim other [
-            inl order ↦
+      | inl own ↦ inl (own_arc release names w fixings (one_order s t) u v arc_length arc.from_forced.train own)
+      | inr other ↦ elim other [
+        | inl order ↦
             let named = decided_is (op_named s 0) (op_named t 0) u v order.decided in
             inr (inl (record {
               from_is = named.0;
               to_is = named.1;
               length_is = subst (λ (x : Op). arc_length ≡ min_of (two release names w) (op_named s 0) + release_of (two release names w) (op_named s 0) x) named.1 (subst (λ (x : Op). arc_length ≡ min_of (two release names w) x + release_of (two release names w) x v) named.0 order.length_is);
             }))
-            | inr freed ↦ inr (inr (freed_arc release names w fixings s t u v arc_length lt open_all freed))
-        ]
+        | inr freed ↦ inr (inr (freed_arc release names w fixings s t u v arc_length lt open_all freed))
+      ]
     ]

@@ -1,5 +1,5 @@
 -- The heights of the two trains' operations under each order, and the bounds.
-use Rattle.std.proofs.Common.{◌≡◌, ◌≢◌, ◌⊎◌, inl, inr, ℕ, zero, suc, ◌+◌, ◌-◌, ◌*◌, ◌<◌, ◌≤◌, List, [], ◌∷◌, ◌++◌, refl, sym, subst, ap, ◌∙◌, arith, rules, Bool, true, false, cond}
+use Rattle.std.proofs.Common.{◌≡◌, inl, inr, ℕ, zero, suc, ◌+◌, ◌-◌, ◌*◌, ◌<◌, ◌≤◌, List, [], ◌∷◌, refl, sym, ap, ◌∙◌, arith, rules, Bool, true, false, cond}
 use Rattle.std.specs.Prelude.{nat_le}
 use Rattle.disp_model.specs.declared.train.Op.{Op}
 use Rattle.disp_model.specs.declared.train.Component.{Component}
@@ -8,15 +8,14 @@ use Rattle.disp_model.specs.declared.decision.Decision.{Decision}
 use Rattle.disp_model.specs.declared.problem.Problem.{Problem}
 use Rattle.disp_model.specs.WellFormed.{IsWellFormed}
 use Rattle.disp_model.specs.Cost.{cost_at}
-use Rattle.disp_model.specs.Routes.{IsForced}
-use Rattle.disp_model.specs.Arcs.{IsArc, min_of, release_of}
+use Rattle.disp_model.specs.Arcs.{release_of}
 use Rattle.disp_model.specs.Walks.{IsLongest}
 use Rattle.disp_model.specs.Nodes.{IsBound, Adds, AddUp, component_op}
 use Rattle.definition_examples.specs.Trains.{HasTwoTrains, two_trains, two_costs, op_named, a0, a1, b0, b1, each_unit}
 use Rattle.definition_examples.specs.Trees.{first_before, second_before}
-use Rattle.definition_examples.proofs.Problems.{made, of_made}
+use Rattle.definition_examples.proofs.Made.{of_made}
 use Rattle.definition_examples.proofs.Heights.{IsHeight, longest}
-use Rattle.definition_examples.proofs.TwoArcs.{two, lasts, IsOpen, IsOwn, IsOrdered, IsFreed, one_order, free_arcs, ordered_arcs}
+use Rattle.definition_examples.proofs.TwoArcs.{two, lasts, IsOpen, IsOwn, one_order, free_arcs, ordered_arcs}
 use Rattle.definition_examples.proofs.TwoWalks.{IsPair, IsFromZero, a_then_b, b_then_a, opened, unfixed, undecided, ordered, free_from_zero, forced, once, free_walk, own_walk, through}
 
 -- ---- a bound is one number
@@ -80,17 +79,17 @@ pub ordered_height : (release : ℕ) (names : List (List ℕ)) (w : IsWellFormed
 ordered_height release names w fixings s t pair low open_all h up order_up freed_up = record {
   lower = λ o. let zero_low = low o in omega (arith, zero_low);
   arcs = λ u v arc_length arc.
-  elim (ordered_arcs release names w fixings s t u v arc_length pair.first open_all arc) [
-      inl own ↦ own_rises h up u v arc_length own
-      | inr more ↦ elim more [
-          inl order ↦
-          let long : arc_length ≡ lasts s + release = order.length_is ∙ ap (λ (m : ℕ). m + release_of (two release names w) (op_named s 0) (op_named t 0)) pair.min_is ∙ ap (λ (r : ℕ). lasts s + r) pair.released in
-          rw order.from_is (rw order.to_is (rw long order_up))
+      elim (ordered_arcs release names w fixings s t u v arc_length pair.first open_all arc) [
+        | inl own ↦ own_rises h up u v arc_length own
+        | inr more ↦ elim more [
+          | inl order ↦
+              let long : arc_length ≡ lasts s + release = order.length_is ∙ ap (λ (m : ℕ). m + release_of (two release names w) (op_named s 0) (op_named t 0)) pair.min_is ∙ ap (λ (r : ℕ). lasts s + r) pair.released in
+              rw order.from_is (rw order.to_is (rw long order_up))
           | inr freed ↦
-          let long : arc_length ≡ release = freed.length_is ∙ pair.released in
-          rw freed.from_is (rw freed.to_is (rw long freed_up))
-      ]
-  ];
+              let long : arc_length ≡ release = freed.length_is ∙ pair.released in
+              rw freed.from_is (rw freed.to_is (rw long freed_up))
+        ]
+      ];
 }
 
 -- the heights under each order
@@ -124,9 +123,13 @@ unit_cost t o x = each_counts (nat_le 0 x) x
 two_bound : (release : ℕ) (names : List (List ℕ)) (w : IsWellFormed (two_trains release) two_costs names) (fixings : List Fixing) (decisions : List Decision) (x y : ℕ)
     → IsOpen (two release names w) fixings decisions → IsLongest (two release names w) fixings decisions a1 x → IsLongest (two release names w) fixings decisions b1 y
     → IsBound (two release names w) fixings decisions (x + (y + 0))
-two_bound release names w fixings decisions x y open_all of_a of_b =
-    (x, y + 0, inl (x, forced release names w fixings decisions open_all 0 1 (omega arith) (omega arith), of_a, unit_cost 0 1 x),
-    (y, 0, inl (y, forced release names w fixings decisions open_all 1 1 (omega arith) (omega arith), of_b, unit_cost 1 1 y), refl, refl), refl)
+two_bound release names w fixings decisions x y open_all of_a of_b = (
+  x,
+  y + 0,
+  inl (x, forced release names w fixings decisions open_all 0 1 (omega arith) (omega arith), of_a, unit_cost 0 1 x),
+  (y, 0, inl (y, forced release names w fixings decisions open_all 1 1 (omega arith) (omega arith), of_b, unit_cost 1 1 y), refl, refl),
+  refl,
+)
 
 pub free_bound : (release : ℕ) (names : List (List ℕ)) (w : IsWellFormed (two_trains release) two_costs names) (fixings : List Fixing) → IsFromZero (two release names w) fixings
     → IsOpen (two release names w) fixings [] → IsBound (two release names w) fixings [] 14

@@ -1,20 +1,20 @@
 -- The longest arcs of the two trains, and the walks along them.
-use Rattle.std.proofs.Common.{◌≡◌, ◌≢◌, ◌⊎◌, inl, inr, ℕ, zero, suc, ◌+◌, ◌<◌, ◌≤◌, List, [], ◌∷◌, ◌++◌, Option, Some, None, Bool, true, false, cond, refl, sym, subst, ap, ◌∙◌, arith, rules}
-use Rattle.std.specs.Prelude.{◌==◌, ◌&&◌, All, Contains, slice_get, unwrap_or}
+use Rattle.std.proofs.Common.{◌≡◌, ◌≢◌, inl, inr, ℕ, zero, suc, ◌+◌, ◌<◌, List, [], ◌∷◌, Some, None, Bool, true, false, cond, refl, sym, subst, ap, ◌∙◌, arith, rules}
+use Rattle.std.specs.Prelude.{◌==◌, ◌&&◌, All, Contains, unwrap_or}
 use Rattle.disp_model.specs.declared.train.Op.{Op}
 use Rattle.disp_model.specs.declared.fixing.Fixing.{Fixing}
 use Rattle.disp_model.specs.declared.decision.Decision.{Decision}
 use Rattle.disp_model.specs.declared.problem.Problem.{Problem}
 use Rattle.disp_model.specs.WellFormed.{IsWellFormed}
 use Rattle.disp_model.specs.Fixing.{after}
-use Rattle.disp_model.specs.Routes.{IsAllowed, IsForced, AgreesWithFixing, AgreesWithDecision}
+use Rattle.disp_model.specs.Routes.{IsForced, AgreesWithFixing, AgreesWithDecision}
 use Rattle.disp_model.specs.Arcs.{Conflicts, IsArc, IsTrainArc, IsReleaseArc, IsLongestArc, min_of, release_of}
 use Rattle.disp_model.specs.Walks.{lower_of, WalksOn, IsWalk, HasNoTwice}
 use Rattle.definition_examples.specs.Trains.{two_trains, two_costs, op_named, listing}
 use Rattle.definition_examples.specs.Histories.{a0_at_0}
 use Rattle.definition_examples.proofs.Pairs.{PairPlaces, at_pair}
 use Rattle.definition_examples.proofs.Holding.{both, route_there}
-use Rattle.definition_examples.proofs.TwoArcs.{two, lasts, IsOpen, route_is, sum_is, own_parts, IsOwn, IsOrdered, IsFreed, one_order, free_arcs, ordered_arcs}
+use Rattle.definition_examples.proofs.TwoArcs.{two, lasts, IsOpen, route_is, sum_is, own_parts, IsOwn, one_order, free_arcs, ordered_arcs}
 
 both_has : (o : ℕ) (route : List ℕ) → o < 2 → route ≡ both → Contains route o
 both_has zero route lt same = rw same (0, omega arith, refl)
@@ -84,7 +84,7 @@ own_train_arc release names w fixings decisions open_all t lt = record {
   same_train = refl;
   reached = (both, open_all t lt, record { before = []; between = []; behind = []; route_is = refl; total_is = sym (sum_is release names w t lt) });
   least = λ route total allowed passes.
-  let same : total ≡ lasts t = own_length t total (own_parts release names w (op_named t 0) (op_named t 1) total route lt refl allowed.is_route passes) in omega (arith, same);
+      let same : total ≡ lasts t = own_length t total (own_parts release names w (op_named t 0) (op_named t 1) total route lt refl allowed.is_route passes) in omega (arith, same);
 }
 
 pub own_there : (release : ℕ) (names : List (List ℕ)) (w : IsWellFormed (two_trains release) two_costs names) (fixings : List Fixing) (decisions : List Decision)
@@ -100,7 +100,7 @@ pub free_longest : (release : ℕ) (names : List (List ℕ)) (w : IsWellFormed (
 free_longest release names w fixings open_all t lt = record {
   there = own_there release names w fixings [] open_all t lt;
   longest = λ other arc.
-  let same : other ≡ lasts t = own_length t other (free_arcs release names w fixings (op_named t 0) (op_named t 1) other arc) in omega (arith, same);
+      let same : other ≡ lasts t = own_length t other (free_arcs release names w fixings (op_named t 0) (op_named t 1) other arc) in omega (arith, same);
 }
 
 -- two trains, the first of which goes first
@@ -137,13 +137,13 @@ pub ordered_longest : (release : ℕ) (names : List (List ℕ)) (w : IsWellForme
 ordered_longest release names w fixings s t u pair open_all lt = record {
   there = own_there release names w fixings (one_order s t) open_all u lt;
   longest = λ other arc.
-  elim (ordered_arcs release names w fixings s t (op_named u 0) (op_named u 1) other pair.first open_all arc) [
-      inl own ↦ let same : other ≡ lasts u = own_length u other own in omega (arith, same)
-      | inr more ↦ elim more [
-          inl order ↦ absurd (one_is_none u t order.to_is)
+      elim (ordered_arcs release names w fixings s t (op_named u 0) (op_named u 1) other pair.first open_all arc) [
+        | inl own ↦ let same : other ≡ lasts u = own_length u other own in omega (arith, same)
+        | inr more ↦ elim more [
+          | inl order ↦ absurd (one_is_none u t order.to_is)
           | inr freed ↦ absurd (one_is_none u t freed.to_is)
-      ]
-  ];
+        ]
+      ];
 }
 
 freed_there : (release : ℕ) (names : List (List ℕ)) (w : IsWellFormed (two_trains release) two_costs names) (fixings : List Fixing) (s t : ℕ) → IsPair release (two release names w) s t
@@ -166,13 +166,13 @@ freed_longest release names w fixings s t pair open_all = record {
     kind = inr (inr (freed_there release names w fixings s t pair open_all));
   };
   longest = λ other arc.
-  elim (ordered_arcs release names w fixings s t (op_named s 1) (op_named t 0) other pair.first open_all arc) [
-      inl own ↦ absurd (one_is_none s own.train own.from_is)
-      | inr more ↦ elim more [
-          inl order ↦ absurd (one_is_none s s order.from_is)
+      elim (ordered_arcs release names w fixings s t (op_named s 1) (op_named t 0) other pair.first open_all arc) [
+        | inl own ↦ absurd (one_is_none s own.train own.from_is)
+        | inr more ↦ elim more [
+          | inl order ↦ absurd (one_is_none s s order.from_is)
           | inr freed ↦ let same : other ≡ release = freed.length_is ∙ pair.released in omega (arith, same)
-      ]
-  ];
+        ]
+      ];
 }
 
 -- ---- walks
@@ -214,7 +214,12 @@ pub through : (release : ℕ) (names : List (List ℕ)) (w : IsWellFormed (two_t
     → IsWalk (two release names w) fixings (one_order s t) (op_named s 0 ∷ op_named s 1 ∷ op_named t 0 ∷ op_named t 1 ∷ []) (((0 + lasts s) + release) + lasts t)
 through release names w fixings s t pair low open_all =
     walk_from (two release names w) fixings (one_order s t) (op_named s 0) (op_named s 1 ∷ op_named t 0 ∷ op_named t 1 ∷ []) (((0 + lasts s) + release) + lasts t) low
-    (forced release names w fixings (one_order s t) open_all s 0 pair.first (omega arith))
-    (lasts s, ordered_longest release names w fixings s t s pair open_all pair.first,
-    (release, freed_longest release names w fixings s t pair open_all,
-    (lasts t, ordered_longest release names w fixings s t t pair open_all pair.second, refl)))
+    (forced release names w fixings (one_order s t) open_all s 0 pair.first (omega arith)) (
+      lasts s,
+      ordered_longest release names w fixings s t s pair open_all pair.first,
+      (
+        release,
+        freed_longest release names w fixings s t pair open_all,
+        (lasts t, ordered_longest release names w fixings s t t pair open_all pair.second, refl),
+      ),
+    )

@@ -1,5 +1,5 @@
 -- The histories of the examples, on the two trains.
-use Rattle.std.specs.Prelude.{ℕ, List, [], ◌∷◌, None, Some}
+use Rattle.std.specs.Prelude.{ℕ, List, [], ◌∷◌, None}
 use Rattle.disp_model.specs.declared.fixing.Fixing.{Fixing}
 use Rattle.disp_model.specs.declared.fixing.Fixing.TheVariants.{Started}
 use Rattle.disp_model.specs.declared.reply.Reply.TheVariants.{Accepted}
@@ -9,7 +9,7 @@ use Rattle.disp_model.specs.declared.entry.Entry.{Entry}
 use Rattle.disp_model.specs.declared.entry.Entry.TheVariants.{Asked, Shown, Published, Settled, Stopped}
 use Rattle.disp_model.specs.declared.entry.Mark.TheVariants as mark
 use Rattle.disp_model.specs.declared.plan.Event.{Event}
-use Rattle.definition_examples.specs.Plans.{first_first, second_first}
+use Rattle.definition_examples.specs.Plans.{second_first}
 
 -- the first train starts at 0
 abbrev pub a0_at_0 : Fixing

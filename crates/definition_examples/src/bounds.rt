@@ -8,15 +8,13 @@ ghost use Rattle.definition_examples.specs.Trees.{first_before, second_before};
 pub fn undecided_trains_are_bounded_alone()
     ensures bound { (problem : Problem) → HasTwoTrains 0 problem → IsBound problem [] [] 14 }
     ensures only { (problem : Problem) (bound : ℕ) → HasTwoTrains 0 problem → IsBound problem [] [] bound → bound ≡ 14 }
-{
-}
+{}
 
 /// An order makes the later train wait: the bound is 24 with the first train first, else 18.
 pub fn an_order_adds_the_wait()
     ensures first { (problem : Problem) → HasTwoTrains 0 problem → IsBound problem [] first_before 24 }
     ensures second { (problem : Problem) → HasTwoTrains 0 problem → IsBound problem [] second_before 18 }
-{
-}
+{}
 
 /// With the release time 3 the later train waits so much longer: 27 and 21, and no other number.
 pub fn a_release_time_adds_to_the_wait()
@@ -24,5 +22,4 @@ pub fn a_release_time_adds_to_the_wait()
     ensures second { (problem : Problem) → HasTwoTrains 3 problem → IsBound problem [] second_before 21 }
     ensures only_first { (problem : Problem) (bound : ℕ) → HasTwoTrains 3 problem → IsBound problem [] first_before bound → bound ≡ 27 }
     ensures only_second { (problem : Problem) (bound : ℕ) → HasTwoTrains 3 problem → IsBound problem [] second_before bound → bound ≡ 21 }
-{
-}
+{}

@@ -15,13 +15,11 @@ pub fn a_cycle_may_have_the_length_zero()
     ensures back { (problem : Problem) → HasSwapTrains problem → IsArc problem both_started against b1 a1 0 }
     ensures cycle { (problem : Problem) → HasSwapTrains problem → IsCycle problem both_started against (a1 ∷ b1 ∷ []) }
     ensures dead { (problem : Problem) → HasSwapTrains problem → IsDead problem both_started against }
-{
-}
+{}
 
 /// With the first train started at 0 and the second decided first, the walk B0, B1, A0 has the length 4
 /// and is too late for A0.
 pub fn a_fixed_start_can_be_too_early()
     ensures walk { (problem : Problem) → HasTwoTrains 0 problem → IsLateWalk problem (a0_at_0 ∷ []) second_before (b0 ∷ b1 ∷ a0 ∷ []) }
     ensures dead { (problem : Problem) → HasTwoTrains 0 problem → IsDead problem (a0_at_0 ∷ []) second_before }
-{
-}
+{}

@@ -8,11 +8,14 @@ mod bounds;
 mod dead_ends;
 mod histories;
 mod plans;
+mod problems;
 mod replies;
 mod routes;
 mod trees;
 
-pub use bounds::{an_order_adds_the_wait, a_release_time_adds_to_the_wait, undecided_trains_are_bounded_alone};
+pub use bounds::{
+    a_release_time_adds_to_the_wait, an_order_adds_the_wait, undecided_trains_are_bounded_alone,
+};
 pub use dead_ends::{a_cycle_may_have_the_length_zero, a_fixed_start_can_be_too_early};
 pub use histories::{
     a_plan_is_judged_by_the_newest_edition, an_edition_is_not_stopped_early,
@@ -22,6 +25,13 @@ pub use plans::{
     a_later_listing_at_the_same_time_is_too_late, a_release_time_keeps_trains_apart,
     resources_are_not_swapped_at_once, the_first_train_first, the_second_train_first,
 };
-pub use replies::{a_fixing_names_what_is_there, a_start_is_fixed_once, a_start_is_within_its_window};
-pub use routes::{a_choice_leaves_one_route, a_decision_forces_its_branch, a_fork_forces_no_branch};
-pub use trees::{a_component_counts_once, a_late_walk_closes_a_leaf, a_tree_shows_the_least_of_its_leaves};
+pub use problems::the_examples_are_problems;
+pub use replies::{
+    a_fixing_names_what_is_there, a_start_is_fixed_once, a_start_is_within_its_window,
+};
+pub use routes::{
+    a_choice_leaves_one_route, a_decision_forces_its_branch, a_fork_forces_no_branch,
+};
+pub use trees::{
+    a_component_counts_once, a_late_walk_closes_a_leaf, a_tree_shows_the_least_of_its_leaves,
+};
