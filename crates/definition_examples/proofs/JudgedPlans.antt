@@ -14,7 +14,7 @@ use Rattle.definition_examples.specs.Plans.{event, listed_too_early, second_firs
 use Rattle.definition_examples.proofs.Made.{made, of_made}
 
 -- two events that share a resource keep apart only where the second is released
-too_near : (problem : Problem) (plan : List Event) (i j : ℕ) (e f : Event) (o p : Operation) (l : Listing)
+pub too_near : (problem : Problem) (plan : List Event) (i j : ℕ) (e f : Event) (o p : Operation) (l : Listing)
     → operation_of problem e ≡ Some o → operation_of problem f ≡ Some p → o.listings ≡ l ∷ [] → p.listings ≡ l ∷ []
     → KeepApart problem plan i e j f → IsReleased (end_of problem.trains plan i e) l j f
 too_near problem plan i j e f o p l at_e at_f lists_o lists_p apart =

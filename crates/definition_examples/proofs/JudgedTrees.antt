@@ -118,7 +118,7 @@ cost_below problem fixings decisions h is w cost t o at costs =
     let cost_is : cost ≡ costs.total = costs.cost_is ∙ ap (λ (c : Component). cost_at c costs.total) same ∙ sym (unit_cost t o costs.total) in
     omega (arith, limit, cost_is)
 
-has_route : (release : ℕ) (names : List (List ℕ)) (w : IsWellFormed (two_trains release) two_costs names) (fixings : List Fixing) (decisions : List Decision) → IsOpen (two release names w) fixings decisions → HasNoRoute (two release names w) fixings decisions → ⊥
+pub has_route : (release : ℕ) (names : List (List ℕ)) (w : IsWellFormed (two_trains release) two_costs names) (fixings : List Fixing) (decisions : List Decision) → IsOpen (two release names w) fixings decisions → HasNoRoute (two release names w) fixings decisions → ⊥
 has_route release names w fixings decisions open_all (t, lt, none) = none (0 ∷ 1 ∷ [], open_all t lt)
 
 second_at_most_18 : (names : List (List ℕ)) (w : IsWellFormed (two_trains 0) two_costs names) (fixings : List Fixing) (cost : ℕ) → IsFromZero (two 0 names w) fixings

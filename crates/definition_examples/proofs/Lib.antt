@@ -13,3 +13,5 @@ pub mod TwoBounds
 pub mod JudgedTrees
 pub mod Swapped
 pub mod WellMade
+pub mod Picks
+pub mod PicksNothing

@@ -84,7 +84,7 @@ pub decided_is : (a b u v : Op) → Contains (First a b ∷ []) (First u v) → 
 decided_is a b u v (zero, lt, at) = (sym (ap earlier at), sym (ap later at))
 decided_is a b u v (suc k, lt, at) = absurd (let less : suc k < 1 = lt in omega (arith, less))
 
-none_decided : (u v : Op) → Contains [] (First u v) → ⊥
+pub none_decided : (u v : Op) → Contains [] (First u v) → ⊥
 none_decided u v (k, lt, at) = omega (arith, lt)
 
 -- with no decision each arc is a train's own

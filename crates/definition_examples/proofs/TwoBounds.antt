@@ -20,7 +20,7 @@ use Rattle.definition_examples.proofs.TwoWalks.{IsPair, IsFromZero, a_then_b, b_
 
 -- ---- a bound is one number
 
-longest_is_one : (problem : Problem) (fixings : List Fixing) (decisions : List Decision) (o : Op) (x y : ℕ) → IsLongest problem fixings decisions o x → IsLongest problem fixings decisions o y → x ≡ y
+pub longest_is_one : (problem : Problem) (fixings : List Fixing) (decisions : List Decision) (o : Op) (x y : ℕ) → IsLongest problem fixings decisions o x → IsLongest problem fixings decisions o y → x ≡ y
 longest_is_one problem fixings decisions o x y one other =
     let up : y ≤ x = one.none_longer other.reached.0 y other.reached.1 other.reached.2 other.reached.3 in
     let down : x ≤ y = other.none_longer one.reached.0 x one.reached.1 one.reached.2 one.reached.3 in
@@ -55,10 +55,10 @@ height_at w x y z (suc t) (suc o) = z
 abbrev pub height : ℕ → ℕ → ℕ → ℕ → Op → ℕ
 height w x y z o = height_at w x y z o.train o.op
 
-abbrev Rises : (Op → ℕ) → Type 0
+abbrev pub Rises : (Op → ℕ) → Type 0
 Rises h = (t : ℕ) → t < 2 → h (op_named t 0) + lasts t ≤ h (op_named t 1)
 
-rises : (w x y z : ℕ) → w + 10 ≤ x → y + 4 ≤ z → Rises (height w x y z)
+pub rises : (w x y z : ℕ) → w + 10 ≤ x → y + 4 ≤ z → Rises (height w x y z)
 rises w x y z a b zero lt = a
 rises w x y z a b (suc zero) lt = b
 rises w x y z a b (suc (suc t)) lt = absurd (omega (arith, lt))
@@ -66,7 +66,7 @@ rises w x y z a b (suc (suc t)) lt = absurd (omega (arith, lt))
 own_rises : (h : Op → ℕ) → Rises h → (u v : Op) (arc_length : ℕ) → IsOwn u v arc_length → h u + arc_length ≤ h v
 own_rises h up u v arc_length own = rw own.from_is (rw own.to_is (rw own.length_is (up own.train own.within)))
 
-free_height : (release : ℕ) (names : List (List ℕ)) (w : IsWellFormed (two_trains release) two_costs names) (fixings : List Fixing) → IsFromZero (two release names w) fixings
+pub free_height : (release : ℕ) (names : List (List ℕ)) (w : IsWellFormed (two_trains release) two_costs names) (fixings : List Fixing) → IsFromZero (two release names w) fixings
     → (h : Op → ℕ) → Rises h → IsHeight (two release names w) fixings [] h
 free_height release names w fixings low h up = record {
   lower = λ o. let zero_low = low o in omega (arith, zero_low);

@@ -21,3 +21,7 @@ first_first = event 0 0 0 ∷ event 0 1 10 ∷ event 1 0 10 ∷ event 1 1 14 ∷
 -- both trains swap their resources at 5
 abbrev pub swap_at_once : List Event
 swap_at_once = event 0 0 0 ∷ event 1 0 0 ∷ event 0 1 5 ∷ event 1 1 5 ∷ []
+
+-- each train by itself, as early as it can: A0 and B0 at 0, B1 at 4, A1 at 10
+abbrev pub each_alone : List Event
+each_alone = event 0 0 0 ∷ event 1 0 0 ∷ event 1 1 4 ∷ event 0 1 10 ∷ []

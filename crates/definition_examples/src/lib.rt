@@ -7,6 +7,7 @@
 mod bounds;
 mod dead_ends;
 mod histories;
+mod picked;
 mod plans;
 mod problems;
 mod replies;
@@ -21,6 +22,7 @@ pub use histories::{
     a_plan_is_judged_by_the_newest_edition, an_edition_is_not_stopped_early,
     an_edition_is_settled_once,
 };
+pub use picked::the_first_clash_is_picked;
 pub use plans::{
     a_later_listing_at_the_same_time_is_too_late, a_release_time_keeps_trains_apart,
     resources_are_not_swapped_at_once, the_first_train_first, the_second_train_first,
