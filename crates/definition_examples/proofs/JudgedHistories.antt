@@ -20,7 +20,7 @@ use Rattle.definition_examples.proofs.Pairs.{Places, at_each}
 use Rattle.definition_examples.proofs.Answered.{a_start_is_accepted}
 
 -- a history is legal where each of its entries is
-legal : (problem : Problem) (budget : ℕ) (history : List Entry) → Places (λ i entry. IsLegalEntry problem budget (take i history) entry) 0 history → IsLegal problem budget history
+pub legal : (problem : Problem) (budget : ℕ) (history : List Entry) → Places (λ i entry. IsLegalEntry problem budget (take i history) entry) 0 history → IsLegal problem budget history
 legal problem budget history each i entry at = at_each (λ j other. IsLegalEntry problem budget (take j history) other) history each i entry at
 
 pub asked_is_legal : (problem : Problem) (budget : ℕ) → HasTwoTrains 0 problem → IsLegal problem budget asked
@@ -43,7 +43,7 @@ published_is_legal problem budget has = legal problem budget (published first_fi
 second_first_legal : (problem : Problem) → HasTwoTrains 0 problem → IsLegalPlan problem [] 0 second_first 18
 second_first_legal problem has = search rules
 
-not_valid_then : (problem : Problem) → IsValid problem (a0_at_0 ∷ []) second_first → ⊥
+pub not_valid_then : (problem : Problem) → IsValid problem (a0_at_0 ∷ []) second_first → ⊥
 not_valid_then problem valid =
     let time : 4 ≡ 0 = same_Some 4 0 (valid.met 0 a0_at_0 (omega arith)) in
     omega (arith, time)

@@ -15,3 +15,4 @@ pub mod Swapped
 pub mod WellMade
 pub mod Picks
 pub mod PicksNothing
+pub mod SettledHistory

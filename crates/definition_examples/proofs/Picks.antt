@@ -1,6 +1,6 @@
 -- What is picked at two nodes of the two trains.
-use Rattle.std.proofs.Common.{◌≡◌, ◌≢◌, ◌⊎◌, inl, inr, ℕ, zero, suc, ◌+◌, ◌<◌, ◌≤◌, List, [], ◌∷◌, length, take, drop, Some, None, refl, sym, subst, ap, ◌∙◌, arith, rules}
-use Rattle.std.specs.Prelude.{Contains, slice_get}
+use Rattle.std.proofs.Common.{◌≡◌, ◌≢◌, ◌⊎◌, inl, inr, ℕ, zero, suc, ◌<◌, List, [], ◌∷◌, take, drop, Some, refl, sym, subst, ap, ◌∙◌, arith, rules}
+use Rattle.std.specs.Prelude.{Contains}
 use Rattle.std.specs.List.{AllByRecursion}
 use Rattle.std.proofs.lemmas.List.Elements.{All-from_recursion}
 use Rattle.disp_model.specs.declared.train.Op.{Op}
@@ -10,24 +10,22 @@ use Rattle.disp_model.specs.declared.decision.Choice.TheVariants.{Order}
 use Rattle.disp_model.specs.declared.plan.Event.{Event}
 use Rattle.disp_model.specs.declared.problem.Problem.{Problem}
 use Rattle.disp_model.specs.WellFormed.{IsWellFormed}
-use Rattle.disp_model.specs.Valid.{IsValid, IsReleased, KeepApart}
+use Rattle.disp_model.specs.Valid.{IsReleased, KeepApart}
 use Rattle.disp_model.specs.Plan.{end_of}
-use Rattle.disp_model.specs.Routes.{IsForced, HasOneRoute, Starts}
-use Rattle.disp_model.specs.Arcs.{IsArc, HasArc}
+use Rattle.disp_model.specs.Routes.{IsForced, Starts}
 use Rattle.disp_model.specs.Walks.{IsLongest}
-use Rattle.disp_model.specs.Earliest.{op_of, ComesBefore, IsReady, IsNext, HaveOneRoute, IsEarliest, Clash, IsOpenClash, IsPairUpTo, IsFirstClash, PicksOrder, PicksNone, IsPicked}
+use Rattle.disp_model.specs.Earliest.{op_of, ComesBefore, IsReady, IsNext, HaveOneRoute, IsEarliest, Clash, IsOpenClash, IsPairUpTo, PicksOrder, IsPicked}
 use Rattle.definition_examples.specs.Trains.{HasTwoTrains, two_trains, two_costs, op_named, a0, a1, b0, b1, listing, lasting}
 use Rattle.definition_examples.specs.Plans.{event, each_alone, second_first}
-use Rattle.definition_examples.specs.Trees.{second_before}
 use Rattle.definition_examples.proofs.Made.{of_made}
 use Rattle.definition_examples.proofs.Pairs.{Places, at_each, PairPlaces, at_pair}
 use Rattle.definition_examples.proofs.Contained.{in_two}
-use Rattle.definition_examples.proofs.Heights.{IsHeight, longest, no_cycle}
+use Rattle.definition_examples.proofs.Heights.{longest, no_cycle}
 use Rattle.definition_examples.proofs.Holding.{both}
 use Rattle.definition_examples.proofs.JudgedPlans.{too_near}
-use Rattle.definition_examples.proofs.TwoArcs.{two, IsOpen, IsOwn, IsOrdered, IsFreed, route_is, free_arcs, ordered_arcs, none_decided}
-use Rattle.definition_examples.proofs.TwoWalks.{IsFromZero, b_then_a, opened, unfixed, undecided, ordered, free_from_zero, forced, once, walk_from, free_walk, own_walk, across, through, freed_longest}
-use Rattle.definition_examples.proofs.TwoBounds.{height, rises, free_height, b_first, b_first_height}
+use Rattle.definition_examples.proofs.TwoArcs.{two, IsOpen, IsOwn, route_is, free_arcs, none_decided}
+use Rattle.definition_examples.proofs.TwoWalks.{IsFromZero, opened, unfixed, undecided, free_from_zero, forced, once, walk_from, free_walk}
+use Rattle.definition_examples.proofs.TwoBounds.{height, rises, free_height}
 
 -- what holds of each element holds of what the list contains
 pub of_each : {X : Type 0} (P : X → Type 0) (xs : List X) → AllByRecursion P xs → (x : X) → Contains xs x → P x
@@ -97,16 +95,23 @@ next_of_sorted problem fixings decisions stood rest e ready later = record {
 alone_ordered : (release : ℕ) (names : List (List ℕ)) (w : IsWellFormed (two_trains release) two_costs names) (fixings : List Fixing)
     → Places (λ i e. IsNext (two release names w) fixings [] (take i each_alone) (drop i each_alone) e) 0 each_alone
 alone_ordered release names w fixings =
-    let problem = two release names w in
-    (next_of_sorted problem fixings [] [] each_alone (event 0 0 0) (first_ready release names w fixings [] 0 0) (inl refl, (inr (inr (refl, inl (omega arith))), (inr (inl (omega arith)), (inr (inl (omega arith)), tt)))),
-    (next_of_sorted problem fixings [] (event 0 0 0 ∷ []) (event 1 0 0 ∷ event 1 1 4 ∷ event 0 1 10 ∷ []) (event 1 0 0) (first_ready release names w fixings (event 0 0 0 ∷ []) 1 0) (inl refl, (inr (inl (omega arith)), (inr (inl (omega arith)), tt))),
-    (next_of_sorted problem fixings [] (event 0 0 0 ∷ event 1 0 0 ∷ []) (event 1 1 4 ∷ event 0 1 10 ∷ []) (event 1 1 4) (second_ready release names w fixings (event 0 0 0 ∷ event 1 0 0 ∷ []) 1 4 (1, omega arith, refl)) (inl refl, (inr (inl (omega arith)), tt)),
-    (next_of_sorted problem fixings [] (event 0 0 0 ∷ event 1 0 0 ∷ event 1 1 4 ∷ []) (event 0 1 10 ∷ []) (event 0 1 10) (second_ready release names w fixings (event 0 0 0 ∷ event 1 0 0 ∷ event 1 1 4 ∷ []) 0 10 (0, omega arith, refl)) (inl refl, tt),
-    tt))))
+    let problem = two release names w in (
+      next_of_sorted problem fixings [] [] each_alone (event 0 0 0) (first_ready release names w fixings [] 0 0) (inl refl, (inr (inr (refl, inl (omega arith))), (inr (inl (omega arith)), (inr (inl (omega arith)), tt)))),
+      (
+        next_of_sorted problem fixings [] (event 0 0 0 ∷ []) (event 1 0 0 ∷ event 1 1 4 ∷ event 0 1 10 ∷ []) (event 1 0 0) (first_ready release names w fixings (event 0 0 0 ∷ []) 1 0) (inl refl, (inr (inl (omega arith)), (inr (inl (omega arith)), tt))),
+        (
+          next_of_sorted problem fixings [] (event 0 0 0 ∷ event 1 0 0 ∷ []) (event 1 1 4 ∷ event 0 1 10 ∷ []) (event 1 1 4) (second_ready release names w fixings (event 0 0 0 ∷ event 1 0 0 ∷ []) 1 4 (1, omega arith, refl)) (inl refl, (inr (inl (omega arith)), tt)),
+          (
+            next_of_sorted problem fixings [] (event 0 0 0 ∷ event 1 0 0 ∷ event 1 1 4 ∷ []) (event 0 1 10 ∷ []) (event 0 1 10) (second_ready release names w fixings (event 0 0 0 ∷ event 1 0 0 ∷ event 1 1 4 ∷ []) 0 10 (0, omega arith, refl)) (inl refl, tt),
+            tt,
+          ),
+        ),
+      ),
+    )
 
 -- ---- the earliest plan with no decision
 
-own_ranks : (u v : Op) (arc_length : ℕ) → IsOwn u v arc_length → u.op < v.op
+pub own_ranks : (u v : Op) (arc_length : ℕ) → IsOwn u v arc_length → u.op < v.op
 own_ranks u v arc_length own =
     let from : u.op ≡ 0 = ap (λ (x : Op). x.op) own.from_is in
     let to : v.op ≡ 1 = ap (λ (x : Op). x.op) own.to_is in
@@ -119,12 +124,19 @@ alone_starts release names w fixings low open_all =
     let h = height 0 10 0 4 in
     let is = free_height release names w fixings low h (rises 0 10 0 4 (omega arith) (omega arith)) in
     let at_a0 = forced release names w fixings [] open_all 0 0 (omega arith) (omega arith) in
-    let at_b0 = forced release names w fixings [] open_all 1 0 (omega arith) (omega arith) in
-    ((at_a0, longest problem fixings [] h is (a0 ∷ []) a0 ([], refl) (once (a0 ∷ []) (search rules)) (walk_from problem fixings [] a0 [] 0 low at_a0 refl)),
-    ((at_b0, longest problem fixings [] h is (b0 ∷ []) b0 ([], refl) (once (b0 ∷ []) (search rules)) (walk_from problem fixings [] b0 [] 0 low at_b0 refl)),
-    ((forced release names w fixings [] open_all 1 1 (omega arith) (omega arith), longest problem fixings [] h is (b0 ∷ b1 ∷ []) b1 (b0 ∷ [], refl) (once (b0 ∷ b1 ∷ []) (search rules)) (free_walk release names w fixings low open_all 1 (omega arith))),
-    ((forced release names w fixings [] open_all 0 1 (omega arith) (omega arith), longest problem fixings [] h is (a0 ∷ a1 ∷ []) a1 (a0 ∷ [], refl) (once (a0 ∷ a1 ∷ []) (search rules)) (free_walk release names w fixings low open_all 0 (omega arith))),
-    tt))))
+    let at_b0 = forced release names w fixings [] open_all 1 0 (omega arith) (omega arith) in (
+      (at_a0, longest problem fixings [] h is (a0 ∷ []) a0 ([], refl) (once (a0 ∷ []) (search rules)) (walk_from problem fixings [] a0 [] 0 low at_a0 refl)),
+      (
+        (at_b0, longest problem fixings [] h is (b0 ∷ []) b0 ([], refl) (once (b0 ∷ []) (search rules)) (walk_from problem fixings [] b0 [] 0 low at_b0 refl)),
+        (
+          (forced release names w fixings [] open_all 1 1 (omega arith) (omega arith), longest problem fixings [] h is (b0 ∷ b1 ∷ []) b1 (b0 ∷ [], refl) (once (b0 ∷ b1 ∷ []) (search rules)) (free_walk release names w fixings low open_all 1 (omega arith))),
+          (
+            (forced release names w fixings [] open_all 0 1 (omega arith) (omega arith), longest problem fixings [] h is (a0 ∷ a1 ∷ []) a1 (a0 ∷ [], refl) (once (a0 ∷ a1 ∷ []) (search rules)) (free_walk release names w fixings low open_all 0 (omega arith))),
+            tt,
+          ),
+        ),
+      ),
+    )
 
 abbrev pub AreDifferent : List Event → Type 0
 AreDifferent plan = PairPlaces (λ i e j f. op_of e ≢ op_of f) 0 plan

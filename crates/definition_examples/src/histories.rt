@@ -1,8 +1,8 @@
-ghost use Rattle.std.specs.Prelude.{ℕ, ◌<◌, List};
+ghost use Rattle.std.specs.Prelude.{ℕ, ◌<◌, ◌≤◌, List};
 ghost use Rattle.disp_model.specs.declared.problem.Problem.{Problem};
 ghost use Rattle.disp_model.specs.declared.tree.TreeNode.{TreeNode};
 ghost use Rattle.disp_model.specs.Legal.{IsLegal};
-ghost use Rattle.definition_examples.specs.Histories.{asked, outdated, published, settled_twice, stopped};
+ghost use Rattle.definition_examples.specs.Histories.{asked, outdated, published, settled, settled_twice, stopped};
 ghost use Rattle.definition_examples.specs.Plans.{first_first, second_first};
 ghost use Rattle.definition_examples.specs.Trains.{HasTwoTrains};
 
@@ -25,4 +25,11 @@ pub fn an_edition_is_settled_once()
 pub fn an_edition_is_not_stopped_early()
     ensures unspent { (problem : Problem) (budget bound : ℕ) → HasTwoTrains 0 problem → 0 < budget → IsLegal problem budget (stopped 0 bound) → ⊥ }
     ensures invented { (problem : Problem) (budget bound : ℕ) → HasTwoTrains 0 problem → 0 < budget → IsLegal problem budget (stopped budget bound) → ⊥ }
+{}
+
+/// A history in which a start is fixed, the tree split by the order that is picked, a plan of cost 24
+/// published and the edition settled with 24. With the plan of cost 18 in its place it is not legal.
+pub fn an_edition_is_settled_by_its_tree()
+    ensures legal { (problem : Problem) (budget : ℕ) → HasTwoTrains 0 problem → 1 ≤ budget → IsLegal problem budget (settled first_first 24) }
+    ensures not_met { (problem : Problem) (budget : ℕ) → HasTwoTrains 0 problem → IsLegal problem budget (settled second_first 18) → ⊥ }
 {}

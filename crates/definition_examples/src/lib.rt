@@ -20,7 +20,7 @@ pub use bounds::{
 pub use dead_ends::{a_cycle_may_have_the_length_zero, a_fixed_start_can_be_too_early};
 pub use histories::{
     a_plan_is_judged_by_the_newest_edition, an_edition_is_not_stopped_early,
-    an_edition_is_settled_once,
+    an_edition_is_settled_by_its_tree, an_edition_is_settled_once,
 };
 pub use picked::the_first_clash_is_picked;
 pub use plans::{

@@ -10,5 +10,4 @@ ghost use Rattle.definition_examples.specs.Trees.{second_before};
 pub fn the_first_clash_is_picked()
     ensures order { (problem : Problem) → HasTwoTrains 0 problem → IsPicked problem [] [] (Some (Order a0 b0)) }
     ensures none { (problem : Problem) → HasTwoTrains 0 problem → IsPicked problem [] second_before None }
-{
-}
+{}
