@@ -16,3 +16,5 @@ pub mod WellMade
 pub mod Picks
 pub mod PicksNothing
 pub mod SettledHistory
+pub mod OneReply
+pub mod StoppedHistory

@@ -36,7 +36,7 @@ open_started names w = opened 0 names w (a0_at_0 ∷ []) [] started undecided
 
 -- ---- the root is not dead: A0 alone has an upper, and it is in time
 
-no_upper : (names : List (List ℕ)) (w : IsWellFormed (two_trains 0) two_costs names) (t o : ℕ) → upper_of (two 0 names w) [] (op_named t o) ≡ None
+pub no_upper : (names : List (List ℕ)) (w : IsWellFormed (two_trains 0) two_costs names) (t o : ℕ) → upper_of (two 0 names w) [] (op_named t o) ≡ None
 no_upper names w zero zero = refl
 no_upper names w zero (suc zero) = refl
 no_upper names w zero (suc (suc o)) = refl

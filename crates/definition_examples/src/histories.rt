@@ -1,4 +1,4 @@
-ghost use Rattle.std.specs.Prelude.{ℕ, ◌<◌, ◌≤◌, List};
+ghost use Rattle.std.specs.Prelude.{◌≡◌, ℕ, ◌<◌, ◌≤◌, List};
 ghost use Rattle.disp_model.specs.declared.problem.Problem.{Problem};
 ghost use Rattle.disp_model.specs.declared.tree.TreeNode.{TreeNode};
 ghost use Rattle.disp_model.specs.Legal.{IsLegal};
@@ -32,4 +32,10 @@ pub fn an_edition_is_not_stopped_early()
 pub fn an_edition_is_settled_by_its_tree()
     ensures legal { (problem : Problem) (budget : ℕ) → HasTwoTrains 0 problem → 1 ≤ budget → IsLegal problem budget (settled first_first 24) }
     ensures not_met { (problem : Problem) (budget : ℕ) → HasTwoTrains 0 problem → IsLegal problem budget (settled second_first 18) → ⊥ }
+{}
+
+/// With no budget the edition is stopped at once, with the bound 14 of the tree's one leaf, and with no other.
+pub fn an_edition_is_stopped_with_its_bound()
+    ensures legal { (problem : Problem) → HasTwoTrains 0 problem → IsLegal problem 0 (stopped 0 14) }
+    ensures only { (problem : Problem) (bound : ℕ) → HasTwoTrains 0 problem → IsLegal problem 0 (stopped 0 bound) → bound ≡ 14 }
 {}

@@ -21,6 +21,7 @@ pub use dead_ends::{a_cycle_may_have_the_length_zero, a_fixed_start_can_be_too_e
 pub use histories::{
     a_plan_is_judged_by_the_newest_edition, an_edition_is_not_stopped_early,
     an_edition_is_settled_by_its_tree, an_edition_is_settled_once,
+    an_edition_is_stopped_with_its_bound,
 };
 pub use picked::the_first_clash_is_picked;
 pub use plans::{
@@ -29,7 +30,8 @@ pub use plans::{
 };
 pub use problems::the_examples_are_problems;
 pub use replies::{
-    a_fixing_names_what_is_there, a_start_is_fixed_once, a_start_is_within_its_window,
+    a_fixing_has_one_reply, a_fixing_names_what_is_there, a_start_is_fixed_once,
+    a_start_is_within_its_window,
 };
 pub use routes::{
     a_choice_leaves_one_route, a_decision_forces_its_branch, a_fork_forces_no_branch,

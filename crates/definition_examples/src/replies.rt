@@ -1,7 +1,9 @@
-ghost use Rattle.std.specs.Prelude.{[], ◌∷◌};
+ghost use Rattle.std.specs.Prelude.{◌≡◌, List, [], ◌∷◌};
+ghost use Rattle.disp_model.specs.declared.fixing.Fixing.{Fixing};
 ghost use Rattle.disp_model.specs.declared.fixing.Fixing.TheVariants.{Chosen, Started};
 ghost use Rattle.disp_model.specs.declared.problem.Problem.{Problem};
 ghost use Rattle.disp_model.specs.declared.reply.Refusal.TheVariants.{AboveUpper, BelowLower, NoOperation, NoSuccessor, NoTrain, StartedAt, TooLarge};
+ghost use Rattle.disp_model.specs.declared.reply.Reply.{Reply};
 ghost use Rattle.disp_model.specs.declared.reply.Reply.TheVariants.{Accepted, Known, Refused};
 ghost use Rattle.disp_model.specs.Replies.{IsReply};
 ghost use Rattle.definition_examples.specs.Trains.{HasTwoTrains, HasWindowedTrain};
@@ -25,4 +27,9 @@ pub fn a_fixing_names_what_is_there()
     ensures no_train { (problem : Problem) → HasWindowedTrain problem → IsReply problem [] (Started 1 0 2) (Refused NoTrain) }
     ensures no_operation { (problem : Problem) → HasWindowedTrain problem → IsReply problem [] (Started 0 2 2) (Refused NoOperation) }
     ensures no_successor { (problem : Problem) → HasWindowedTrain problem → IsReply problem [] (Chosen 0 0 0) (Refused NoSuccessor) }
+{}
+
+/// Whatever the problem and the fixings before, a fixing has one reply.
+pub fn a_fixing_has_one_reply()
+    ensures { (problem : Problem) (fixings : List Fixing) (fixing : Fixing) (reply other : Reply) → IsReply problem fixings fixing reply → IsReply problem fixings fixing other → reply ≡ other }
 {}
