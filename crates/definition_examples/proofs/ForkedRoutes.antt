@@ -113,9 +113,6 @@ at_least_3 route total h p =
 abbrev going_by_1 : List Decision
 going_by_1 = Go (op_named 0 0) 1 ∷ []
 
-follows_0 : (problem : Problem) (route : List ℕ) → IsAllowed problem [] going_by_1 0 route → Contains route 0 → after 0 route ≡ Some 1
-follows_0 problem route allowed has = allowed.decisions_agree 0 (Go (op_named 0 0) 1) (omega arith) refl has
-
 from_0 : (route : List ℕ) → IsRoute forked route → Contains route 0
 from_0 route h =
     elim (two_routes route h) [

@@ -10,7 +10,7 @@ use Rattle.disp_model.specs.declared.problem.Problem.{Problem}
 abbrev pub op_named : ℕ → ℕ → Op
 op_named t o = record { train = t; op = o }
 
--- the operations of the first two trains
+-- the operations of the first two trains, A and B
 abbrev pub a0 : Op
 a0 = op_named 0 0
 

@@ -1,4 +1,4 @@
--- The trees of the examples, on the two trains.
+-- The decisions and the trees of the examples.
 use Rattle.std.specs.Prelude.{ℕ, List, [], ◌∷◌}
 use Rattle.disp_model.specs.declared.train.Op.{Op}
 use Rattle.disp_model.specs.declared.fixing.Fixing.{Fixing}
