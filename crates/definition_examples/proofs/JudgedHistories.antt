@@ -1,21 +1,18 @@
 -- The histories of the examples, judged.
-use Rattle.std.proofs.Common.{◌≡◌, ℕ, ◌<◌, List, [], ◌∷◌, None, inr, take, refl, sym, subst, rules, arith}
+use Rattle.std.proofs.Common.{◌≡◌, ℕ, ◌<◌, List, [], ◌∷◌, None, inr, take, refl, subst, rules, arith}
 use Rattle.std.proofs.lemmas.Option.{same_Some}
 use Rattle.disp_model.specs.declared.train.Component.{Component}
 use Rattle.disp_model.specs.declared.problem.Problem.{Problem}
 use Rattle.disp_model.specs.declared.entry.Entry.{Entry}
-use Rattle.disp_model.specs.declared.entry.Entry.TheVariants.{Asked, Shown, Published, Settled, Stopped}
-use Rattle.disp_model.specs.declared.entry.Mark.{Mark}
+use Rattle.disp_model.specs.declared.entry.Entry.TheVariants.{Asked, Shown, Published, Stopped}
 use Rattle.disp_model.specs.declared.entry.Mark.TheVariants as mark
 use Rattle.disp_model.specs.declared.reply.Reply.TheVariants.{Accepted}
-use Rattle.disp_model.specs.declared.tree.TreeNode.{TreeNode}
-use Rattle.disp_model.specs.declared.tree.Verdict.TheVariants.{Optimal}
 use Rattle.disp_model.specs.Cost.{cost_of}
 use Rattle.disp_model.specs.Valid.{IsValid}
-use Rattle.disp_model.specs.Legal.{IsLegal, IsLegalEntry, IsLegalPlan, IsLegalVerdict, IsLegalStop}
+use Rattle.disp_model.specs.Legal.{IsLegal, IsLegalEntry, IsLegalPlan, IsLegalStop}
 use Rattle.definition_examples.specs.Trains.{HasTwoTrains}
 use Rattle.definition_examples.specs.Plans.{first_first, second_first}
-use Rattle.definition_examples.specs.Histories.{asked, published, outdated, settled_twice, stopped, a0_at_0}
+use Rattle.definition_examples.specs.Histories.{asked, published, outdated, stopped, a0_at_0}
 use Rattle.definition_examples.proofs.Pairs.{Places, at_each}
 use Rattle.definition_examples.proofs.Answered.{a_start_is_accepted}
 
@@ -64,19 +61,6 @@ other_cost problem budget has each =
     let entry : IsLegalPlan problem asked 1 first_first 23 = each 2 (Published 1 first_first 23) refl in
     let cost : 24 ≡ 23 = subst (λ (cs : List Component). cost_of cs first_first ≡ 23) has.components entry.cost_is in
     omega (arith, cost)
-
-is_working : Mark → Type 0
-is_working mark.Working = Unit {0}
-is_working (mark.Optimal cost) = ⊥
-is_working mark.Infeasible = ⊥
-is_working (mark.Stopped spent bound) = ⊥
-
-pub twice : (problem : Problem) (budget cost : ℕ) (tree other : List TreeNode) → HasTwoTrains 0 problem → IsLegal problem budget (settled_twice cost tree other) → ⊥
-unfolding is_working
-twice problem budget cost tree other has each =
-    let entry : IsLegalVerdict problem (Published 0 second_first 18 ∷ Settled 0 (Optimal cost) tree ∷ []) 0 (Optimal cost) other = each 2 (Settled 0 (Optimal cost) other) refl in
-    let marked : mark.Optimal cost ≡ mark.Working = entry.working.working in
-    subst is_working (sym marked) tt
 
 pub unspent : (problem : Problem) (budget bound : ℕ) → HasTwoTrains 0 problem → 0 < budget → IsLegal problem budget (stopped 0 bound) → ⊥
 unspent problem budget bound has some each =

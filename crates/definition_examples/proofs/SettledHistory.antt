@@ -1,5 +1,5 @@
 -- The whole history of the edition that fixes the first train's start: grown, a plan published, and settled.
-use Rattle.std.proofs.Common.{◌≡◌, inl, inr, ℕ, zero, suc, ◌<◌, ◌≤◌, List, [], ◌∷◌, Option, Some, None, Bool, true, false, cond, refl, sym, ◌∙◌, arith, rules}
+use Rattle.std.proofs.Common.{◌≡◌, inl, inr, ℕ, zero, suc, ◌<◌, ◌≤◌, List, [], ◌∷◌, Option, Some, None, Bool, true, false, cond, refl, sym, ◌∙◌, arith, rules, subst}
 use Rattle.std.specs.Prelude.{◌==◌, ◌&&◌}
 use Rattle.std.specs.Option.{option_map_or}
 use Rattle.std.proofs.lemmas.Option.{none-some}
@@ -7,8 +7,10 @@ use Rattle.disp_model.specs.declared.problem.Problem.{Problem}
 use Rattle.disp_model.specs.declared.decision.Choice.TheVariants.{Order}
 use Rattle.disp_model.specs.declared.entry.Entry.{Entry}
 use Rattle.disp_model.specs.declared.entry.Split.{Split}
-use Rattle.disp_model.specs.declared.entry.Entry.TheVariants.{Asked, Shown, Grown, Published}
+use Rattle.disp_model.specs.declared.entry.Entry.TheVariants.{Asked, Shown, Grown, Published, Settled}
+use Rattle.disp_model.specs.declared.entry.Mark.{Mark}
 use Rattle.disp_model.specs.declared.entry.Mark.TheVariants as mark
+use Rattle.disp_model.specs.declared.tree.TreeNode.{TreeNode}
 use Rattle.disp_model.specs.declared.reply.Reply.TheVariants.{Accepted}
 use Rattle.disp_model.specs.declared.tree.Verdict.TheVariants.{Optimal}
 use Rattle.disp_model.specs.WellFormed.{IsWellFormed}
@@ -20,7 +22,7 @@ use Rattle.disp_model.specs.Legal.{IsLegal, IsLegalGrowth, IsLegalPlan, IsLegalV
 use Rattle.definition_examples.specs.Trains.{HasTwoTrains, two_trains, two_costs, op_named, a0, b0}
 use Rattle.definition_examples.specs.Plans.{first_first, second_first}
 use Rattle.definition_examples.specs.Trees.{late_tree}
-use Rattle.definition_examples.specs.Histories.{a0_at_0, asked, settled}
+use Rattle.definition_examples.specs.Histories.{a0_at_0, asked, settled, settled_again}
 use Rattle.definition_examples.proofs.Made.{of_made}
 use Rattle.definition_examples.proofs.Heights.{no_cycle, walk_below}
 use Rattle.definition_examples.proofs.TwoArcs.{two, IsOpen, free_arcs}
@@ -140,3 +142,15 @@ pub settled_with_18 : (problem : Problem) (budget : ℕ) → HasTwoTrains 0 prob
 settled_with_18 problem budget has each =
     let entry : IsLegalPlan problem grown 1 second_first 18 = each 3 (Published 1 second_first 18) refl in
     not_valid_then problem entry.valid
+
+abbrev is_working : Mark → Type 0
+is_working mark.Working = Unit {0}
+is_working (mark.Optimal cost) = ⊥
+is_working mark.Infeasible = ⊥
+is_working (mark.Stopped spent bound) = ⊥
+
+pub not_again : (problem : Problem) (budget : ℕ) (tree : List TreeNode) → HasTwoTrains 0 problem → IsLegal problem budget (settled_again tree) → ⊥
+not_again problem budget tree has each =
+    let entry : IsLegalVerdict problem (settled first_first 24) 1 (Optimal 24) tree = each 5 (Settled 1 (Optimal 24) tree) refl in
+    let marked : mark.Optimal 24 ≡ mark.Working = entry.working.working in
+    subst is_working (sym marked) tt

@@ -1,5 +1,5 @@
 -- The histories of the examples, on the two trains.
-use Rattle.std.specs.Prelude.{ℕ, List, [], ◌∷◌, None}
+use Rattle.std.specs.Prelude.{ℕ, List, [], ◌∷◌, ◌++◌, None}
 use Rattle.disp_model.specs.declared.decision.Choice.TheVariants.{Order}
 use Rattle.disp_model.specs.declared.fixing.Fixing.{Fixing}
 use Rattle.disp_model.specs.declared.fixing.Fixing.TheVariants.{Started}
@@ -12,7 +12,7 @@ use Rattle.disp_model.specs.declared.entry.Mark.TheVariants as mark
 use Rattle.disp_model.specs.declared.plan.Event.{Event}
 use Rattle.definition_examples.specs.Trains.{a0, b0}
 use Rattle.definition_examples.specs.Trees.{late_tree}
-use Rattle.definition_examples.specs.Plans.{second_first}
+use Rattle.definition_examples.specs.Plans.{first_first, second_first}
 
 -- the first train starts at 0
 abbrev pub a0_at_0 : Fixing
@@ -32,10 +32,6 @@ abbrev pub outdated : List Entry
 outdated =
     Published 0 second_first 18 ∷ Asked 0 1 a0_at_0 (Accepted 1) ∷ Shown 0 2 (record { edition = 1; best = None; mark = mark.Working }) ∷ []
 
--- an edition is settled twice
-abbrev pub settled_twice : ℕ → List TreeNode → List TreeNode → List Entry
-settled_twice cost tree other = Published 0 second_first 18 ∷ Settled 0 (Optimal cost) tree ∷ Settled 0 (Optimal cost) other ∷ []
-
 -- an edition is stopped
 abbrev pub stopped : ℕ → ℕ → List Entry
 stopped spent bound = Stopped 0 spent bound ∷ []
@@ -46,3 +42,7 @@ abbrev pub settled : List Event → ℕ → List Entry
 settled plan cost =
     Asked 0 1 a0_at_0 (Accepted 1) ∷ Shown 0 2 (record { edition = 1; best = None; mark = mark.Working })
     ∷ Grown 0 1 1 1 (record { node = 1; choice = Order a0 b0 } ∷ []) ∷ Published 1 plan cost ∷ Settled 1 (Optimal cost) late_tree ∷ []
+
+-- the same edition is settled again, with whatever tree
+abbrev pub settled_again : List TreeNode → List Entry
+settled_again tree = settled first_first 24 ++ Settled 1 (Optimal 24) tree ∷ []

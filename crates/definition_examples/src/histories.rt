@@ -2,7 +2,7 @@ ghost use Rattle.std.specs.Prelude.{◌≡◌, ℕ, ◌<◌, ◌≤◌, List};
 ghost use Rattle.disp_model.specs.declared.problem.Problem.{Problem};
 ghost use Rattle.disp_model.specs.declared.tree.TreeNode.{TreeNode};
 ghost use Rattle.disp_model.specs.Legal.{IsLegal};
-ghost use Rattle.definition_examples.specs.Histories.{asked, outdated, published, settled, settled_twice, stopped};
+ghost use Rattle.definition_examples.specs.Histories.{asked, outdated, published, settled, settled_again, stopped};
 ghost use Rattle.definition_examples.specs.Plans.{first_first, second_first};
 ghost use Rattle.definition_examples.specs.Trains.{HasTwoTrains};
 
@@ -16,11 +16,6 @@ pub fn a_plan_is_judged_by_the_newest_edition()
     ensures other_cost { (problem : Problem) (budget : ℕ) → HasTwoTrains 0 problem → IsLegal problem budget (published first_first 23) → ⊥ }
 {}
 
-/// An edition is settled once, whatever the trees.
-pub fn an_edition_is_settled_once()
-    ensures { (problem : Problem) (budget cost : ℕ) (tree other : List TreeNode) → HasTwoTrains 0 problem → IsLegal problem budget (settled_twice cost tree other) → ⊥ }
-{}
-
 /// An edition is not stopped before its budget is spent.
 pub fn an_edition_is_not_stopped_early()
     ensures unspent { (problem : Problem) (budget bound : ℕ) → HasTwoTrains 0 problem → 0 < budget → IsLegal problem budget (stopped 0 bound) → ⊥ }
@@ -32,6 +27,11 @@ pub fn an_edition_is_not_stopped_early()
 pub fn an_edition_is_settled_by_its_tree()
     ensures legal { (problem : Problem) (budget : ℕ) → HasTwoTrains 0 problem → 1 ≤ budget → IsLegal problem budget (settled first_first 24) }
     ensures not_met { (problem : Problem) (budget : ℕ) → HasTwoTrains 0 problem → IsLegal problem budget (settled second_first 18) → ⊥ }
+{}
+
+/// An edition that was settled is not settled again, with whatever tree.
+pub fn an_edition_is_settled_once()
+    ensures { (problem : Problem) (budget : ℕ) (tree : List TreeNode) → HasTwoTrains 0 problem → IsLegal problem budget (settled_again tree) → ⊥ }
 {}
 
 /// With no budget the edition is stopped at once, with the bound 14 of the tree's one leaf, and with no other.
