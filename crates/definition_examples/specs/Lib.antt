@@ -1,0 +1,4 @@
+pub mod Trains
+pub mod Plans
+pub mod Histories
+pub mod Trees
