@@ -1,7 +1,7 @@
 -- The least sum of durations between two operations of a train exists, so an arc in a train stays when fixings are added.
 use Rattle.std.proofs.Common.{◌≡◌, ℕ, zero, suc, ◌+◌, ◌<◌, ◌≤◌, List, [], ◌∷◌, ◌++◌, false, cond, refl, sym, ap, subst, ◌∙◌, arith, inl, inr}
 use Rattle.std.specs.Prelude.{nat_eq, Contains, sum_by, ◌⊎◌}
-use Rattle.std.proofs.lemmas.Bool.{cases_Bool, cases_lt, eq-eqb, eqb-true}
+use Rattle.std.proofs.lemmas.Bool.{cases_Bool, cases_lt, eq-eqb, eqb-true, ne_eqb}
 use Rattle.std.proofs.lemmas.List.Sums.{sum_by-cons}
 use Rattle.disp_model.specs.declared.train.Op.{Op}
 use Rattle.disp_model.specs.declared.train.Operation.{Operation}
@@ -13,7 +13,7 @@ use Rattle.disp_model.specs.WellFormed.{LeadsTo, IsAcyclic}
 use Rattle.disp_model.specs.Valid.{train_at}
 use Rattle.disp_model.specs.Routes.{IsAllowed, IsForced}
 use Rattle.disp_model.specs.Arcs.{Passes, IsTrainArc}
-use Rattle.disp_model.proofs.Paths.{IsIn, is_in, leads_along}
+use Rattle.disp_model.proofs.Paths.{IsIn, is_in, leads_along, in_middle}
 use Rattle.disp_model.proofs.Branching.{route_from}
 use Rattle.disp_model.proofs.Positions.{leads_then}
 use Rattle.disp_model.proofs.Arcs.{passes_leads}
@@ -30,40 +30,29 @@ abbrev sum_from : List Operation → ℕ → ℕ → List ℕ → ℕ
 sum_from train u v [] = 0
 sum_from train u v (x ∷ xs) = cond (nat_eq x u) (duration_of train x + up_to train v xs) (sum_from train u v xs)
 
-apart : (x v : ℕ) → (x ≡ v → ⊥) → nat_eq x v ≡ false
-apart x v n = elim (cases_Bool (nat_eq x v)) [ inl is ↦ absurd (n (eqb-true x v is)) | inr is ↦ is ]
-
 up_to_there : (train : List Operation) (v : ℕ) (between behind : List ℕ) → (IsIn v between → ⊥) → up_to train v (between ++ v ∷ behind) ≡ sum_by (duration_of train) between
 up_to_there train v [] behind n = rw (eq-eqb v v refl) refl
 up_to_there train v (x ∷ between) behind n =
-    rw (apart x v (λ e. n (inl e)), sum_by-cons (duration_of train) x between) (ap (λ (s : ℕ). duration_of train x + s) (up_to_there train v between behind (λ h. n (inr h))))
+    rw (ne_eqb x v (λ e. n (inl e)), sum_by-cons (duration_of train) x between) (ap (λ (s : ℕ). duration_of train x + s) (up_to_there train v between behind (λ h. n (inr h))))
 
 from_there : (train : List Operation) (u v : ℕ) (before rest : List ℕ) → (IsIn u before → ⊥) → sum_from train u v (before ++ u ∷ rest) ≡ duration_of train u + up_to train v rest
 from_there train u v [] rest n = rw (eq-eqb u u refl) refl
-from_there train u v (x ∷ before) rest n = rw (apart x u (λ e. n (inl e))) (from_there train u v before rest (λ h. n (inr h)))
+from_there train u v (x ∷ before) rest n = rw (ne_eqb x u (λ e. n (inl e))) (from_there train u v before rest (λ h. n (inr h)))
 
 -- ---- an operation stands on a route at one place
-
-in_later : (v : ℕ) (between behind : List ℕ) → IsIn v (between ++ v ∷ behind)
-in_later v [] behind = inl refl
-in_later v (x ∷ between) behind = inr (in_later v between behind)
-
-goes_from : (train : List Operation) (p : ℕ) (before : List ℕ) (o : ℕ) (rest : List ℕ) → GoesOn train p (before ++ o ∷ rest) → GoesOn train o rest
-goes_from train p [] o rest goes = goes.1
-goes_from train p (q ∷ before) o rest goes = goes_from train q before o rest goes.1
 
 not_before : (train : List Operation) (p v : ℕ) (before rest : List ℕ) → IsAcyclic train → GoesOn train p (before ++ v ∷ rest) → IsIn v before → ⊥
 not_before train p v [] rest acyclic goes there = there
 not_before train p v (x ∷ before) rest acyclic goes (inr there) = not_before train x v before rest acyclic goes.1 there
 not_before train p v (x ∷ before) rest acyclic goes (inl same) =
-    let later = leads_along train x v (before ++ v ∷ rest) goes.1 (in_later v before rest) in
+    let later = leads_along train x v (before ++ v ∷ rest) goes.1 (in_middle v before rest) in
     acyclic.no_cycle later.0 v (subst (λ (y : ℕ). LeadsTo train later.0 y v) same later.1)
 
 not_before_on_route : (train : List Operation) (v : ℕ) (before rest : List ℕ) → IsAcyclic train → IsRoute train (before ++ v ∷ rest) → IsIn v before → ⊥
 not_before_on_route train v [] rest acyclic route there = there
 not_before_on_route train v (x ∷ before) rest acyclic route (inr there) = not_before train x v before rest acyclic route.1 there
 not_before_on_route train v (x ∷ before) rest acyclic route (inl same) =
-    let later = leads_along train x v (before ++ v ∷ rest) route.1 (in_later v before rest) in
+    let later = leads_along train x v (before ++ v ∷ rest) route.1 (in_middle v before rest) in
     acyclic.no_cycle later.0 v (subst (λ (y : ℕ). LeadsTo train later.0 y v) same later.1)
 
 -- what a route passes between two operations is what the sum along it gives
@@ -118,7 +107,7 @@ passes_both train route u v n acyclic is leads one other =
         around later = let joined = leads_then train n later.0 u v u leads later.1 in acyclic.no_cycle joined.0 u joined.1
 
         along : (p : ℕ) (before rest : List ℕ) → GoesOn train p (before ++ u ∷ rest) → IsIn v (p ∷ before) → (m : ℕ) × LeadsTo train m v u
-        along p before rest goes (inl same) = let later = leads_along train p u (before ++ u ∷ rest) goes (in_later u before rest) in (later.0, subst (λ (x : ℕ). LeadsTo train later.0 x u) same later.1)
+        along p before rest goes (inl same) = let later = leads_along train p u (before ++ u ∷ rest) goes (in_middle u before rest) in (later.0, subst (λ (x : ℕ). LeadsTo train later.0 x u) same later.1)
         along p [] rest goes (inr there) = absurd there
         along p (q ∷ before) rest goes (inr there) = along q before rest goes.1 there
 

@@ -14,12 +14,15 @@ use Rattle.disp_model.specs.Valid.{train_at}
 use Rattle.disp_model.specs.Fixing.{after}
 use Rattle.disp_model.specs.Routes.{IsAllowed, IsForced}
 use Rattle.disp_model.specs.Arcs.{listings_of, shared_listings, Conflicts, release_of, min_of, Passes, IsTrainArc, IsOrderArc, GoesTo, IsReleaseArc, IsArc, IsLongestArc}
-use Rattle.disp_model.proofs.Paths.{IsIn, is_in, in_or_not}
+use Rattle.disp_model.proofs.Paths.{IsIn, is_in, in_or_not, in_middle}
 use Rattle.disp_model.proofs.Arcs.{passes_leads}
 use Rattle.disp_model.proofs.RouteSearch.{Decided, same_number, same_option, both, denied, each_allowed_or_not, is_forced_or_not}
 use Rattle.disp_model.proofs.LeastSums.{train_arc_exists, passes_both, parted}
 
 -- ---- a greatest number
+
+less : (P : ℕ → Type 0) (most k : ℕ) → (P (suc most) → ⊥) → k ≤ suc most → P k → k ≤ most
+less P most k n le h = elim (cases_lt most k) [ inl lt ↦ (let same : k ≡ suc most = omega (arith, lt, le) in absurd (n (subst P same h))) | inr ok ↦ ok ]
 
 pub greatest_of : (P : ℕ → Type 0) → ((n : ℕ) → Decided (P n)) → (most : ℕ) → ((n : ℕ) → P n → n ≤ most) → (m : ℕ) → P m → (g : ℕ) × P g × ((n : ℕ) → P n → n ≤ g)
 greatest_of P each zero within m holds = (m, holds, λ n h. omega (arith, within n h))
@@ -27,9 +30,6 @@ greatest_of P each (suc most) within m holds = elim (each (suc most)) [
   | inl top ↦ (suc most, top, within)
   | inr n ↦ greatest_of P each most (λ k h. less P most k n (within k h) h) m holds
 ]
-  where
-    less : (P : ℕ → Type 0) (most k : ℕ) → (P (suc most) → ⊥) → k ≤ suc most → P k → k ≤ most
-    less P most k n le h = elim (cases_lt most k) [ inl lt ↦ (let same : k ≡ suc most = omega (arith, lt, le) in absurd (n (subst P same h))) | inr ok ↦ ok ]
 
 -- ---- some element
 
@@ -86,12 +86,8 @@ passes_or_not train (x ∷ route) u v = elim (both (same_number x u) (in_or_not 
   ]
 ]
   where
-    in_later : (v : ℕ) (between behind : List ℕ) → IsIn v (between ++ v ∷ behind)
-    in_later v [] behind = inl refl
-    in_later v (y ∷ between) behind = inr (in_later v between behind)
-
     split : (before between behind : List ℕ) (total : ℕ) → (((x ≡ u) × IsIn v route) → ⊥) → (((total : ℕ) × Passes train route u v total) → ⊥) → x ∷ route ≡ before ++ u ∷ (between ++ v ∷ behind) → total ≡ sum_by (duration_of train) (u ∷ between) → ⊥
-    split [] between behind total n none is sum = n (cc is, subst (IsIn v) (sym (cc is)) (in_later v between behind))
+    split [] between behind total n none is sum = n (cc is, subst (IsIn v) (sym (cc is)) (in_middle v between behind))
     split (y ∷ before) between behind total n none is sum = none (total, record { before = before; between = between; behind = behind; route_is = cc is; total_is = sum })
 
     neither : (((x ≡ u) × IsIn v route) → ⊥) → (((total : ℕ) × Passes train route u v total) → ⊥) → (total : ℕ) → Passes train (x ∷ route) u v total → ⊥
@@ -262,9 +258,6 @@ some_number_or_not P each (suc most) within = elim (each (suc most)) [
     | inl here ↦ inl (suc most , here)
     | inr n ↦ some_number_or_not P each most (λ k h. less P most k n (within k h) h)
   ]
-  where
-    less : (P : ℕ → Type 0) (most k : ℕ) → (P (suc most) → ⊥) → k ≤ suc most → P k → k ≤ most
-    less P most k n le h = elim (cases_lt most k) [ inl lt ↦ (let same : k ≡ suc most = omega (arith, lt, le) in absurd (n (subst P same h))) | inr ok ↦ ok ]
 
 pub has_arc_or_not : (problem : Problem) (fixings : List Fixing) (decisions : List Decision) (u v : Op) → Decided ((n : ℕ) × IsArc problem fixings decisions u v n)
 has_arc_or_not problem fixings decisions u v = elim (both (is_forced_or_not problem fixings decisions u) (is_forced_or_not problem fixings decisions v)) [

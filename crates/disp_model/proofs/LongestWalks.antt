@@ -10,6 +10,7 @@ use Rattle.disp_model.specs.declared.train.Operation.{Operation}
 use Rattle.disp_model.specs.declared.fixing.Fixing.{Fixing}
 use Rattle.disp_model.specs.declared.decision.Decision.{Decision}
 use Rattle.disp_model.specs.declared.problem.Problem.{Problem}
+use Rattle.disp_model.specs.Train.{IsRoute}
 use Rattle.disp_model.specs.Valid.{train_at}
 use Rattle.disp_model.specs.Routes.{IsForced}
 use Rattle.disp_model.specs.Arcs.{IsArc, IsLongestArc}
@@ -17,7 +18,10 @@ use Rattle.disp_model.specs.Walks.{lower_of, WalksOn, IsWalk, EndsIn, HasNoTwice
 use Rattle.disp_model.specs.Nodes.{component_op, Adds, AddUp, IsBound}
 use Rattle.disp_model.specs.declared.train.Component.{Component}
 use Rattle.disp_model.specs.Cost.{cost_at}
-use Rattle.disp_model.proofs.RouteSearch.{Decided, both, is_forced_or_not}
+use Rattle.disp_model.proofs.Paths.{is_in}
+use Rattle.disp_model.proofs.Branching.{contains_map}
+use Rattle.disp_model.proofs.Picked.{one_longest}
+use Rattle.disp_model.proofs.RouteSearch.{Decided, both, each_within, decided_part, is_forced_or_not}
 use Rattle.disp_model.proofs.LongestArcs.{same_op_or_not, longest_arc, has_arc_or_not}
 
 -- ---- the length of a walk is decided
@@ -136,17 +140,12 @@ lists_of : List Op → ℕ → List (List Op)
 lists_of ops zero = [] ∷ []
 lists_of ops (suc n) = [] ∷ spread_ops (lists_of ops n) ops
 
-map_holds : {X Y : Type 0} (f : X → Y) (xs : List X) (x : X) → Contains xs x → Contains (map f xs) (f x)
-map_holds f [] x (k , lt , e) = absurd (omega arith)
-map_holds f (y ∷ xs) x (zero , lt , e) = (0 , omega arith , ap f e)
-map_holds f (y ∷ xs) x (suc k , lt , e) = let c = map_holds f xs x (k , omega arith , e) in (suc c.0 , omega (arith, c.1) , c.2)
-
 spread_has : (behind : List (List Op)) (ops : List Op) (o : Op) (rest : List Op) → Among o ops → Contains behind rest → Contains (spread_ops behind ops) (o ∷ rest)
 unfolding spread_ops
 spread_has behind [] o rest there found = absurd there
 spread_has behind (p ∷ ops) o rest (inl same) found =
     Contains-append_left (map (λ l. p ∷ l) behind) (spread_ops behind ops) (o ∷ rest)
-    (subst (λ (q : Op). Contains (map (λ l. q ∷ l) behind) (o ∷ rest)) (sym same) (map_holds (λ l. o ∷ l) behind rest found))
+    (subst (λ (q : Op). Contains (map (λ l. q ∷ l) behind) (o ∷ rest)) (sym same) (contains_map (λ l. o ∷ l) behind rest found))
 spread_has behind (p ∷ ops) o rest (inr there) found = Contains-append_right (map (λ l. p ∷ l) behind) (spread_ops behind ops) (o ∷ rest) (spread_has behind ops o rest there found)
 
 -- each operation of the list is among those
@@ -193,3 +192,168 @@ once_fits (o ∷ walk) ops once each =
     let fits = once_fits walk (parts.front ++ parts.back) once.1 rest in
     let whole : length ops ≡ length parts.front + length (o ∷ parts.back) = ap length parts.is ∙ length-append parts.front (o ∷ parts.back) in
     omega (arith, fits, whole, length-append parts.front parts.back)
+
+-- ---- the operations of a problem
+
+ops_up_to : ℕ → ℕ → List Op
+ops_up_to t zero = []
+ops_up_to t (suc k) = record { train = t; op = k } ∷ ops_up_to t k
+
+all_ops_up_to : Problem → ℕ → List Op
+all_ops_up_to problem zero = []
+all_ops_up_to problem (suc t) = ops_up_to t (length (train_at problem t)) ++ all_ops_up_to problem t
+
+among_append_left : (o : Op) (xs ys : List Op) → Among o xs → Among o (xs ++ ys)
+among_append_left o [] ys there = absurd there
+among_append_left o (x ∷ xs) ys (inl same) = inl same
+among_append_left o (x ∷ xs) ys (inr there) = inr (among_append_left o xs ys there)
+
+among_append_right : (o : Op) (xs ys : List Op) → Among o ys → Among o (xs ++ ys)
+among_append_right o [] ys there = there
+among_append_right o (x ∷ xs) ys there = inr (among_append_right o xs ys there)
+
+among_ops : (t k n : ℕ) → k < n → Among (record { train = t; op = k }) (ops_up_to t n)
+unfolding ops_up_to
+among_ops t k zero lt = absurd (omega arith)
+among_ops t k (suc n) lt = elim (cases_lt k n) [
+    | inl before ↦ inr (among_ops t k n before)
+    | inr le ↦ inl (let same : n ≡ k = omega (arith, le, lt) in let at : ℕ → Op = λ m. record { train = t; op = m } in ap at same)
+  ]
+
+among_all_ops : (problem : Problem) (o : Op) (n : ℕ) → o.train < n → o.op < length (train_at problem o.train) → Among o (all_ops_up_to problem n)
+unfolding all_ops_up_to
+among_all_ops problem o zero lt there = absurd (omega arith)
+among_all_ops problem o (suc n) lt there = elim (cases_lt o.train n) [
+    | inl before ↦ among_append_right o (ops_up_to n (length (train_at problem n))) (all_ops_up_to problem n) (among_all_ops problem o n before there)
+    | inr le ↦
+        let same : o.train ≡ n = omega (arith, le, lt) in
+        among_append_left o (ops_up_to n (length (train_at problem n))) (all_ops_up_to problem n)
+        (subst (λ (t : ℕ). Among o (ops_up_to t (length (train_at problem t)))) same (among_ops o.train o.op (length (train_at problem o.train)) there))
+  ]
+
+forced_within : (problem : Problem) (fixings : List Fixing) (decisions : List Decision) (o : Op) → IsForced problem fixings decisions o → o.op < length (train_at problem o.train)
+forced_within problem fixings decisions o forced = on_route forced.allowed.0 forced.allowed.1.is_route (forced.each_has forced.allowed.0 forced.allowed.1)
+  where
+    on_route : (route : List ℕ) → IsRoute (train_at problem o.train) route → Contains route o.op → o.op < length (train_at problem o.train)
+    on_route [] is there = absurd is
+    on_route (p ∷ rest) is there = each_within (train_at problem o.train) p rest is.1 o.op (is_in o.op (p ∷ rest) there)
+
+-- every operation of a problem
+all_ops : Problem → List Op
+all_ops problem = all_ops_up_to problem (length problem.trains)
+
+forced_among : (problem : Problem) (fixings : List Fixing) (decisions : List Decision) (o : Op) → IsForced problem fixings decisions o → Among o (all_ops problem)
+unfolding all_ops
+forced_among problem fixings decisions o forced = among_all_ops problem o (length problem.trains) forced.train (forced_within problem fixings decisions o forced)
+
+walk_among : (problem : Problem) (fixings : List Fixing) (decisions : List Decision) (u : Op) (walked : ℕ) (rest : List Op) (total : ℕ) → WalksOn problem fixings decisions u walked rest total → EachAmong rest (all_ops problem)
+walk_among problem fixings decisions u walked [] total walk = tt
+walk_among problem fixings decisions u walked (v ∷ rest) total walk = (forced_among problem fixings decisions v walk.1.there.to_forced , walk_among problem fixings decisions v (walked + walk.0) rest total walk.2)
+
+is_walk_among : (problem : Problem) (fixings : List Fixing) (decisions : List Decision) (walk : List Op) (total : ℕ) → IsWalk problem fixings decisions walk total → EachAmong walk (all_ops problem)
+is_walk_among problem fixings decisions [] total is = tt
+is_walk_among problem fixings decisions (u ∷ rest) total is = (forced_among problem fixings decisions u is.0 , walk_among problem fixings decisions u (lower_of problem fixings u) rest total is.1)
+
+-- ---- the longest of a list of walks
+
+record IsLongestOf (problem : Problem) (fixings : List Fixing) (decisions : List Decision) (walks : List (List Op)) : Type 0 where
+  pub walk : List Op
+  pub there : Contains walks walk
+  pub total : ℕ
+  pub is_walk : IsWalk problem fixings decisions walk total
+  pub longest : (other : List Op) (t : ℕ) → Contains walks other → IsWalk problem fixings decisions other t → t ≤ total
+
+longest_of : (problem : Problem) (fixings : List Fixing) (decisions : List Decision) (first : List Op) (walks : List (List Op)) → ((walk : List Op) → Contains (first ∷ walks) walk → (t : ℕ) × IsWalk problem fixings decisions walk t)
+    → IsLongestOf problem fixings decisions (first ∷ walks)
+longest_of problem fixings decisions first [] each =
+    let own = each first (0 , omega arith , refl) in
+    record { walk = first; there = (0 , omega arith , refl); total = own.0; is_walk = own.1; longest = λ other t there is. only own.0 own.1 other t there is }
+  where
+    only : (total : ℕ) → IsWalk problem fixings decisions first total → (other : List Op) (t : ℕ) → Contains (first ∷ []) other → IsWalk problem fixings decisions other t → t ≤ total
+    only total own other t (zero , lt , e) is = let same = is_walk_same problem fixings decisions first t total (subst (λ (w : List Op). IsWalk problem fixings decisions w t) (sym e) is) own in omega (arith, same)
+    only total own other t (suc k , lt , e) is = absurd (omega (arith, lt))
+longest_of problem fixings decisions first (second ∷ walks) each =
+    better (each first (0 , omega arith , refl)) (longest_of problem fixings decisions second walks (λ walk there. each walk (suc there.0 , omega (arith, there.1) , there.2)))
+  where
+    better : ((t : ℕ) × IsWalk problem fixings decisions first t) → IsLongestOf problem fixings decisions (second ∷ walks) → IsLongestOf problem fixings decisions (first ∷ second ∷ walks)
+    better own rest = elim (cases_lt own.0 rest.total) [
+        | inl lt ↦ record { walk = rest.walk; there = (suc rest.there.0 , omega (arith, rest.there.1) , rest.there.2); total = rest.total; is_walk = rest.is_walk; longest = pick own.0 own.1 rest rest.total (omega (arith, lt)) (omega arith) }
+        | inr le ↦ record { walk = first; there = (0 , omega arith , refl); total = own.0; is_walk = own.1; longest = pick own.0 own.1 rest own.0 (omega arith) le }
+      ]
+      where
+        pick : (total : ℕ) → IsWalk problem fixings decisions first total → (rest : IsLongestOf problem fixings decisions (second ∷ walks)) → (most : ℕ) → total ≤ most → rest.total ≤ most
+            → (other : List Op) (t : ℕ) → Contains (first ∷ second ∷ walks) other → IsWalk problem fixings decisions other t → t ≤ most
+        pick total own rest most le ge other t (zero , lt , e) is =
+          let same = is_walk_same problem fixings decisions first t total (subst (λ (w : List Op). IsWalk problem fixings decisions w t) (sym e) is) own in omega (arith, same, le)
+        pick total own rest most le ge other t (suc k , lt , e) is = omega (arith, ge, rest.longest other t (k , omega (arith, lt) , e) is)
+
+-- a walk to the operation without repetition
+Reaches : Problem → List Fixing → List Decision → Op → List Op → Type 0
+Reaches problem fixings decisions o walk = EndsIn walk o × (Once walk × ((total : ℕ) × IsWalk problem fixings decisions walk total))
+
+reaches_or_not : (problem : Problem) (fixings : List Fixing) (decisions : List Decision) (o : Op) (walk : List Op) → Decided (Reaches problem fixings decisions o walk)
+unfolding Reaches
+reaches_or_not problem fixings decisions o walk = both (ends_or_not walk o) (both (once_or_not walk) (is_walk_or_not problem fixings decisions walk))
+
+pub longest_walk : (problem : Problem) (fixings : List Fixing) (decisions : List Decision) (o : Op) → IsForced problem fixings decisions o → (total : ℕ) × IsLongest problem fixings decisions o total
+unfolding Reaches
+longest_walk problem fixings decisions o forced =
+    let part = decided_part (Reaches problem fixings decisions o) (reaches_or_not problem fixings decisions o) (lists_of (all_ops problem) (length (all_ops problem))) in
+    from_part part.0 part.1 part.2
+  where
+    own : Reaches problem fixings decisions o (o ∷ [])
+    own = (([] , refl) , (((λ there. there) , tt) , (lower_of problem fixings o , (forced , refl))))
+
+    among : (walk : List Op) → Reaches problem fixings decisions o walk → Contains (lists_of (all_ops problem) (length (all_ops problem))) walk
+    among walk reaches =
+      let each = is_walk_among problem fixings decisions walk reaches.1.1.0 reaches.1.1.1 in
+      lists_have (all_ops problem) (length (all_ops problem)) walk each (once_fits walk (all_ops problem) reaches.1.0 each)
+
+    by_list : (walks : List (List Op)) → Contains walks (o ∷ []) → ((walk : List Op) → Reaches problem fixings decisions o walk → Contains walks walk)
+        → ((walk : List Op) → Contains walks walk → Reaches problem fixings decisions o walk) → (total : ℕ) × IsLongest problem fixings decisions o total
+    by_list [] here has only = absurd (nowhere here)
+      where
+        nowhere : Contains [] (o ∷ []) → ⊥
+        nowhere (k , lt , e) = omega arith
+    by_list (first ∷ walks) here has only =
+      let best = longest_of problem fixings decisions first walks (λ walk there. (only walk there).1.1) in
+      let reached = only best.walk best.there in
+      (best.total , record {
+          reached = (best.walk , reached.0 , from_once best.walk reached.1.0 , best.is_walk);
+          none_longer = λ walk other ends single is. best.longest walk other (has walk (ends , (once_from walk single , (other , is)))) is;
+        })
+
+    from_part : (walks : List (List Op)) → ((walk : List Op) → Contains (lists_of (all_ops problem) (length (all_ops problem))) walk → Reaches problem fixings decisions o walk → Contains walks walk)
+        → ((walk : List Op) → Contains walks walk → Reaches problem fixings decisions o walk) → (total : ℕ) × IsLongest problem fixings decisions o total
+    from_part walks has only = by_list walks (has (o ∷ []) (among (o ∷ []) own) own) (λ walk reaches. has walk (among walk reaches) reaches) only
+
+-- ---- so each node has a bound
+
+adds_some : (problem : Problem) (fixings : List Fixing) (decisions : List Decision) (c : Component) → (cost : ℕ) × Adds problem fixings decisions c cost
+adds_some problem fixings decisions c = elim (is_forced_or_not problem fixings decisions (component_op c)) [
+    | inl forced ↦ let longest = longest_walk problem fixings decisions (component_op c) forced in (cost_at c longest.0 , inl (longest.0 , forced , longest.1 , refl))
+    | inr free ↦ (0 , inr (free , refl))
+  ]
+
+add_up_some : (problem : Problem) (fixings : List Fixing) (decisions : List Decision) (components : List Component) → (bound : ℕ) × AddUp problem fixings decisions components bound
+add_up_some problem fixings decisions [] = (0 , refl)
+add_up_some problem fixings decisions (c ∷ components) =
+    let here = adds_some problem fixings decisions c in
+    let rest = add_up_some problem fixings decisions components in
+    (here.0 + rest.0 , (here.0 , rest.0 , here.1 , rest.1 , refl))
+
+pub some_bound : (problem : Problem) (fixings : List Fixing) (decisions : List Decision) → (bound : ℕ) × IsBound problem fixings decisions bound
+some_bound problem fixings decisions = add_up_some problem fixings decisions problem.components
+
+-- ---- and one alone
+
+adds_same : (problem : Problem) (fixings : List Fixing) (decisions : List Decision) (c : Component) (s t : ℕ) → Adds problem fixings decisions c s → Adds problem fixings decisions c t → s ≡ t
+adds_same problem fixings decisions c s t (inl (m , forced , longest , is)) (inl (n , again , other , too)) = is ∙ ap (cost_at c) (one_longest problem fixings decisions (component_op c) m n longest other) ∙ sym too
+adds_same problem fixings decisions c s t (inl (m , forced , longest , is)) (inr (free , too)) = absurd (free forced)
+adds_same problem fixings decisions c s t (inr (free , is)) (inl (n , forced , longest , too)) = absurd (free forced)
+adds_same problem fixings decisions c s t (inr (free , is)) (inr (again , too)) = is ∙ sym too
+
+pub add_up_same : (problem : Problem) (fixings : List Fixing) (decisions : List Decision) (components : List Component) (s t : ℕ) → AddUp problem fixings decisions components s → AddUp problem fixings decisions components t → s ≡ t
+add_up_same problem fixings decisions [] s t one other = one ∙ sym other
+add_up_same problem fixings decisions (c ∷ components) s t one other =
+    omega (arith, adds_same problem fixings decisions c one.0 other.0 one.2 other.2, add_up_same problem fixings decisions components one.1 other.1 one.3 other.3, one.4, other.4)

@@ -1,5 +1,5 @@
 -- Routes of a train: what follows an operation on one, and that none stands on it twice.
-use Rattle.std.proofs.Common.{◌≡◌, ℕ, zero, suc, List, [], ◌∷◌, Some, false, refl, subst, ◌∙◌, arith, inl, inr}
+use Rattle.std.proofs.Common.{◌≡◌, ℕ, zero, suc, List, [], ◌∷◌, ◌++◌, Some, false, refl, subst, ◌∙◌, arith, inl, inr}
 use Rattle.std.specs.Prelude.{nat_eq, Contains, ◌⊎◌}
 use Rattle.std.proofs.lemmas.Bool.{cases_Bool, eq-eqb, eqb-true, eqb-false}
 use Rattle.disp_model.specs.declared.train.Operation.{Operation}
@@ -21,6 +21,10 @@ pub contains_in : (o : ℕ) (ops : List ℕ) → IsIn o ops → Contains ops o
 contains_in o [] h = absurd h
 contains_in o (p ∷ ops) (inl e) = (0, omega arith, e)
 contains_in o (p ∷ ops) (inr h) = let c = contains_in o ops h in (suc c.0, omega (arith, c.1), c.2)
+
+pub in_middle : (o : ℕ) (front rest : List ℕ) → IsIn o (front ++ o ∷ rest)
+in_middle o [] rest = inl refl
+in_middle o (p ∷ front) rest = inr (in_middle o front rest)
 
 -- it is there or it is not
 pub in_or_not : (o : ℕ) (ops : List ℕ) → IsIn o ops ⊎ (IsIn o ops → ⊥)

@@ -30,16 +30,12 @@ use Rattle.disp_model.specs.Walks.{IsLongest}
 use Rattle.disp_model.specs.Nodes.{component_op, Adds, AddUp, IsBound}
 use Rattle.disp_model.specs.Trees.{IsChoice, children_of}
 use Rattle.disp_model.specs.Earliest.{op_of, IsEarliest, IsFork, IsOpenClash, IsPicked}
-use Rattle.disp_model.proofs.Paths.{IsIn, contains_in, goes_to_next}
+use Rattle.disp_model.proofs.Paths.{IsIn, contains_in, goes_to_next, in_middle}
 use Rattle.disp_model.proofs.Positions.{start_is_started}
 use Rattle.disp_model.proofs.Arcs.{names_op}
 use Rattle.disp_model.proofs.Costs.{start_is}
 
 -- ---- a fork
-
-in_middle : (o : ℕ) (front rest : List ℕ) → IsIn o (front ++ o ∷ rest)
-in_middle o [] rest = inl refl
-in_middle o (p ∷ front) rest = inr (in_middle o front rest)
 
 -- what stands behind an operation of a route is a successor of it
 goes_to_successor : (train : List Operation) (o s p : ℕ) (rest : List ℕ) → GoesOn train p rest → after o (p ∷ rest) ≡ Some s → IsSuccessor train o s
@@ -180,7 +176,7 @@ picked_is_open problem fixings decisions (Order a b) child picked (suc (suc k), 
 
 -- ---- the cost where none is picked
 
-one_longest : (problem : Problem) (fixings : List Fixing) (decisions : List Decision) (o : Op) (s t : ℕ) → IsLongest problem fixings decisions o s → IsLongest problem fixings decisions o t → s ≡ t
+pub one_longest : (problem : Problem) (fixings : List Fixing) (decisions : List Decision) (o : Op) (s t : ℕ) → IsLongest problem fixings decisions o s → IsLongest problem fixings decisions o t → s ≡ t
 one_longest problem fixings decisions o s t one other =
     omega (arith, one.none_longer other.reached.0 t other.reached.1 other.reached.2 other.reached.3, other.none_longer one.reached.0 s one.reached.1 one.reached.2 one.reached.3)
 

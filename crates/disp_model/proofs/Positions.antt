@@ -15,7 +15,7 @@ use Rattle.disp_model.specs.Train.{duration_of, IsRoute}
 use Rattle.disp_model.specs.WellFormed.{LeadsTo}
 use Rattle.disp_model.specs.Plan.{run_of, operations_of, start_of, end_of}
 use Rattle.disp_model.specs.Valid.{train_at, operation_of, IsValid}
-use Rattle.disp_model.proofs.Paths.{IsIn, leads_along}
+use Rattle.disp_model.proofs.Paths.{IsIn, leads_along, in_middle}
 use Rattle.disp_model.proofs.Runs.{Spaced, Spaced-suffix, Lasts, runs_are_spaced, split_at}
 use Rattle.disp_model.proofs.Branching.{IsStartedAt, get_later, route_from}
 
@@ -119,7 +119,3 @@ leads_then train (suc n) m o p q (r, step, rest) second = let joined = leads_the
 pub route_leads : (train : List Operation) (before : List ℕ) (u : ℕ) (between : List ℕ) (v : ℕ) (behind : List ℕ) → IsRoute train (before ++ u ∷ (between ++ v ∷ behind)) → (n : ℕ) × LeadsTo train n u v
 route_leads train before u between v behind route =
     leads_along train u v (between ++ v ∷ behind) (route_from train before u (between ++ v ∷ behind) route) (in_middle v between behind)
-  where
-    in_middle : (v : ℕ) (between behind : List ℕ) → IsIn v (between ++ v ∷ behind)
-    in_middle v [] behind = inl refl
-    in_middle v (x ∷ between) behind = inr (in_middle v between behind)

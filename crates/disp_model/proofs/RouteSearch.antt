@@ -18,6 +18,7 @@ use Rattle.disp_model.specs.WellFormed.{IsAcyclic}
 use Rattle.disp_model.specs.Fixing.{after}
 use Rattle.disp_model.specs.Valid.{train_at}
 use Rattle.disp_model.specs.Routes.{AgreesWithFixing, AgreesWithDecision, IsAllowed, HasRoute, IsForced}
+use Rattle.disp_model.proofs.Branching.{contains_map}
 use Rattle.disp_model.proofs.Paths.{IsIn, is_in, contains_in, in_or_not, never_again}
 
 -- ---- what is decided
@@ -148,17 +149,12 @@ onward : List Operation → ℕ → ℕ → List (List ℕ)
 onward train zero o = [] ∷ []
 onward train (suc n) o = [] ∷ spread (onward train n) (next_of train o)
 
-map_contains : {X Y : Type 0} (f : X → Y) (xs : List X) (x : X) → Contains xs x → Contains (map f xs) (f x)
-map_contains f [] x (k, lt, e) = absurd (omega arith)
-map_contains f (y ∷ xs) x (zero, lt, e) = (0, omega arith, ap f e)
-map_contains f (y ∷ xs) x (suc k, lt, e) = let c = map_contains f xs x (k, omega arith, e) in (suc c.0, omega (arith, c.1), c.2)
-
 contains_spread : (f : ℕ → List (List ℕ)) (nexts : List ℕ) (s : ℕ) (rest : List ℕ) → IsIn s nexts → Contains (f s) rest → Contains (spread f nexts) (s ∷ rest)
 unfolding spread
 contains_spread f [] s rest there found = absurd there
 contains_spread f (n ∷ nexts) s rest (inl same) found =
     Contains-append_left (map (λ l. n ∷ l) (f n)) (spread f nexts) (s ∷ rest)
-    (subst (λ (m : ℕ). Contains (map (λ l. m ∷ l) (f m)) (s ∷ rest)) (sym same) (map_contains (λ l. s ∷ l) (f s) rest found))
+    (subst (λ (m : ℕ). Contains (map (λ l. m ∷ l) (f m)) (s ∷ rest)) (sym same) (contains_map (λ l. s ∷ l) (f s) rest found))
 contains_spread f (n ∷ nexts) s rest (inr later) found = Contains-append_right (map (λ l. n ∷ l) (f n)) (spread f nexts) (s ∷ rest) (contains_spread f nexts s rest later found)
 
 contains_onward : (train : List Operation) (n o : ℕ) (rest : List ℕ) → GoesOn train o rest → length rest ≤ n → Contains (onward train n o) rest
@@ -172,7 +168,7 @@ contains_onward train (suc n) o (s ∷ rest) goes le =
 
 -- ---- a route is no longer than its train
 
-each_within : (train : List Operation) (o : ℕ) (rest : List ℕ) → GoesOn train o rest → (q : ℕ) → IsIn q (o ∷ rest) → q < length train
+pub each_within : (train : List Operation) (o : ℕ) (rest : List ℕ) → GoesOn train o rest → (q : ℕ) → IsIn q (o ∷ rest) → q < length train
 each_within train o [] goes q (inl e) = omega (arith, goes.there, e)
 each_within train o [] goes q (inr h) = absurd h
 each_within train o (s ∷ rest) goes q (inl e) = let lt = within_train train o s goes.0 in omega (arith, lt, e)

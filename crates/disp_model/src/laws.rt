@@ -172,3 +172,14 @@ pub fn leaves_stay_good()
         → IsReply problem fixings fixing (Accepted number) → Accepts problem fixings verdict tree
         → Accepts problem (fixings ++ fixing ∷ []) verdict tree }
 {}
+
+/// Each forced operation has a longest walk, and each node has one bound.
+pub fn longest_walks_exist()
+    ensures longest { (problem : Problem) (fixings : List Fixing) (decisions : List Decision) (o : Op)
+        → IsForced problem fixings decisions o → (total : ℕ) × IsLongest problem fixings decisions o total }
+    ensures bound { (problem : Problem) (fixings : List Fixing) (decisions : List Decision)
+        → (bound : ℕ) × IsBound problem fixings decisions bound }
+    ensures alone { (problem : Problem) (fixings : List Fixing) (decisions : List Decision) (bound other : ℕ)
+        → IsBound problem fixings decisions bound → IsBound problem fixings decisions other → bound ≡ other }
+{
+}

@@ -26,7 +26,8 @@ pub use fixing::Fixing;
 pub use laws::{
     allowed_routes_are_listed, arcs_hold, bound_holds, branching_covers, costs_grow,
     fixings_tighten, followed_is_not_dead, forced_are_run, leaves_stay_good, longest_arcs_exist,
-    picked_is_open, runs_are_allowed, trees_say_yes, unpicked_costs_bound, walks_hold,
+    longest_walks_exist, picked_is_open, runs_are_allowed, trees_say_yes, unpicked_costs_bound,
+    walks_hold,
 };
 pub use limits::{
     GREATEST_COST, GREATEST_EVENT_TIME, GREATEST_NUMBER, MOST_CALLERS, MOST_COMPONENTS,

@@ -2,7 +2,7 @@
 use Rattle.std.proofs.Common.{◌≡◌, ℕ, zero, suc, ◌+◌, ◌-◌, ◌*◌, ◌<◌, ◌≤◌, List, [], ◌∷◌, length, get_or, max, Some, refl, arith, inl, inr, mul-le-mul_left}
 use Rattle.std.specs.Prelude.{slice_index_or, sum_by}
 use Rattle.std.specs.List.{AllByRecursion}
-use Rattle.std.proofs.lemmas.Bool.{cases_lt, eq-eqb, le-leb, lt-leb}
+use Rattle.std.proofs.lemmas.Bool.{cases_lt, eq-eqb, le-leb, lt-leb, ne_eqb}
 use Rattle.std.proofs.lemmas.List.Sums.{sum_by-cons}
 use Rattle.disp_model.specs.declared.train.Operation.{Operation}
 use Rattle.disp_model.specs.declared.train.Component.{Component}
@@ -10,7 +10,6 @@ use Rattle.disp_model.specs.declared.limits.TheConstants.{GREATEST_NUMBER}
 use Rattle.disp_model.specs.WellFormed.{horizon, span_of, most_of, HasFitNumbers}
 use Rattle.disp_model.specs.Cost.{cost_at}
 use Rattle.dispatch_cli.specs.Earliest.{starts_from, run_from}
-use Rattle.dispatch_cli.proofs.Events.{apart}
 use Rattle.dispatch_cli.proofs.Least.{start_in}
 
 -- an operation starts at its start in the run at the starts
@@ -21,7 +20,7 @@ start_in_run_from t k zero (s ∷ starts) within =
     rw (here, eq-eqb k k refl) refl
 start_in_run_from t k (suc i) (s ∷ starts) within =
     let more : k + suc i ≡ (k + 1) + i = omega arith in
-    rw (more, apart k ((k + 1) + i) (λ e. omega arith)) (start_in_run_from t (k + 1) i starts (omega arith))
+    rw (more, ne_eqb k ((k + 1) + i) (λ e. omega arith)) (start_in_run_from t (k + 1) i starts (omega arith))
 
 -- a start within the horizon costs no more than at the horizon
 pub cost_within : (c : Component) (s last : ℕ) → s ≤ last → cost_at c s ≤ most_of last c

@@ -2,7 +2,7 @@
 use Rattle.std.proofs.Common.{◌≡◌, ℕ, zero, suc, ◌+◌, ◌<◌, List, [], ◌∷◌, length, get_or, drop, map, max, false, Some, None, refl, ap, ◌∙◌, arith, inl, inr, append-nil}
 use Rattle.std.specs.Prelude.{nat_eq, slice_get, Contains}
 use Rattle.std.specs.List.Sorted.{IsSortedBy}
-use Rattle.std.proofs.lemmas.Bool.{cases_Bool, eq-eqb, eqb-true}
+use Rattle.std.proofs.lemmas.Bool.{ne_eqb, cases_Bool, eq-eqb, eqb-true}
 use Rattle.std.proofs.lemmas.List.Elements.{filter-append}
 use Rattle.std.proofs.lemmas.Option.{none-some}
 use Rattle.disp_model.specs.declared.plan.Event.{Event}
@@ -17,9 +17,6 @@ use Rattle.dispatch_cli.proofs.Ordered.{comes_before, not_before, sorted_more, s
 
 -- ---- the run of each train
 
-pub apart : (a b : ℕ) → (a ≡ b → ⊥) → nat_eq a b ≡ false
-apart a b other = elim (cases_Bool (nat_eq a b)) [ inl is ↦ absurd (other (eqb-true a b is)) | inr is ↦ is ]
-
 own_run : (t k : ℕ) (starts : List ℕ) → run_of t (run_from t k starts) ≡ run_from t k starts
 own_run t k [] = refl
 own_run t k (s ∷ starts) = rw (eq-eqb t t refl) (ap (λ (r : List Event). record { time = s; train = t; operation = k } ∷ r) (own_run t (k + 1) starts))
@@ -32,7 +29,7 @@ none_before : (t u : ℕ) (all : List (List ℕ)) → t < u → run_of t (events
 none_before t u [] lt = refl
 none_before t u (starts ∷ more) lt =
     filter-append (λ e. nat_eq e.train t) (run_from u 0 starts) (events_from (u + 1) more)
-    ∙ rw (other_run t u 0 starts (apart u t (λ e. omega arith)), none_before t (u + 1) more (omega arith)) refl
+    ∙ rw (other_run t u 0 starts (ne_eqb u t (λ e. omega arith)), none_before t (u + 1) more (omega arith)) refl
 
 pub run_at : (u j : ℕ) (all : List (List ℕ)) → run_of (u + j) (events_from u all) ≡ run_from (u + j) 0 (get_or all j [])
 run_at u j [] = refl
@@ -43,7 +40,7 @@ run_at u zero (starts ∷ more) =
 run_at u (suc j) (starts ∷ more) =
     let same : u + suc j ≡ (u + 1) + j = omega arith in
     rw same (filter-append (λ e. nat_eq e.train ((u + 1) + j)) (run_from u 0 starts) (events_from (u + 1) more)
-    ∙ rw (other_run ((u + 1) + j) u 0 starts (apart u ((u + 1) + j) (λ e. omega arith))) (run_at (u + 1) j more))
+    ∙ rw (other_run ((u + 1) + j) u 0 starts (ne_eqb u ((u + 1) + j) (λ e. omega arith))) (run_at (u + 1) j more))
 
 -- ---- the order of a run
 

@@ -3,7 +3,7 @@ use Rattle.std.proofs.Common.{◌≡◌, ℕ, zero, suc, ◌+◌, ◌<◌, ◌�
 use Rattle.std.specs.Prelude.{nat_eq, slice_get, IsSome, IfSome}
 use Rattle.std.specs.List.{AllByRecursion}
 use Rattle.std.proofs.Math.Seq.{drop-length}
-use Rattle.std.proofs.lemmas.Bool.{false≢true, eq-eqb, eqb-true}
+use Rattle.std.proofs.lemmas.Bool.{false≢true, eq-eqb, eqb-true, ne_eqb}
 use Rattle.std.proofs.lemmas.Option.{same_Some}
 use Rattle.std.proofs.lemmas.List.Elements.{recursion_from_All}
 use Rattle.disp_model.specs.declared.plan.Event.{Event}
@@ -17,7 +17,7 @@ use Rattle.disp_model.proofs.Runs.{Spaced}
 use Rattle.displib_reader.specs.Plain.{IsPlainTrain}
 use Rattle.displib_reader.proofs.Chain.{successor-is, entry-is, exit-is}
 use Rattle.dispatch_cli.specs.Earliest.{starts_from}
-use Rattle.dispatch_cli.proofs.Events.{get_dropped, drop_more, duration_at, apart}
+use Rattle.dispatch_cli.proofs.Events.{get_dropped, drop_more, duration_at}
 
 -- when an operation starts in a run
 abbrev pub start_in : List Event → ℕ → Option ℕ
@@ -48,7 +48,7 @@ starts_here : (e : Event) (run : List Event) (o earliest : ℕ) → e.operation 
 starts_here e run o earliest is le = (e.time, rw (is, eq-eqb o o refl) refl, le)
 
 starts_behind : (e : Event) (run : List Event) (o earliest : ℕ) → (e.operation ≡ o → ⊥) → StartsLater run o earliest → StartsLater (e ∷ run) o earliest
-starts_behind e run o earliest other later = (later.0, rw (apart e.operation o other) later.1, later.2)
+starts_behind e run o earliest other later = (later.0, rw (ne_eqb e.operation o other) later.1, later.2)
 
 same_operation : (o p : Operation) → Some o ≡ Some p → o ≡ p
 same_operation o p e = same_Some o p e
