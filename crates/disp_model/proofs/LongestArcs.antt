@@ -235,34 +235,40 @@ released_within problem h b (decision ∷ decisions) (suc k, lt, e) = omega (ari
 
 arcs_within : (problem : Problem) (fixings : List Fixing) (decisions : List Decision) (u v : Op) → IsForced problem fixings decisions u → IsForced problem fixings decisions v → (bound : ℕ) × ((n : ℕ) → IsArc problem fixings decisions u v n → n ≤ bound)
 arcs_within problem fixings decisions u v one other = elim (train_arc_or_not problem fixings decisions u v one other) [
-    | inl found ↦ (found.0 + (min_of problem u + release_of problem u v) + all_released problem v decisions , λ n arc. elim arc.kind [
-        | inl train ↦ omega (arith, one_train_arc problem fixings decisions u v found.0 n found.1 train)
-        | inr r ↦ elim r [ inl order ↦ omega (arith, order.length_is) | inr release ↦ omega (arith, release.length_is, released_within problem release.holder v decisions release.decided) ]
-      ])
-    | inr none ↦ ((min_of problem u + release_of problem u v) + all_released problem v decisions , λ n arc. elim arc.kind [
-        | inl train ↦ absurd (none (n , train))
-        | inr r ↦ elim r [ inl order ↦ omega (arith, order.length_is) | inr release ↦ omega (arith, release.length_is, released_within problem release.holder v decisions release.decided) ]
-      ])
-  ]
+  | inl found ↦ (
+    found.0 + (min_of problem u + release_of problem u v) + all_released problem v decisions,
+    λ n arc. elim arc.kind [
+      | inl train ↦ omega (arith, one_train_arc problem fixings decisions u v found.0 n found.1 train)
+      | inr r ↦ elim r [ inl order ↦ omega (arith, order.length_is) | inr release ↦ omega (arith, release.length_is, released_within problem release.holder v decisions release.decided) ]
+    ],
+  )
+  | inr none ↦ (
+    (min_of problem u + release_of problem u v) + all_released problem v decisions,
+    λ n arc. elim arc.kind [
+      | inl train ↦ absurd (none (n, train))
+      | inr r ↦ elim r [ inl order ↦ omega (arith, order.length_is) | inr release ↦ omega (arith, release.length_is, released_within problem release.holder v decisions release.decided) ]
+    ],
+  )
+]
 
 pub longest_arc : (problem : Problem) (fixings : List Fixing) (decisions : List Decision) (u v : Op) (m : ℕ) → IsArc problem fixings decisions u v m → (g : ℕ) × IsLongestArc problem fixings decisions u v g
 longest_arc problem fixings decisions u v m arc =
     let within = arcs_within problem fixings decisions u v arc.from_forced arc.to_forced in
     let found = greatest_of (IsArc problem fixings decisions u v) (arc_or_not problem fixings decisions u v) within.0 within.1 m arc in
-    (found.0 , record { there = found.1; longest = found.2 })
+    (found.0, record { there = found.1; longest = found.2 })
 
 -- a number up to a bound that P holds of, or none
 some_number_or_not : (P : ℕ → Type 0) → ((n : ℕ) → Decided (P n)) → (most : ℕ) → ((n : ℕ) → P n → n ≤ most) → Decided ((n : ℕ) × P n)
-some_number_or_not P each zero within = elim (each 0) [ inl here ↦ inl (0 , here) | inr n ↦ inr (λ h. n (subst P (let same : h.0 ≡ 0 = omega (arith, within h.0 h.1) in same) h.1)) ]
+some_number_or_not P each zero within = elim (each 0) [ inl here ↦ inl (0, here) | inr n ↦ inr (λ h. n (subst P (let same : h.0 ≡ 0 = omega (arith, within h.0 h.1) in same) h.1)) ]
 some_number_or_not P each (suc most) within = elim (each (suc most)) [
-    | inl here ↦ inl (suc most , here)
-    | inr n ↦ some_number_or_not P each most (λ k h. less P most k n (within k h) h)
-  ]
+  | inl here ↦ inl (suc most, here)
+  | inr n ↦ some_number_or_not P each most (λ k h. less P most k n (within k h) h)
+]
 
 pub has_arc_or_not : (problem : Problem) (fixings : List Fixing) (decisions : List Decision) (u v : Op) → Decided ((n : ℕ) × IsArc problem fixings decisions u v n)
 has_arc_or_not problem fixings decisions u v = elim (both (is_forced_or_not problem fixings decisions u) (is_forced_or_not problem fixings decisions v)) [
-    | inr not ↦ inr (λ arc. not (arc.1.from_forced , arc.1.to_forced))
-    | inl forced ↦
-        let within = arcs_within problem fixings decisions u v forced.0 forced.1 in
-        some_number_or_not (IsArc problem fixings decisions u v) (arc_or_not problem fixings decisions u v) within.0 within.1
-  ]
+  | inr not ↦ inr (λ arc. not (arc.1.from_forced, arc.1.to_forced))
+  | inl forced ↦
+      let within = arcs_within problem fixings decisions u v forced.0 forced.1 in
+      some_number_or_not (IsArc problem fixings decisions u v) (arc_or_not problem fixings decisions u v) within.0 within.1
+]

@@ -1,19 +1,18 @@
 -- Each forced operation has a longest walk: walks without repetition are finite in number, and the length of each is decided.
-use Rattle.std.proofs.Common.{◌≡◌, ℕ, zero, suc, ◌+◌, ◌<◌, ◌≤◌, List, [], ◌∷◌, ◌++◌, length, get_or, map, Option, Some, None, refl, sym, ap, subst, ◌∙◌, arith, rules, inl, inr}
-use Rattle.std.specs.Prelude.{slice_get, Contains, ◌⊎◌, ◌≢◌}
+use Rattle.std.proofs.Common.{◌≡◌, ℕ, zero, suc, ◌+◌, ◌<◌, ◌≤◌, List, [], ◌∷◌, ◌++◌, length, map, Some, refl, sym, ap, subst, ◌∙◌, arith, inl, inr}
+use Rattle.std.specs.Prelude.{slice_get, Contains, ◌⊎◌}
 use Rattle.std.proofs.lemmas.Bool.{cases_lt}
 use Rattle.std.proofs.lemmas.Option.{none-some, same_Some}
 use Rattle.std.proofs.lemmas.List.{length-append}
 use Rattle.std.proofs.lemmas.List.Elements.{Contains-append_left, Contains-append_right}
 use Rattle.disp_model.specs.declared.train.Op.{Op}
-use Rattle.disp_model.specs.declared.train.Operation.{Operation}
 use Rattle.disp_model.specs.declared.fixing.Fixing.{Fixing}
 use Rattle.disp_model.specs.declared.decision.Decision.{Decision}
 use Rattle.disp_model.specs.declared.problem.Problem.{Problem}
 use Rattle.disp_model.specs.Train.{IsRoute}
 use Rattle.disp_model.specs.Valid.{train_at}
 use Rattle.disp_model.specs.Routes.{IsForced}
-use Rattle.disp_model.specs.Arcs.{IsArc, IsLongestArc}
+use Rattle.disp_model.specs.Arcs.{IsLongestArc}
 use Rattle.disp_model.specs.Walks.{lower_of, WalksOn, IsWalk, EndsIn, HasNoTwice, IsLongest}
 use Rattle.disp_model.specs.Nodes.{component_op, Adds, AddUp, IsBound}
 use Rattle.disp_model.specs.declared.train.Component.{Component}
@@ -30,25 +29,25 @@ one_longest_arc : (problem : Problem) (fixings : List Fixing) (decisions : List 
 one_longest_arc problem fixings decisions u v m n one other = omega (arith, one.longest n other.there, other.longest m one.there)
 
 walks_on_or_not : (problem : Problem) (fixings : List Fixing) (decisions : List Decision) (u : Op) (walked : ℕ) (rest : List Op) → Decided ((total : ℕ) × WalksOn problem fixings decisions u walked rest total)
-walks_on_or_not problem fixings decisions u walked [] = inl (walked , refl)
+walks_on_or_not problem fixings decisions u walked [] = inl (walked, refl)
 walks_on_or_not problem fixings decisions u walked (v ∷ rest) = elim (has_arc_or_not problem fixings decisions u v) [
-    | inr none ↦ inr (λ h. none (h.1.0 , h.1.1.there))
-    | inl found ↦ go (longest_arc problem fixings decisions u v found.0 found.1) (λ length. walks_on_or_not problem fixings decisions v (walked + length) rest)
-  ]
+  | inr none ↦ inr (λ h. none (h.1.0, h.1.1.there))
+  | inl found ↦ go (longest_arc problem fixings decisions u v found.0 found.1) (λ length. walks_on_or_not problem fixings decisions v (walked + length) rest)
+]
   where
     go : ((g : ℕ) × IsLongestArc problem fixings decisions u v g) → ((arc_length : ℕ) → Decided ((total : ℕ) × WalksOn problem fixings decisions v (walked + arc_length) rest total))
         → Decided ((total : ℕ) × WalksOn problem fixings decisions u walked (v ∷ rest) total)
     go arc later = elim (later arc.0) [
-        | inl on ↦ inl (on.0 , (arc.0 , arc.1 , on.1))
-        | inr none ↦ inr (λ h. none (h.0 , subst (λ (n : ℕ). WalksOn problem fixings decisions v (walked + n) rest h.0) (one_longest_arc problem fixings decisions u v h.1.0 arc.0 h.1.1 arc.1) h.1.2))
-      ]
+      | inl on ↦ inl (on.0, (arc.0, arc.1, on.1))
+      | inr none ↦ inr (λ h. none (h.0, subst (λ (n : ℕ). WalksOn problem fixings decisions v (walked + n) rest h.0) (one_longest_arc problem fixings decisions u v h.1.0 arc.0 h.1.1 arc.1) h.1.2))
+    ]
 
 is_walk_or_not : (problem : Problem) (fixings : List Fixing) (decisions : List Decision) (walk : List Op) → Decided ((total : ℕ) × IsWalk problem fixings decisions walk total)
 is_walk_or_not problem fixings decisions [] = inr (λ h. h.1)
 is_walk_or_not problem fixings decisions (u ∷ rest) = elim (both (is_forced_or_not problem fixings decisions u) (walks_on_or_not problem fixings decisions u (lower_of problem fixings u) rest)) [
-    | inl is ↦ inl (is.1.0 , (is.0 , is.1.1))
-    | inr n ↦ inr (λ h. n (h.1.0 , (h.0 , h.1.1)))
-  ]
+  | inl is ↦ inl (is.1.0, (is.0, is.1.1))
+  | inr n ↦ inr (λ h. n (h.1.0, (h.0, h.1.1)))
+]
 
 walks_on_same : (problem : Problem) (fixings : List Fixing) (decisions : List Decision) (u : Op) (walked : ℕ) (rest : List Op) (s t : ℕ) → WalksOn problem fixings decisions u walked rest s → WalksOn problem fixings decisions u walked rest t → s ≡ t
 walks_on_same problem fixings decisions u walked [] s t one other = sym one ∙ other
@@ -69,9 +68,9 @@ Among o (p ∷ ops) = (p ≡ o) ⊎ Among o ops
 among_or_not : (o : Op) (ops : List Op) → Decided (Among o ops)
 among_or_not o [] = inr (λ h. h)
 among_or_not o (p ∷ ops) = elim (same_op_or_not p o) [
-    | inl same ↦ inl (inl same)
-    | inr n ↦ elim (among_or_not o ops) [ inl there ↦ inl (inr there) | inr none ↦ inr (λ h. elim h [ inl e ↦ n e | inr there ↦ none there ]) ]
-  ]
+  | inl same ↦ inl (inl same)
+  | inr n ↦ elim (among_or_not o ops) [ inl there ↦ inl (inr there) | inr none ↦ inr (λ h. elim h [ inl e ↦ n e | inr there ↦ none there ]) ]
+]
 
 among_at : (o : Op) (ops : List Op) (i : ℕ) → slice_get ops i ≡ Some o → Among o ops
 among_at o [] i at = absurd (none-some o at)
@@ -80,8 +79,8 @@ among_at o (p ∷ ops) (suc i) at = inr (among_at o ops i at)
 
 at_among : (o : Op) (ops : List Op) → Among o ops → (i : ℕ) × (slice_get ops i ≡ Some o)
 at_among o [] there = absurd there
-at_among o (p ∷ ops) (inl same) = (0 , ap (λ (q : Op). Some q) same)
-at_among o (p ∷ ops) (inr there) = let later = at_among o ops there in (suc later.0 , later.1)
+at_among o (p ∷ ops) (inl same) = (0, ap (λ (q : Op). Some q) same)
+at_among o (p ∷ ops) (inr there) = let later = at_among o ops there in (suc later.0, later.1)
 
 abbrev Once : List Op → Type 0
 Once [] = Unit {0}
@@ -89,7 +88,7 @@ Once (o ∷ ops) = (Among o ops → ⊥) × Once ops
 
 once_from : (walk : List Op) → HasNoTwice walk → Once walk
 once_from [] single = tt
-once_from (o ∷ ops) single = ((λ there. let at = at_among o ops there in single 0 (suc at.0) o (omega arith) refl at.1) , once_from ops (λ i j p lt one. single (suc i) (suc j) p (omega (arith, lt)) one))
+once_from (o ∷ ops) single = ((λ there. let at = at_among o ops there in single 0 (suc at.0) o (omega arith) refl at.1), once_from ops (λ i j p lt one. single (suc i) (suc j) p (omega (arith, lt)) one))
 
 from_once : (walk : List Op) → Once walk → HasNoTwice walk
 from_once [] once i j o lt one other = none-some o one
@@ -101,9 +100,9 @@ from_once (p ∷ ops) once (suc i) (suc j) o lt one other = from_once ops once.1
 once_or_not : (walk : List Op) → Decided (Once walk)
 once_or_not [] = inl tt
 once_or_not (o ∷ ops) = elim (among_or_not o ops) [
-    | inl there ↦ inr (λ once. once.0 there)
-    | inr none ↦ elim (once_or_not ops) [ inl rest ↦ inl (none , rest) | inr n ↦ inr (λ once. n once.1) ]
-  ]
+  | inl there ↦ inr (λ once. once.0 there)
+  | inr none ↦ elim (once_or_not ops) [ inl rest ↦ inl (none, rest) | inr n ↦ inr (λ once. n once.1) ]
+]
 
 ends_or_not : (walk : List Op) (o : Op) → Decided (EndsIn walk o)
 ends_or_not [] o = inr (λ h. nowhere h.0 h.1)
@@ -112,22 +111,22 @@ ends_or_not [] o = inr (λ h. nowhere h.0 h.1)
     nowhere [] e = absurd cc
     nowhere (p ∷ front) e = absurd cc
 ends_or_not (p ∷ []) o = elim (same_op_or_not p o) [
-    | inl same ↦ inl ([] , ap (λ (q : Op). q ∷ []) same)
-    | inr n ↦ inr (λ h. n (last h.0 h.1))
-  ]
+  | inl same ↦ inl ([], ap (λ (q : Op). q ∷ []) same)
+  | inr n ↦ inr (λ h. n (last h.0 h.1))
+]
   where
     last : (front : List Op) → p ∷ [] ≡ front ++ o ∷ [] → p ≡ o
     last [] e = cc e
     last (q ∷ []) e = absurd cc
     last (q ∷ r ∷ front) e = absurd cc
 ends_or_not (p ∷ q ∷ walk) o = elim (ends_or_not (q ∷ walk) o) [
-    | inl ends ↦ inl (p ∷ ends.0 , ap (λ (l : List Op). p ∷ l) ends.1)
-    | inr n ↦ inr (λ h. n (behind h.0 h.1))
-  ]
+  | inl ends ↦ inl (p ∷ ends.0, ap (λ (l : List Op). p ∷ l) ends.1)
+  | inr n ↦ inr (λ h. n (behind h.0 h.1))
+]
   where
     behind : (front : List Op) → p ∷ q ∷ walk ≡ front ++ o ∷ [] → EndsIn (q ∷ walk) o
     behind [] e = absurd cc
-    behind (r ∷ front) e = (front , cc e)
+    behind (r ∷ front) e = (front, cc e)
 
 -- ---- all lists over some operations
 
@@ -155,12 +154,12 @@ EachAmong (o ∷ walk) ops = Among o ops × EachAmong walk ops
 
 lists_have : (ops : List Op) (n : ℕ) (walk : List Op) → EachAmong walk ops → length walk ≤ n → Contains (lists_of ops n) walk
 unfolding lists_of
-lists_have ops zero [] each le = (0 , omega arith , refl)
+lists_have ops zero [] each le = (0, omega arith, refl)
 lists_have ops zero (o ∷ walk) each le = absurd (omega arith)
-lists_have ops (suc n) [] each le = (0 , omega arith , refl)
+lists_have ops (suc n) [] each le = (0, omega arith, refl)
 lists_have ops (suc n) (o ∷ walk) each le =
     let found = spread_has (lists_of ops n) ops o walk each.0 (lists_have ops n walk each.1 (omega arith)) in
-    (suc found.0 , omega (arith, found.1) , found.2)
+    (suc found.0, omega (arith, found.1), found.2)
 
 -- ---- a list without repetition is no longer than what it is of
 
@@ -182,7 +181,7 @@ cut_out o p (q ∷ front) back (inr there) n = inr (cut_out o p front back there
 
 each_cut_out : (o : Op) (front back walk : List Op) → EachAmong walk (front ++ o ∷ back) → (Among o walk → ⊥) → EachAmong walk (front ++ back)
 each_cut_out o front back [] each n = tt
-each_cut_out o front back (p ∷ walk) each n = (cut_out o p front back each.0 (λ same. n (inl (sym same))) , each_cut_out o front back walk each.1 (λ there. n (inr there)))
+each_cut_out o front back (p ∷ walk) each n = (cut_out o p front back each.0 (λ same. n (inl (sym same))), each_cut_out o front back walk each.1 (λ there. n (inr there)))
 
 once_fits : (walk ops : List Op) → Once walk → EachAmong walk ops → length walk ≤ length ops
 once_fits [] ops once each = omega arith
@@ -216,20 +215,20 @@ among_ops : (t k n : ℕ) → k < n → Among (record { train = t; op = k }) (op
 unfolding ops_up_to
 among_ops t k zero lt = absurd (omega arith)
 among_ops t k (suc n) lt = elim (cases_lt k n) [
-    | inl before ↦ inr (among_ops t k n before)
-    | inr le ↦ inl (let same : n ≡ k = omega (arith, le, lt) in let at : ℕ → Op = λ m. record { train = t; op = m } in ap at same)
-  ]
+  | inl before ↦ inr (among_ops t k n before)
+  | inr le ↦ inl (let same : n ≡ k = omega (arith, le, lt) in let at : ℕ → Op = λ m. record { train = t; op = m } in ap at same)
+]
 
 among_all_ops : (problem : Problem) (o : Op) (n : ℕ) → o.train < n → o.op < length (train_at problem o.train) → Among o (all_ops_up_to problem n)
 unfolding all_ops_up_to
 among_all_ops problem o zero lt there = absurd (omega arith)
 among_all_ops problem o (suc n) lt there = elim (cases_lt o.train n) [
-    | inl before ↦ among_append_right o (ops_up_to n (length (train_at problem n))) (all_ops_up_to problem n) (among_all_ops problem o n before there)
-    | inr le ↦
-        let same : o.train ≡ n = omega (arith, le, lt) in
-        among_append_left o (ops_up_to n (length (train_at problem n))) (all_ops_up_to problem n)
-        (subst (λ (t : ℕ). Among o (ops_up_to t (length (train_at problem t)))) same (among_ops o.train o.op (length (train_at problem o.train)) there))
-  ]
+  | inl before ↦ among_append_right o (ops_up_to n (length (train_at problem n))) (all_ops_up_to problem n) (among_all_ops problem o n before there)
+  | inr le ↦
+      let same : o.train ≡ n = omega (arith, le, lt) in
+      among_append_left o (ops_up_to n (length (train_at problem n))) (all_ops_up_to problem n)
+      (subst (λ (t : ℕ). Among o (ops_up_to t (length (train_at problem t)))) same (among_ops o.train o.op (length (train_at problem o.train)) there))
+]
 
 forced_within : (problem : Problem) (fixings : List Fixing) (decisions : List Decision) (o : Op) → IsForced problem fixings decisions o → o.op < length (train_at problem o.train)
 forced_within problem fixings decisions o forced = on_route forced.allowed.0 forced.allowed.1.is_route (forced.each_has forced.allowed.0 forced.allowed.1)
@@ -248,11 +247,11 @@ forced_among problem fixings decisions o forced = among_all_ops problem o (lengt
 
 walk_among : (problem : Problem) (fixings : List Fixing) (decisions : List Decision) (u : Op) (walked : ℕ) (rest : List Op) (total : ℕ) → WalksOn problem fixings decisions u walked rest total → EachAmong rest (all_ops problem)
 walk_among problem fixings decisions u walked [] total walk = tt
-walk_among problem fixings decisions u walked (v ∷ rest) total walk = (forced_among problem fixings decisions v walk.1.there.to_forced , walk_among problem fixings decisions v (walked + walk.0) rest total walk.2)
+walk_among problem fixings decisions u walked (v ∷ rest) total walk = (forced_among problem fixings decisions v walk.1.there.to_forced, walk_among problem fixings decisions v (walked + walk.0) rest total walk.2)
 
 is_walk_among : (problem : Problem) (fixings : List Fixing) (decisions : List Decision) (walk : List Op) (total : ℕ) → IsWalk problem fixings decisions walk total → EachAmong walk (all_ops problem)
 is_walk_among problem fixings decisions [] total is = tt
-is_walk_among problem fixings decisions (u ∷ rest) total is = (forced_among problem fixings decisions u is.0 , walk_among problem fixings decisions u (lower_of problem fixings u) rest total is.1)
+is_walk_among problem fixings decisions (u ∷ rest) total is = (forced_among problem fixings decisions u is.0, walk_among problem fixings decisions u (lower_of problem fixings u) rest total is.1)
 
 -- ---- the longest of a list of walks
 
@@ -266,26 +265,26 @@ record IsLongestOf (problem : Problem) (fixings : List Fixing) (decisions : List
 longest_of : (problem : Problem) (fixings : List Fixing) (decisions : List Decision) (first : List Op) (walks : List (List Op)) → ((walk : List Op) → Contains (first ∷ walks) walk → (t : ℕ) × IsWalk problem fixings decisions walk t)
     → IsLongestOf problem fixings decisions (first ∷ walks)
 longest_of problem fixings decisions first [] each =
-    let own = each first (0 , omega arith , refl) in
-    record { walk = first; there = (0 , omega arith , refl); total = own.0; is_walk = own.1; longest = λ other t there is. only own.0 own.1 other t there is }
+    let own = each first (0, omega arith, refl) in
+    record { walk = first; there = (0, omega arith, refl); total = own.0; is_walk = own.1; longest = λ other t there is. only own.0 own.1 other t there is }
   where
     only : (total : ℕ) → IsWalk problem fixings decisions first total → (other : List Op) (t : ℕ) → Contains (first ∷ []) other → IsWalk problem fixings decisions other t → t ≤ total
-    only total own other t (zero , lt , e) is = let same = is_walk_same problem fixings decisions first t total (subst (λ (w : List Op). IsWalk problem fixings decisions w t) (sym e) is) own in omega (arith, same)
-    only total own other t (suc k , lt , e) is = absurd (omega (arith, lt))
+    only total own other t (zero, lt, e) is = let same = is_walk_same problem fixings decisions first t total (subst (λ (w : List Op). IsWalk problem fixings decisions w t) (sym e) is) own in omega (arith, same)
+    only total own other t (suc k, lt, e) is = absurd (omega (arith, lt))
 longest_of problem fixings decisions first (second ∷ walks) each =
-    better (each first (0 , omega arith , refl)) (longest_of problem fixings decisions second walks (λ walk there. each walk (suc there.0 , omega (arith, there.1) , there.2)))
+    better (each first (0, omega arith, refl)) (longest_of problem fixings decisions second walks (λ walk there. each walk (suc there.0, omega (arith, there.1), there.2)))
   where
     better : ((t : ℕ) × IsWalk problem fixings decisions first t) → IsLongestOf problem fixings decisions (second ∷ walks) → IsLongestOf problem fixings decisions (first ∷ second ∷ walks)
     better own rest = elim (cases_lt own.0 rest.total) [
-        | inl lt ↦ record { walk = rest.walk; there = (suc rest.there.0 , omega (arith, rest.there.1) , rest.there.2); total = rest.total; is_walk = rest.is_walk; longest = pick own.0 own.1 rest rest.total (omega (arith, lt)) (omega arith) }
-        | inr le ↦ record { walk = first; there = (0 , omega arith , refl); total = own.0; is_walk = own.1; longest = pick own.0 own.1 rest own.0 (omega arith) le }
-      ]
+      | inl lt ↦ record { walk = rest.walk; there = (suc rest.there.0, omega (arith, rest.there.1), rest.there.2); total = rest.total; is_walk = rest.is_walk; longest = pick own.0 own.1 rest rest.total (omega (arith, lt)) (omega arith) }
+      | inr le ↦ record { walk = first; there = (0, omega arith, refl); total = own.0; is_walk = own.1; longest = pick own.0 own.1 rest own.0 (omega arith) le }
+    ]
       where
         pick : (total : ℕ) → IsWalk problem fixings decisions first total → (rest : IsLongestOf problem fixings decisions (second ∷ walks)) → (most : ℕ) → total ≤ most → rest.total ≤ most
             → (other : List Op) (t : ℕ) → Contains (first ∷ second ∷ walks) other → IsWalk problem fixings decisions other t → t ≤ most
-        pick total own rest most le ge other t (zero , lt , e) is =
-          let same = is_walk_same problem fixings decisions first t total (subst (λ (w : List Op). IsWalk problem fixings decisions w t) (sym e) is) own in omega (arith, same, le)
-        pick total own rest most le ge other t (suc k , lt , e) is = omega (arith, ge, rest.longest other t (k , omega (arith, lt) , e) is)
+        pick total own rest most le ge other t (zero, lt, e) is =
+            let same = is_walk_same problem fixings decisions first t total (subst (λ (w : List Op). IsWalk problem fixings decisions w t) (sym e) is) own in omega (arith, same, le)
+        pick total own rest most le ge other t (suc k, lt, e) is = omega (arith, ge, rest.longest other t (k, omega (arith, lt), e) is)
 
 -- a walk to the operation without repetition
 Reaches : Problem → List Fixing → List Decision → Op → List Op → Type 0
@@ -302,26 +301,28 @@ longest_walk problem fixings decisions o forced =
     from_part part.0 part.1 part.2
   where
     own : Reaches problem fixings decisions o (o ∷ [])
-    own = (([] , refl) , (((λ there. there) , tt) , (lower_of problem fixings o , (forced , refl))))
+    own = (([], refl), (((λ there. there), tt), (lower_of problem fixings o, (forced, refl))))
 
     among : (walk : List Op) → Reaches problem fixings decisions o walk → Contains (lists_of (all_ops problem) (length (all_ops problem))) walk
     among walk reaches =
-      let each = is_walk_among problem fixings decisions walk reaches.1.1.0 reaches.1.1.1 in
-      lists_have (all_ops problem) (length (all_ops problem)) walk each (once_fits walk (all_ops problem) reaches.1.0 each)
+        let each = is_walk_among problem fixings decisions walk reaches.1.1.0 reaches.1.1.1 in
+        lists_have (all_ops problem) (length (all_ops problem)) walk each (once_fits walk (all_ops problem) reaches.1.0 each)
 
     by_list : (walks : List (List Op)) → Contains walks (o ∷ []) → ((walk : List Op) → Reaches problem fixings decisions o walk → Contains walks walk)
         → ((walk : List Op) → Contains walks walk → Reaches problem fixings decisions o walk) → (total : ℕ) × IsLongest problem fixings decisions o total
     by_list [] here has only = absurd (nowhere here)
       where
         nowhere : Contains [] (o ∷ []) → ⊥
-        nowhere (k , lt , e) = omega arith
+        nowhere (k, lt, e) = omega arith
     by_list (first ∷ walks) here has only =
-      let best = longest_of problem fixings decisions first walks (λ walk there. (only walk there).1.1) in
-      let reached = only best.walk best.there in
-      (best.total , record {
-          reached = (best.walk , reached.0 , from_once best.walk reached.1.0 , best.is_walk);
-          none_longer = λ walk other ends single is. best.longest walk other (has walk (ends , (once_from walk single , (other , is)))) is;
-        })
+        let best = longest_of problem fixings decisions first walks (λ walk there. (only walk there).1.1) in
+        let reached = only best.walk best.there in (
+          best.total,
+          record {
+            reached = (best.walk, reached.0, from_once best.walk reached.1.0, best.is_walk);
+            none_longer = λ walk other ends single is. best.longest walk other (has walk (ends, (once_from walk single, (other, is)))) is;
+          },
+        )
 
     from_part : (walks : List (List Op)) → ((walk : List Op) → Contains (lists_of (all_ops problem) (length (all_ops problem))) walk → Reaches problem fixings decisions o walk → Contains walks walk)
         → ((walk : List Op) → Contains walks walk → Reaches problem fixings decisions o walk) → (total : ℕ) × IsLongest problem fixings decisions o total
@@ -331,16 +332,16 @@ longest_walk problem fixings decisions o forced =
 
 adds_some : (problem : Problem) (fixings : List Fixing) (decisions : List Decision) (c : Component) → (cost : ℕ) × Adds problem fixings decisions c cost
 adds_some problem fixings decisions c = elim (is_forced_or_not problem fixings decisions (component_op c)) [
-    | inl forced ↦ let longest = longest_walk problem fixings decisions (component_op c) forced in (cost_at c longest.0 , inl (longest.0 , forced , longest.1 , refl))
-    | inr free ↦ (0 , inr (free , refl))
-  ]
+  | inl forced ↦ let longest = longest_walk problem fixings decisions (component_op c) forced in (cost_at c longest.0, inl (longest.0, forced, longest.1, refl))
+  | inr free ↦ (0, inr (free, refl))
+]
 
 add_up_some : (problem : Problem) (fixings : List Fixing) (decisions : List Decision) (components : List Component) → (bound : ℕ) × AddUp problem fixings decisions components bound
-add_up_some problem fixings decisions [] = (0 , refl)
+add_up_some problem fixings decisions [] = (0, refl)
 add_up_some problem fixings decisions (c ∷ components) =
     let here = adds_some problem fixings decisions c in
     let rest = add_up_some problem fixings decisions components in
-    (here.0 + rest.0 , (here.0 , rest.0 , here.1 , rest.1 , refl))
+    (here.0 + rest.0, (here.0, rest.0, here.1, rest.1, refl))
 
 pub some_bound : (problem : Problem) (fixings : List Fixing) (decisions : List Decision) → (bound : ℕ) × IsBound problem fixings decisions bound
 some_bound problem fixings decisions = add_up_some problem fixings decisions problem.components
@@ -348,10 +349,10 @@ some_bound problem fixings decisions = add_up_some problem fixings decisions pro
 -- ---- and one alone
 
 adds_same : (problem : Problem) (fixings : List Fixing) (decisions : List Decision) (c : Component) (s t : ℕ) → Adds problem fixings decisions c s → Adds problem fixings decisions c t → s ≡ t
-adds_same problem fixings decisions c s t (inl (m , forced , longest , is)) (inl (n , again , other , too)) = is ∙ ap (cost_at c) (one_longest problem fixings decisions (component_op c) m n longest other) ∙ sym too
-adds_same problem fixings decisions c s t (inl (m , forced , longest , is)) (inr (free , too)) = absurd (free forced)
-adds_same problem fixings decisions c s t (inr (free , is)) (inl (n , forced , longest , too)) = absurd (free forced)
-adds_same problem fixings decisions c s t (inr (free , is)) (inr (again , too)) = is ∙ sym too
+adds_same problem fixings decisions c s t (inl (m, forced, longest, is)) (inl (n, again, other, too)) = is ∙ ap (cost_at c) (one_longest problem fixings decisions (component_op c) m n longest other) ∙ sym too
+adds_same problem fixings decisions c s t (inl (m, forced, longest, is)) (inr (free, too)) = absurd (free forced)
+adds_same problem fixings decisions c s t (inr (free, is)) (inl (n, forced, longest, too)) = absurd (free forced)
+adds_same problem fixings decisions c s t (inr (free, is)) (inr (again, too)) = is ∙ sym too
 
 pub add_up_same : (problem : Problem) (fixings : List Fixing) (decisions : List Decision) (components : List Component) (s t : ℕ) → AddUp problem fixings decisions components s → AddUp problem fixings decisions components t → s ≡ t
 add_up_same problem fixings decisions [] s t one other = one ∙ sym other

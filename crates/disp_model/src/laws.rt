@@ -181,5 +181,4 @@ pub fn longest_walks_exist()
         → (bound : ℕ) × IsBound problem fixings decisions bound }
     ensures alone { (problem : Problem) (fixings : List Fixing) (decisions : List Decision) (bound other : ℕ)
         → IsBound problem fixings decisions bound → IsBound problem fixings decisions other → bound ≡ other }
-{
-}
+{}
