@@ -13,7 +13,7 @@ use Rattle.disp_model.specs.WellFormed.{LeadsTo, IsAcyclic}
 use Rattle.disp_model.specs.Valid.{train_at}
 use Rattle.disp_model.specs.Routes.{IsAllowed, IsForced}
 use Rattle.disp_model.specs.Arcs.{Passes, IsTrainArc}
-use Rattle.disp_model.proofs.Paths.{IsIn, is_in, leads_along, in_middle}
+use Rattle.disp_model.proofs.Paths.{IsIn, is_in, leads_along, in_middle, leads_to_later}
 use Rattle.disp_model.proofs.Branching.{route_from}
 use Rattle.disp_model.proofs.Positions.{leads_then}
 use Rattle.disp_model.proofs.Arcs.{passes_leads}
@@ -106,14 +106,9 @@ passes_both train route u v n acyclic is leads one other =
         around : ((m : ℕ) × LeadsTo train m v u) → ⊥
         around later = let joined = leads_then train n later.0 u v u leads later.1 in acyclic.no_cycle joined.0 u joined.1
 
-        along : (p : ℕ) (before rest : List ℕ) → GoesOn train p (before ++ u ∷ rest) → IsIn v (p ∷ before) → (m : ℕ) × LeadsTo train m v u
-        along p before rest goes (inl same) = let later = leads_along train p u (before ++ u ∷ rest) goes (in_middle u before rest) in (later.0, subst (λ (x : ℕ). LeadsTo train later.0 x u) same later.1)
-        along p [] rest goes (inr there) = absurd there
-        along p (q ∷ before) rest goes (inr there) = along q before rest goes.1 there
-
         way : (before rest : List ℕ) → IsRoute train (before ++ u ∷ rest) → IsIn v before → (m : ℕ) × LeadsTo train m v u
         way [] rest route early = absurd early
-        way (p ∷ before) rest route early = along p before rest route.1 early
+        way (p ∷ before) rest route early = leads_to_later train p u v before rest route.1 early
 
 -- ---- the least of a list
 

@@ -52,20 +52,20 @@ some_or_not P each (y ∷ xs) = elim (each y) [
 
 -- ---- arcs in a train
 
+pub same_ops : (a b : Op) → a.train ≡ b.train → a.op ≡ b.op → a ≡ b
+same_ops a b t o =
+    let first : ℕ → Op = λ n. record { train = n; op = a.op } in
+    let second : ℕ → Op = λ n. record { train = b.train; op = n } in
+    ap first t ∙ ap second o
+
 pub same_op_or_not : (a b : Op) → Decided (a ≡ b)
 same_op_or_not a b = elim (same_number a.train b.train) [
   | inr n ↦ inr (λ e. n (ap (λ (o : Op). o.train) e))
   | inl t ↦ elim (same_number a.op b.op) [
     | inr n ↦ inr (λ e. n (ap (λ (o : Op). o.op) e))
-    | inl o ↦ inl (made a b t o)
+    | inl o ↦ inl (same_ops a b t o)
   ]
 ]
-  where
-    made : (a b : Op) → a.train ≡ b.train → a.op ≡ b.op → a ≡ b
-    made a b t o =
-        let first : ℕ → Op = λ n. record { train = n; op = a.op } in
-        let second : ℕ → Op = λ n. record { train = b.train; op = n } in
-        ap first t ∙ ap second o
 
 passes_or_not : (train : List Operation) (route : List ℕ) (u v : ℕ) → Decided ((total : ℕ) × Passes train route u v total)
 passes_or_not train [] u v = inr (λ h. nothing h.0 h.1)

@@ -61,7 +61,7 @@ is_walk_same problem fixings decisions (u ∷ rest) s t one other = walks_on_sam
 
 -- ---- no operation twice, and the end of a walk
 
-abbrev Among : Op → List Op → Type 0
+abbrev pub Among : Op → List Op → Type 0
 Among o [] = ⊥
 Among o (p ∷ ops) = (p ≡ o) ⊎ Among o ops
 
@@ -82,7 +82,7 @@ at_among o [] there = absurd there
 at_among o (p ∷ ops) (inl same) = (0, ap (λ (q : Op). Some q) same)
 at_among o (p ∷ ops) (inr there) = let later = at_among o ops there in (suc later.0, later.1)
 
-abbrev Once : List Op → Type 0
+abbrev pub Once : List Op → Type 0
 Once [] = Unit {0}
 Once (o ∷ ops) = (Among o ops → ⊥) × Once ops
 
@@ -148,7 +148,7 @@ spread_has behind (p ∷ ops) o rest (inl same) found =
 spread_has behind (p ∷ ops) o rest (inr there) found = Contains-append_right (map (λ l. p ∷ l) behind) (spread_ops behind ops) (o ∷ rest) (spread_has behind ops o rest there found)
 
 -- each operation of the list is among those
-abbrev EachAmong : List Op → List Op → Type 0
+abbrev pub EachAmong : List Op → List Op → Type 0
 EachAmong [] ops = Unit {0}
 EachAmong (o ∷ walk) ops = Among o ops × EachAmong walk ops
 
@@ -163,12 +163,12 @@ lists_have ops (suc n) (o ∷ walk) each le =
 
 -- ---- a list without repetition is no longer than what it is of
 
-record Cut (o : Op) (ops : List Op) : Type 0 where
+pub record Cut (o : Op) (ops : List Op) : Type 0 where
   pub front : List Op
   pub back : List Op
   pub is : ops ≡ front ++ o ∷ back
 
-cut : (o : Op) (ops : List Op) → Among o ops → Cut o ops
+pub cut : (o : Op) (ops : List Op) → Among o ops → Cut o ops
 cut o [] there = absurd there
 cut o (p ∷ ops) (inl same) = record { front = []; back = ops; is = ap (λ (q : Op). q ∷ ops) same }
 cut o (p ∷ ops) (inr there) = let later = cut o ops there in record { front = p ∷ later.front; back = later.back; is = ap (λ (l : List Op). p ∷ l) later.is }
@@ -179,7 +179,7 @@ cut_out o p [] back (inr there) n = there
 cut_out o p (q ∷ front) back (inl same) n = inl same
 cut_out o p (q ∷ front) back (inr there) n = inr (cut_out o p front back there n)
 
-each_cut_out : (o : Op) (front back walk : List Op) → EachAmong walk (front ++ o ∷ back) → (Among o walk → ⊥) → EachAmong walk (front ++ back)
+pub each_cut_out : (o : Op) (front back walk : List Op) → EachAmong walk (front ++ o ∷ back) → (Among o walk → ⊥) → EachAmong walk (front ++ back)
 each_cut_out o front back [] each n = tt
 each_cut_out o front back (p ∷ walk) each n = (cut_out o p front back each.0 (λ same. n (inl (sym same))), each_cut_out o front back walk each.1 (λ there. n (inr there)))
 
@@ -194,11 +194,11 @@ once_fits (o ∷ walk) ops once each =
 
 -- ---- the operations of a problem
 
-ops_up_to : ℕ → ℕ → List Op
+unfoldable pub ops_up_to : ℕ → ℕ → List Op
 ops_up_to t zero = []
 ops_up_to t (suc k) = record { train = t; op = k } ∷ ops_up_to t k
 
-all_ops_up_to : Problem → ℕ → List Op
+unfoldable pub all_ops_up_to : Problem → ℕ → List Op
 all_ops_up_to problem zero = []
 all_ops_up_to problem (suc t) = ops_up_to t (length (train_at problem t)) ++ all_ops_up_to problem t
 
@@ -219,7 +219,7 @@ among_ops t k (suc n) lt = elim (cases_lt k n) [
   | inr le ↦ inl (let same : n ≡ k = omega (arith, le, lt) in let at : ℕ → Op = λ m. record { train = t; op = m } in ap at same)
 ]
 
-among_all_ops : (problem : Problem) (o : Op) (n : ℕ) → o.train < n → o.op < length (train_at problem o.train) → Among o (all_ops_up_to problem n)
+pub among_all_ops : (problem : Problem) (o : Op) (n : ℕ) → o.train < n → o.op < length (train_at problem o.train) → Among o (all_ops_up_to problem n)
 unfolding all_ops_up_to
 among_all_ops problem o zero lt there = absurd (omega arith)
 among_all_ops problem o (suc n) lt there = elim (cases_lt o.train n) [
@@ -230,7 +230,7 @@ among_all_ops problem o (suc n) lt there = elim (cases_lt o.train n) [
       (subst (λ (t : ℕ). Among o (ops_up_to t (length (train_at problem t)))) same (among_ops o.train o.op (length (train_at problem o.train)) there))
 ]
 
-forced_within : (problem : Problem) (fixings : List Fixing) (decisions : List Decision) (o : Op) → IsForced problem fixings decisions o → o.op < length (train_at problem o.train)
+pub forced_within : (problem : Problem) (fixings : List Fixing) (decisions : List Decision) (o : Op) → IsForced problem fixings decisions o → o.op < length (train_at problem o.train)
 forced_within problem fixings decisions o forced = on_route forced.allowed.0 forced.allowed.1.is_route (forced.each_has forced.allowed.0 forced.allowed.1)
   where
     on_route : (route : List ℕ) → IsRoute (train_at problem o.train) route → Contains route o.op → o.op < length (train_at problem o.train)
@@ -238,10 +238,10 @@ forced_within problem fixings decisions o forced = on_route forced.allowed.0 for
     on_route (p ∷ rest) is there = each_within (train_at problem o.train) p rest is.1 o.op (is_in o.op (p ∷ rest) there)
 
 -- every operation of a problem
-all_ops : Problem → List Op
+unfoldable pub all_ops : Problem → List Op
 all_ops problem = all_ops_up_to problem (length problem.trains)
 
-forced_among : (problem : Problem) (fixings : List Fixing) (decisions : List Decision) (o : Op) → IsForced problem fixings decisions o → Among o (all_ops problem)
+pub forced_among : (problem : Problem) (fixings : List Fixing) (decisions : List Decision) (o : Op) → IsForced problem fixings decisions o → Among o (all_ops problem)
 unfolding all_ops
 forced_among problem fixings decisions o forced = among_all_ops problem o (length problem.trains) forced.train (forced_within problem fixings decisions o forced)
 

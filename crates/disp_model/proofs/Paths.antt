@@ -69,6 +69,13 @@ leads_along train p o [] goes h = absurd h
 leads_along train p o (q ∷ rest) goes (inl e) = (0, subst (λ (x : ℕ). IsSuccessor train p x) e goes.0)
 leads_along train p o (q ∷ rest) goes (inr h) = let later = leads_along train q o rest goes.1 h in (suc later.0, (q, goes.0, later.1))
 
+-- each operation up to v leads to v
+pub leads_to_later : (train : List Operation) (p v x : ℕ) (between behind : List ℕ) → GoesOn train p (between ++ v ∷ behind) → IsIn x (p ∷ between) → (n : ℕ) × LeadsTo train n x v
+leads_to_later train p v x between behind goes (inl same) =
+    let later = leads_along train p v (between ++ v ∷ behind) goes (in_middle v between behind) in (later.0 , subst (λ (y : ℕ). LeadsTo train later.0 y v) same later.1)
+leads_to_later train p v x [] behind goes (inr there) = absurd there
+leads_to_later train p v x (q ∷ between) behind goes (inr there) = leads_to_later train q v x between behind goes.1 there
+
 -- no operation stands on a route twice
 pub never_again : (train : List Operation) (o : ℕ) (rest : List ℕ) → IsAcyclic train → GoesOn train o rest → IsIn o rest → ⊥
 never_again train o rest acyclic goes h = let way = leads_along train o o rest goes h in acyclic.no_cycle way.0 o way.1

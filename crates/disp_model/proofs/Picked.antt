@@ -46,7 +46,7 @@ goes_to_successor train o s p (q ∷ rest) goes at = here (nat_eq p o) refl at (
     here false is found later = later found
     here true is found later = subst (λ (x : ℕ). IsSuccessor train x s) (eqb-true p o is) (subst (λ (x : ℕ). IsSuccessor train p x) (same_Some q s found) goes.0)
 
-route_to_successor : (train : List Operation) (o s : ℕ) (route : List ℕ) → IsRoute train route → after o route ≡ Some s → IsSuccessor train o s
+pub route_to_successor : (train : List Operation) (o s : ℕ) (route : List ℕ) → IsRoute train route → after o route ≡ Some s → IsSuccessor train o s
 route_to_successor train o s [] is at = absurd is
 route_to_successor train o s (p ∷ rest) is at = goes_to_successor train o s p rest is.1 at
 

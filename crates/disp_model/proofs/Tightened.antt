@@ -58,11 +58,11 @@ release_arc_stays problem fixings more decisions n b arc_length arc left = recor
 
 -- ---- an accepted start is within the operation's window
 
-within_row : {X Others : Type 0} (answer : Reply) (n : ℕ) → (answer ≡ Accepted n → ⊥) → Row X answer (Accepted n) Others → (X → ⊥) × Others
+pub within_row : {X Others : Type 0} (answer : Reply) (n : ℕ) → (answer ≡ Accepted n → ⊥) → Row X answer (Accepted n) Others → (X → ⊥) × Others
 within_row answer n not (inl h) = absurd (not (sym h.1))
 within_row answer n not (inr h) = h
 
-at_least : (lower time : ℕ) → (time < lower → ⊥) → lower ≤ time
+pub at_least : (lower time : ℕ) → (time < lower → ⊥) → lower ≤ time
 at_least lower time not = elim (cases_lt time lower) [ inl lt ↦ absurd (not lt) | inr le ↦ le ]
 
 until : (problem : Problem) (fixings : List Fixing) (t o time n : ℕ) (p : Operation) → RepliesToStart problem fixings t o time p (Accepted n) → IfSome p.upper (λ u. time ≤ u)

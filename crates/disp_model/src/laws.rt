@@ -14,6 +14,7 @@ ghost use Rattle.disp_model.specs.declared.tree.TreeNode.{TreeNode};
 ghost use Rattle.disp_model.specs.declared.tree.Leaf.{Leaf as TreeLeaf};
 ghost use Rattle.disp_model.specs.declared.tree.Verdict.{Verdict};
 ghost use Rattle.disp_model.specs.declared.tree.Verdict.TheVariants.{Optimal, Infeasible};
+ghost use Rattle.disp_model.specs.WellFormed.{horizon};
 ghost use Rattle.disp_model.specs.Plan.{operations_of};
 ghost use Rattle.disp_model.specs.Fixing.{after};
 ghost use Rattle.disp_model.specs.Cost.{cost_at, cost_of, IsInfeasible};
@@ -24,7 +25,7 @@ ghost use Rattle.disp_model.specs.Arcs.{IsArc, IsLongestArc};
 ghost use Rattle.disp_model.specs.Walks.{lower_of, upper_of, IsWalk, EndsIn, IsLongest, HasCycle};
 ghost use Rattle.disp_model.specs.Nodes.{IsDead, IsBound};
 ghost use Rattle.disp_model.specs.Trees.{IsChoice, children_of, HaveDistinct, WalksCost, LeafHolds, Accepts};
-ghost use Rattle.disp_model.specs.Replies.{IsReply};
+ghost use Rattle.disp_model.specs.Replies.{IsReply, IsEdition};
 ghost use Rattle.disp_model.specs.Earliest.{IsEarliest, IsPicked};
 
 /// Branching covers: a valid plan that follows the decisions follows them with one of the choice's
@@ -182,3 +183,12 @@ pub fn longest_walks_exist()
     ensures alone { (problem : Problem) (fixings : List Fixing) (decisions : List Decision) (bound other : ℕ)
         → IsBound problem fixings decisions bound → IsBound problem fixings decisions other → bound ≡ other }
 {}
+
+/// The horizon bounds walks: with an edition's fixings and no cycle of arcs, no walk is longer than the
+/// horizon.
+pub fn horizon_bounds_walks()
+    ensures { (problem : Problem) (fixings : List Fixing) (decisions : List Decision) (walk : List Op) (total : ℕ)
+        → IsEdition problem fixings → (HasCycle problem fixings decisions → ⊥) → IsWalk problem fixings decisions walk total
+        → total ≤ horizon problem.trains }
+{
+}
