@@ -75,7 +75,7 @@ route_child problem fixings plan o valid two =
 abbrev pub IsStartedAt : List Event → Op → ℕ → Event → Type 0
 IsStartedAt plan o i e = (slice_get plan i ≡ Some e) × Starts o e
 
-starts_or_not : (o : Op) (e : Event) → Starts o e ⊎ (Starts o e → ⊥)
+pub starts_or_not : (o : Op) (e : Event) → Starts o e ⊎ (Starts o e → ⊥)
 starts_or_not o e =
     elim (cases_Bool (nat_eq e.train o.train)) [
       | inl t ↦ elim (cases_Bool (nat_eq e.operation o.op)) [

@@ -67,7 +67,7 @@ closed_is_cycle problem fixings decisions v [] arc = (v ∷ v ∷ [] , (arc , ar
 closed_is_cycle problem fixings decisions v (r ∷ path) closes = (v ∷ r ∷ path , closes)
 
 -- an arc from a later operation of a walk back to its beginning makes a cycle
-back_is_cycle : (problem : Problem) (fixings : List Fixing) (decisions : List Decision) (v : Op) (walked : ℕ) (rest : List Op) (total : ℕ) → WalksOn problem fixings decisions v walked rest total
+pub back_is_cycle : (problem : Problem) (fixings : List Fixing) (decisions : List Decision) (v : Op) (walked : ℕ) (rest : List Op) (total : ℕ) → WalksOn problem fixings decisions v walked rest total
     → (w : Op) → Among w (v ∷ rest) → HasArc problem fixings decisions w v → HasCycle problem fixings decisions
 back_is_cycle problem fixings decisions v walked rest total walk w there arc =
     let path = path_closes problem fixings decisions v v walked rest total walk w there arc in closed_is_cycle problem fixings decisions v path.0 path.1

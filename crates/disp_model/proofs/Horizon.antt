@@ -148,12 +148,12 @@ pub sum_append : (f : Op → ℕ) (xs ys : List Op) → sum_ops f (xs ++ ys) ≡
 sum_append f [] ys = omega arith
 sum_append f (x ∷ xs) ys = omega (arith, sum_append f xs ys)
 
-among_cases : (o : Op) (xs ys : List Op) → Among o (xs ++ ys) → Among o xs ⊎ Among o ys
+pub among_cases : (o : Op) (xs ys : List Op) → Among o (xs ++ ys) → Among o xs ⊎ Among o ys
 among_cases o [] ys there = inr there
 among_cases o (x ∷ xs) ys (inl same) = inl (inl same)
 among_cases o (x ∷ xs) ys (inr there) = elim (among_cases o xs ys there) [ inl h ↦ inl (inr h) | inr h ↦ inr h ]
 
-once_append : (xs ys : List Op) → Once xs → Once ys → ((o : Op) → Among o xs → Among o ys → ⊥) → Once (xs ++ ys)
+pub once_append : (xs ys : List Op) → Once xs → Once ys → ((o : Op) → Among o xs → Among o ys → ⊥) → Once (xs ++ ys)
 once_append [] ys one other apart = other
 once_append (x ∷ xs) ys one other apart =
     ((λ there. elim (among_cases x xs ys there) [ inl h ↦ one.0 h | inr h ↦ apart x (inl refl) h ]) , once_append xs ys one.1 other (λ o here there. apart o (inr here) there))

@@ -183,7 +183,7 @@ pub each_cut_out : (o : Op) (front back walk : List Op) → EachAmong walk (fron
 each_cut_out o front back [] each n = tt
 each_cut_out o front back (p ∷ walk) each n = (cut_out o p front back each.0 (λ same. n (inl (sym same))), each_cut_out o front back walk each.1 (λ there. n (inr there)))
 
-once_fits : (walk ops : List Op) → Once walk → EachAmong walk ops → length walk ≤ length ops
+pub once_fits : (walk ops : List Op) → Once walk → EachAmong walk ops → length walk ≤ length ops
 once_fits [] ops once each = omega arith
 once_fits (o ∷ walk) ops once each =
     let parts = cut o ops each.0 in
@@ -245,7 +245,7 @@ pub forced_among : (problem : Problem) (fixings : List Fixing) (decisions : List
 unfolding all_ops
 forced_among problem fixings decisions o forced = among_all_ops problem o (length problem.trains) forced.train (forced_within problem fixings decisions o forced)
 
-walk_among : (problem : Problem) (fixings : List Fixing) (decisions : List Decision) (u : Op) (walked : ℕ) (rest : List Op) (total : ℕ) → WalksOn problem fixings decisions u walked rest total → EachAmong rest (all_ops problem)
+pub walk_among : (problem : Problem) (fixings : List Fixing) (decisions : List Decision) (u : Op) (walked : ℕ) (rest : List Op) (total : ℕ) → WalksOn problem fixings decisions u walked rest total → EachAmong rest (all_ops problem)
 walk_among problem fixings decisions u walked [] total walk = tt
 walk_among problem fixings decisions u walked (v ∷ rest) total walk = (forced_among problem fixings decisions v walk.1.there.to_forced, walk_among problem fixings decisions v (walked + walk.0) rest total walk.2)
 

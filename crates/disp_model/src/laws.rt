@@ -26,7 +26,7 @@ ghost use Rattle.disp_model.specs.Walks.{lower_of, upper_of, IsWalk, EndsIn, IsL
 ghost use Rattle.disp_model.specs.Nodes.{IsDead, IsBound};
 ghost use Rattle.disp_model.specs.Trees.{IsChoice, children_of, HaveDistinct, WalksCost, LeafHolds, Accepts};
 ghost use Rattle.disp_model.specs.Replies.{IsReply, IsEdition};
-ghost use Rattle.disp_model.specs.Earliest.{IsEarliest, IsPicked};
+ghost use Rattle.disp_model.specs.Earliest.{HaveOneRoute, IsEarliest, IsPicked};
 
 /// Branching covers: a valid plan that follows the decisions follows them with one of the choice's
 /// children added.
@@ -190,5 +190,13 @@ pub fn horizon_bounds_walks()
     ensures { (problem : Problem) (fixings : List Fixing) (decisions : List Decision) (walk : List Op) (total : ℕ)
         → IsEdition problem fixings → (HasCycle problem fixings decisions → ⊥) → IsWalk problem fixings decisions walk total
         → total ≤ horizon problem.trains }
+{
+}
+
+/// Where each train has one allowed route and arcs have no cycle there is a plan of earliest starts.
+pub fn earliest_plans_exist()
+    ensures { (problem : Problem) (fixings : List Fixing) (decisions : List Decision)
+        → HaveOneRoute problem fixings decisions → (HasCycle problem fixings decisions → ⊥)
+        → (plan : List Event) × IsEarliest problem fixings decisions plan }
 {
 }
