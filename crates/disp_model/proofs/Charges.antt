@@ -1,29 +1,22 @@
 -- What the arcs of a walk take: durations and release times of operations, none of which a later arc takes again.
-use Rattle.std.proofs.Common.{◌≡◌, ℕ, zero, suc, ◌+◌, ◌<◌, ◌≤◌, List, [], ◌∷◌, ◌++◌, length, get_or, max, Option, Some, None, Bool, true, false, cond, refl, sym, ap, subst, ◌∙◌, arith, rules, inl, inr}
-use Rattle.std.specs.Prelude.{nat_eq, slice_get, Contains, filter, sum_by, ◌⊎◌, ◌==◌}
+use Rattle.std.proofs.Common.{◌≡◌, ℕ, ◌+◌, ◌<◌, ◌≤◌, List, [], ◌∷◌, length, Bool, refl, sym, subst, ◌∙◌, arith, inl, inr}
+use Rattle.std.specs.Prelude.{Contains, filter, ◌⊎◌, ◌==◌}
 use Rattle.std.specs.List.{list_any}
-use Rattle.std.proofs.lemmas.Bool.{cases_Bool, cases_lt}
+use Rattle.std.proofs.lemmas.Bool.{cases_Bool}
 use Rattle.std.proofs.lemmas.Option.{same_Some}
-use Rattle.std.proofs.lemmas.List.Sums.{sum_by-cons}
 use Rattle.disp_model.specs.declared.train.Op.{Op}
 use Rattle.disp_model.specs.declared.train.Listing.{Listing}
-use Rattle.disp_model.specs.declared.train.Operation.{Operation}
 use Rattle.disp_model.specs.declared.fixing.Fixing.{Fixing}
 use Rattle.disp_model.specs.declared.decision.Decision.{Decision}
 use Rattle.disp_model.specs.declared.decision.Decision.TheVariants.{First}
 use Rattle.disp_model.specs.declared.problem.Problem.{Problem}
-use Rattle.disp_model.specs.Train.{duration_of, GoesOn, IsRoute}
-use Rattle.disp_model.specs.WellFormed.{LeadsTo, IsAcyclic, greatest_release}
+use Rattle.disp_model.specs.WellFormed.{LeadsTo, greatest_release}
 use Rattle.disp_model.specs.Valid.{train_at}
-use Rattle.disp_model.specs.Fixing.{after}
-use Rattle.disp_model.specs.Routes.{IsAllowed, IsForced}
-use Rattle.disp_model.specs.Arcs.{listings_of, shared_listings, Conflicts, release_of, min_of, Passes, IsTrainArc, IsOrderArc, GoesTo, IsReleaseArc, IsArc, HasArc, IsLongestArc}
-use Rattle.disp_model.specs.Walks.{WalksOn, ClosesTo, IsCycle, HasCycle}
-use Rattle.disp_model.proofs.Paths.{IsIn, in_middle, leads_along, never_again}
-use Rattle.disp_model.proofs.Branching.{route_from}
+use Rattle.disp_model.specs.Routes.{IsForced}
+use Rattle.disp_model.specs.Arcs.{listings_of, Conflicts, release_of, min_of, GoesTo, IsReleaseArc, HasArc}
+use Rattle.disp_model.specs.Walks.{WalksOn, ClosesTo, HasCycle}
 use Rattle.disp_model.proofs.Positions.{leads_then}
 use Rattle.disp_model.proofs.Picked.{route_to_successor}
-use Rattle.disp_model.proofs.RouteSearch.{each_within}
 use Rattle.disp_model.proofs.LeastSums.{train_arc_exists}
 use Rattle.disp_model.proofs.LongestArcs.{same_ops}
 use Rattle.disp_model.proofs.LongestWalks.{Among, Once}
@@ -45,7 +38,7 @@ before_then problem a b c one other =
 before_arc : (problem : Problem) (fixings : List Fixing) (decisions : List Decision) (a b : Op) → Before problem a b → IsForced problem fixings decisions a → IsForced problem fixings decisions b → HasArc problem fixings decisions a b
 before_arc problem fixings decisions a b before one other =
     let arc = train_arc_exists problem fixings decisions a b before.steps before.same before.way one other in
-    (arc.0 , record { from_forced = one; to_forced = other; kind = inl arc.1 })
+    (arc.0, record { from_forced = one; to_forced = other; kind = inl arc.1 })
 
 goes_before : (problem : Problem) (fixings : List Fixing) (decisions : List Decision) (h u : Op) → IsForced problem fixings decisions h → GoesTo problem fixings decisions h u → Before problem h u
 goes_before problem fixings decisions h u forced goes =
@@ -56,15 +49,15 @@ goes_before problem fixings decisions h u forced goes =
 
 path_closes : (problem : Problem) (fixings : List Fixing) (decisions : List Decision) (z v : Op) (walked : ℕ) (rest : List Op) (total : ℕ) → WalksOn problem fixings decisions v walked rest total
     → (w : Op) → Among w (v ∷ rest) → HasArc problem fixings decisions w z → (path : List Op) × ClosesTo problem fixings decisions z v path
-path_closes problem fixings decisions z v walked rest total walk w (inl same) arc = ([] , subst (λ (x : Op). HasArc problem fixings decisions x z) (sym same) arc)
+path_closes problem fixings decisions z v walked rest total walk w (inl same) arc = ([], subst (λ (x : Op). HasArc problem fixings decisions x z) (sym same) arc)
 path_closes problem fixings decisions z v walked [] total walk w (inr there) arc = absurd there
 path_closes problem fixings decisions z v walked (r ∷ rest) total walk w (inr there) arc =
     let later = path_closes problem fixings decisions z r (walked + walk.0) rest total walk.2 w there arc in
-    (r ∷ later.0 , ((walk.0 , walk.1.there) , later.1))
+    (r ∷ later.0, ((walk.0, walk.1.there), later.1))
 
 closed_is_cycle : (problem : Problem) (fixings : List Fixing) (decisions : List Decision) (v : Op) (path : List Op) → ClosesTo problem fixings decisions v v path → HasCycle problem fixings decisions
-closed_is_cycle problem fixings decisions v [] arc = (v ∷ v ∷ [] , (arc , arc))
-closed_is_cycle problem fixings decisions v (r ∷ path) closes = (v ∷ r ∷ path , closes)
+closed_is_cycle problem fixings decisions v [] arc = (v ∷ v ∷ [], (arc, arc))
+closed_is_cycle problem fixings decisions v (r ∷ path) closes = (v ∷ r ∷ path, closes)
 
 -- an arc from a later operation of a walk back to its beginning makes a cycle
 pub back_is_cycle : (problem : Problem) (fixings : List Fixing) (decisions : List Decision) (v : Op) (walked : ℕ) (rest : List Op) (total : ℕ) → WalksOn problem fixings decisions v walked rest total
@@ -76,7 +69,7 @@ back_is_cycle problem fixings decisions v walked rest total walk w there arc =
 round_is_cycle : (problem : Problem) (fixings : List Fixing) (decisions : List Decision) (u v : Op) (walked : ℕ) (rest : List Op) (total : ℕ) → HasArc problem fixings decisions u v → WalksOn problem fixings decisions v walked rest total
     → (w : Op) → Among w (v ∷ rest) → HasArc problem fixings decisions w u → HasCycle problem fixings decisions
 round_is_cycle problem fixings decisions u v walked rest total first walk w there arc =
-    let path = path_closes problem fixings decisions u v walked rest total walk w there arc in (u ∷ v ∷ path.0 , (first , path.1))
+    let path = path_closes problem fixings decisions u v walked rest total walk w there arc in (u ∷ v ∷ path.0, (first, path.1))
 
 -- ---- what an arc takes, and that no later one takes it again
 
@@ -133,11 +126,11 @@ release_again problem fixings decisions u v h walked rest total arc takes walk w
     by_at : Follows problem fixings decisions h u → Follows problem fixings decisions h w → HasCycle problem fixings decisions
     by_at (inl own) (inl same) = alike (sym own ∙ same)
     by_at (inl own) (inr goes) =
-      let release : IsReleaseArc problem fixings decisions w v (release_of problem h v) = record { holder = h; decided = takes.decided; forced = takes.forced; conflicts = takes.conflicts; goes_to = goes; length_is = refl } in
-      back_is_cycle problem fixings decisions v walked rest total walk w there (release_of problem h v , record { from_forced = forced; to_forced = arc.1.to_forced; kind = inr (inr release) })
+        let release : IsReleaseArc problem fixings decisions w v (release_of problem h v) = record { holder = h; decided = takes.decided; forced = takes.forced; conflicts = takes.conflicts; goes_to = goes; length_is = refl } in
+        back_is_cycle problem fixings decisions v walked rest total walk w there (release_of problem h v, record { from_forced = forced; to_forced = arc.1.to_forced; kind = inr (inr release) })
     by_at (inr goes) (inl same) =
-      let before = goes_before problem fixings decisions h u takes.forced goes in
-      round_is_cycle problem fixings decisions u v walked rest total arc walk w there (before_arc problem fixings decisions w u (subst (λ (y : Op). Before problem y u) same before) forced arc.1.from_forced)
+        let before = goes_before problem fixings decisions h u takes.forced goes in
+        round_is_cycle problem fixings decisions u v walked rest total arc walk w there (before_arc problem fixings decisions w u (subst (λ (y : Op). Before problem y u) same before) forced arc.1.from_forced)
     by_at (inr goes) (inr later) = alike (one_after problem fixings decisions h u w takes.forced goes later)
 
 -- ---- sums over operations
@@ -152,9 +145,9 @@ most_released problem o = greatest_release (listings_of problem o)
 greatest_of_some : (p : Listing → Bool) (ls : List Listing) → greatest_release (filter p ls) ≤ greatest_release ls
 greatest_of_some p [] = omega arith
 greatest_of_some p (l ∷ ls) = elim (cases_Bool (p l)) [
-    | inl is ↦ rw is (omega (arith, greatest_of_some p ls))
-    | inr is ↦ rw is (omega (arith, greatest_of_some p ls))
-  ]
+  | inl is ↦ rw is (omega (arith, greatest_of_some p ls))
+  | inr is ↦ rw is (omega (arith, greatest_of_some p ls))
+]
 
 -- a release time is at most the greatest of the operation's
 pub release_within : (problem : Problem) (a b : Op) → release_of problem a b ≤ most_released problem a

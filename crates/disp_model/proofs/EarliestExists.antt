@@ -1,6 +1,6 @@
 -- Where each train has one route and arcs have no cycle there is a plan of earliest starts.
-use Rattle.std.proofs.Common.{◌≡◌, ℕ, zero, suc, ◌+◌, ◌<◌, ◌≤◌, List, [], ◌∷◌, ◌++◌, length, get_or, take, drop, Option, Some, None, refl, sym, ap, subst, ◌∙◌, arith, rules, inl, inr, append_assoc}
-use Rattle.std.specs.Prelude.{slice_get, Contains, All, ◌⊎◌, ◌≢◌}
+use Rattle.std.proofs.Common.{◌≡◌, ℕ, zero, suc, ◌+◌, ◌<◌, List, [], ◌∷◌, ◌++◌, length, take, drop, Some, refl, sym, ap, subst, ◌∙◌, arith, inl, inr, append_assoc}
+use Rattle.std.specs.Prelude.{slice_get, Contains, ◌⊎◌, ◌≢◌}
 use Rattle.std.proofs.lemmas.Bool.{cases_lt}
 use Rattle.std.proofs.lemmas.Option.{none-some, same_Some}
 use Rattle.std.proofs.lemmas.List.{length-append}
@@ -29,13 +29,13 @@ In e (f ∷ events) = (f ≡ e) ⊎ In e events
 
 in_contains : (e : Event) (events : List Event) → In e events → Contains events e
 in_contains e [] there = absurd there
-in_contains e (f ∷ events) (inl same) = (0 , omega arith , same)
-in_contains e (f ∷ events) (inr there) = let later = in_contains e events there in (suc later.0 , omega (arith, later.1) , later.2)
+in_contains e (f ∷ events) (inl same) = (0, omega arith, same)
+in_contains e (f ∷ events) (inr there) = let later = in_contains e events there in (suc later.0, omega (arith, later.1), later.2)
 
 contains_in : (e : Event) (events : List Event) → Contains events e → In e events
-contains_in e [] (k , lt , same) = omega arith
-contains_in e (f ∷ events) (zero , lt , same) = inl same
-contains_in e (f ∷ events) (suc k , lt , same) = inr (contains_in e events (k , omega arith , same))
+contains_in e [] (k, lt, same) = omega arith
+contains_in e (f ∷ events) (zero, lt, same) = inl same
+contains_in e (f ∷ events) (suc k, lt, same) = inr (contains_in e events (k, omega arith, same))
 
 in_left : (e : Event) (xs ys : List Event) → In e xs → In e (xs ++ ys)
 in_left e [] ys there = absurd there
@@ -75,51 +75,51 @@ same_events e f time train operation =
 
 in_some_order : (e f : Event) → (e ≡ f) ⊎ (ComesBefore e f ⊎ ComesBefore f e)
 in_some_order e f = elim (compare e.time f.time) [
-    | inl lt ↦ inr (inl (inl lt))
-    | inr rest ↦ elim rest [
-        | inr gt ↦ inr (inr (inl gt))
-        | inl time ↦ elim (compare e.train f.train) [
-            | inl lt ↦ inr (inl (inr (time , inl lt)))
-            | inr others ↦ elim others [
-                | inr gt ↦ inr (inr (inr (sym time , inl gt)))
-                | inl train ↦ elim (compare e.operation f.operation) [
-                    | inl lt ↦ inr (inl (inr (time , inr (train , lt))))
-                    | inr last ↦ elim last [ inl operation ↦ inl (same_events e f time train operation) | inr gt ↦ inr (inr (inr (sym time , inr (sym train , gt)))) ]
-                  ]
-              ]
-          ]
+  | inl lt ↦ inr (inl (inl lt))
+  | inr rest ↦ elim rest [
+    | inr gt ↦ inr (inr (inl gt))
+    | inl time ↦ elim (compare e.train f.train) [
+      | inl lt ↦ inr (inl (inr (time, inl lt)))
+      | inr others ↦ elim others [
+        | inr gt ↦ inr (inr (inr (sym time, inl gt)))
+        | inl train ↦ elim (compare e.operation f.operation) [
+          | inl lt ↦ inr (inl (inr (time, inr (train, lt))))
+          | inr last ↦ elim last [ inl operation ↦ inl (same_events e f time train operation) | inr gt ↦ inr (inr (inr (sym time, inr (sym train, gt)))) ]
+        ]
       ]
+    ]
   ]
+]
 
 comes_then : (e f g : Event) → ComesBefore e f → ComesBefore f g → ComesBefore e g
 comes_then e f g (inl one) (inl other) = inl (omega (arith, one, other))
 comes_then e f g (inl one) (inr other) = inl (omega (arith, one, other.0))
 comes_then e f g (inr one) (inl other) = inl (omega (arith, one.0, other))
-comes_then e f g (inr one) (inr other) = inr (one.0 ∙ other.0 , then one.1 other.1)
+comes_then e f g (inr one) (inr other) = inr (one.0 ∙ other.0, then one.1 other.1)
   where
     then : ((e.train < f.train) ⊎ ((e.train ≡ f.train) × (e.operation < f.operation))) → ((f.train < g.train) ⊎ ((f.train ≡ g.train) × (f.operation < g.operation))) → (e.train < g.train) ⊎ ((e.train ≡ g.train) × (e.operation < g.operation))
     then (inl a) (inl b) = inl (omega (arith, a, b))
     then (inl a) (inr b) = inl (omega (arith, a, b.0))
     then (inr a) (inl b) = inl (omega (arith, a.0, b))
-    then (inr a) (inr b) = inr (a.0 ∙ b.0 , omega (arith, a.1, b.1))
+    then (inr a) (inr b) = inr (a.0 ∙ b.0, omega (arith, a.1, b.1))
 
 -- ---- what is ready, and what waits
 
 starts_in_or_not : (stood : List Event) (o : Op) → Decided ((f : Event) × In f stood × Starts o f)
 starts_in_or_not [] o = inr (λ h. h.1)
 starts_in_or_not (e ∷ stood) o = elim (starts_or_not o e) [
-    | inl here ↦ inl (e , inl refl , here)
-    | inr n ↦ elim (starts_in_or_not stood o) [ inl later ↦ inl (later.0 , inr later.1 , later.2) | inr none ↦ inr (λ h. neither e stood o n none h) ]
-  ]
+  | inl here ↦ inl (e, inl refl, here)
+  | inr n ↦ elim (starts_in_or_not stood o) [ inl later ↦ inl (later.0, inr later.1, later.2) | inr none ↦ inr (λ h. neither e stood o n none h) ]
+]
   where
     neither : (e : Event) (stood : List Event) (o : Op) → (Starts o e → ⊥) → (((f : Event) × In f stood × Starts o f) → ⊥) → ((f : Event) × In f (e ∷ stood) × Starts o f) → ⊥
-    neither e stood o n none (f , inl same , starts) = n (subst (Starts o) (sym same) starts)
-    neither e stood o n none (f , inr there , starts) = none (f , there , starts)
+    neither e stood o n none (f, inl same, starts) = n (subst (Starts o) (sym same) starts)
+    neither e stood o n none (f, inr there, starts) = none (f, there, starts)
 
 among_contains : (o : Op) (ops : List Op) → Among o ops → Contains ops o
 among_contains o [] there = absurd there
-among_contains o (p ∷ ops) (inl same) = (0 , omega arith , same)
-among_contains o (p ∷ ops) (inr there) = let later = among_contains o ops there in (suc later.0 , omega (arith, later.1) , later.2)
+among_contains o (p ∷ ops) (inl same) = (0, omega arith, same)
+among_contains o (p ∷ ops) (inr there) = let later = among_contains o ops there in (suc later.0, omega (arith, later.1), later.2)
 
 -- an arc leads to it from an operation that does not stand yet
 abbrev Waits : Problem → List Fixing → List Decision → List Event → Event → Type 0
@@ -128,24 +128,25 @@ Waits problem fixings decisions stood e = (o : Op) × HasArc problem fixings dec
 ready_or_waits : (problem : Problem) (fixings : List Fixing) (decisions : List Decision) (stood : List Event) (e : Event) → IsReady problem fixings decisions stood e ⊎ Waits problem fixings decisions stood e
 ready_or_waits problem fixings decisions stood e =
     elim (some_or_not (λ o. HasArc problem fixings decisions o (op_of e) × (((f : Event) × In f stood × Starts o f) → ⊥)) (λ o. both (has_arc_or_not problem fixings decisions o (op_of e)) (denied (starts_in_or_not stood o))) (all_ops problem)) [
-      | inl found ↦ inr (found.0 , found.2.0 , found.2.1)
+      | inl found ↦ inr (found.0, found.2.0, found.2.1)
       | inr none ↦ inl (λ o arc. elim (starts_in_or_not stood o) [
-          | inl there ↦ (there.0 , in_contains there.0 stood there.1 , there.2)
-          | inr n ↦ absurd (none (o , among_contains o (all_ops problem) (forced_among problem fixings decisions o arc.1.from_forced) , (arc , n)))
-        ])
+        | inl there ↦ (there.0, in_contains there.0 stood there.1, there.2)
+        | inr n ↦ absurd (none (o, among_contains o (all_ops problem) (forced_among problem fixings decisions o arc.1.from_forced), (arc, n)))
+      ])
     ]
 
 -- ---- not all of them wait
 
 rebased : (problem : Problem) (fixings : List Fixing) (decisions : List Decision) (u : Op) (walked later : ℕ) (rest : List Op) (total : ℕ) → WalksOn problem fixings decisions u walked rest total → (new : ℕ) × WalksOn problem fixings decisions u later rest new
-rebased problem fixings decisions u walked later [] total walk = (later , refl)
-rebased problem fixings decisions u walked later (v ∷ rest) total walk = let on = rebased problem fixings decisions v (walked + walk.0) (later + walk.0) rest total walk.2 in (on.0 , (walk.0 , walk.1 , on.1))
+rebased problem fixings decisions u walked later [] total walk = (later, refl)
+rebased problem fixings decisions u walked later (v ∷ rest) total walk = let on = rebased problem fixings decisions v (walked + walk.0) (later + walk.0) rest total walk.2 in (on.0, (walk.0, walk.1, on.1))
 
 walk_once : (problem : Problem) (fixings : List Fixing) (decisions : List Decision) → (HasCycle problem fixings decisions → ⊥) → (u : Op) (walked : ℕ) (rest : List Op) (total : ℕ) → WalksOn problem fixings decisions u walked rest total → Once (u ∷ rest)
-walk_once problem fixings decisions no_cycle u walked [] total walk = ((λ there. there) , tt)
-walk_once problem fixings decisions no_cycle u walked (v ∷ rest) total walk =
-    ((λ there. no_cycle (back_is_cycle problem fixings decisions v (walked + walk.0) rest total walk.2 u there (walk.0 , walk.1.there)))
-    , walk_once problem fixings decisions no_cycle v (walked + walk.0) rest total walk.2)
+walk_once problem fixings decisions no_cycle u walked [] total walk = ((λ there. there), tt)
+walk_once problem fixings decisions no_cycle u walked (v ∷ rest) total walk = (
+  (λ there. no_cycle (back_is_cycle problem fixings decisions v (walked + walk.0) rest total walk.2 u there (walk.0, walk.1.there))),
+  walk_once problem fixings decisions no_cycle v (walked + walk.0) rest total walk.2,
+)
 
 -- each forced operation stands or is left
 abbrev Covered : Problem → List Fixing → List Decision → List Event → List Event → Type 0
@@ -169,14 +170,14 @@ chain problem fixings decisions stood rest covered waits e left (suc n) = longer
       where
         placed : (c : Chain problem fixings decisions rest n) (o : Op) (f : Event) → In f rest → Starts o f → HasArc problem fixings decisions o (op_of c.event) → Chain problem fixings decisions rest (suc n)
         placed c o f there starts arc =
-          let own : op_of f ≡ o = same_ops (op_of f) o starts.train starts.operation in
-          let longest = longest_arc problem fixings decisions o (op_of c.event) arc.0 arc.1 in
-          let on = rebased problem fixings decisions (op_of c.event) 0 (0 + longest.0) c.tail c.total c.walk in
-          let walk : WalksOn problem fixings decisions o 0 (op_of c.event ∷ c.tail) on.0 = (longest.0 , longest.1 , on.1) in
-          record { event = f; left = there; tail = op_of c.event ∷ c.tail; long = ap (λ (m : ℕ). suc m) c.long; total = on.0; walk = subst (λ (p : Op). WalksOn problem fixings decisions p 0 (op_of c.event ∷ c.tail) on.0) (sym own) walk }
+            let own : op_of f ≡ o = same_ops (op_of f) o starts.train starts.operation in
+            let longest = longest_arc problem fixings decisions o (op_of c.event) arc.0 arc.1 in
+            let on = rebased problem fixings decisions (op_of c.event) 0 (0 + longest.0) c.tail c.total c.walk in
+            let walk : WalksOn problem fixings decisions o 0 (op_of c.event ∷ c.tail) on.0 = (longest.0, longest.1, on.1) in
+            record { event = f; left = there; tail = op_of c.event ∷ c.tail; long = ap (λ (m : ℕ). suc m) c.long; total = on.0; walk = subst (λ (p : Op). WalksOn problem fixings decisions p 0 (op_of c.event ∷ c.tail) on.0) (sym own) walk }
 
         by_place : (c : Chain problem fixings decisions rest n) (o : Op) → HasArc problem fixings decisions o (op_of c.event) → (((f : Event) × In f stood × Starts o f) → ⊥) → (f : Event) → (In f stood ⊎ In f rest) → Starts o f → Chain problem fixings decisions rest (suc n)
-        by_place c o arc none f (inl stands) starts = absurd (none (f , stands , starts))
+        by_place c o arc none f (inl stands) starts = absurd (none (f, stands, starts))
         by_place c o arc none f (inr there) starts = placed c o f there starts arc
 
         longer_by : (c : Chain problem fixings decisions rest n) → ((o : Op) × HasArc problem fixings decisions o (op_of c.event) × (((f : Event) × In f stood × Starts o f) → ⊥)) → Chain problem fixings decisions rest (suc n)
@@ -189,18 +190,18 @@ not_all_wait : (problem : Problem) (fixings : List Fixing) (decisions : List Dec
 not_all_wait problem fixings decisions stood rest no_cycle covered forced e left waits =
     let c = chain problem fixings decisions stood rest covered waits e left (length (all_ops problem)) in
     let once = walk_once problem fixings decisions no_cycle (op_of c.event) 0 c.tail c.total c.walk in
-    let each : EachAmong (op_of c.event ∷ c.tail) (all_ops problem) = (forced_among problem fixings decisions (op_of c.event) (forced c.event c.left) , walk_among problem fixings decisions (op_of c.event) 0 c.tail c.total c.walk) in
+    let each : EachAmong (op_of c.event ∷ c.tail) (all_ops problem) = (forced_among problem fixings decisions (op_of c.event) (forced c.event c.left), walk_among problem fixings decisions (op_of c.event) 0 c.tail c.total c.walk) in
     omega (arith, once_fits (op_of c.event ∷ c.tail) (all_ops problem) once each, c.long)
 
 some_ready_or_all_wait : (problem : Problem) (fixings : List Fixing) (decisions : List Decision) (stood l : List Event) → ((e : Event) × In e l × IsReady problem fixings decisions stood e) ⊎ ((e : Event) → In e l → Waits problem fixings decisions stood e)
 some_ready_or_all_wait problem fixings decisions stood [] = inr (λ e none. absurd none)
 some_ready_or_all_wait problem fixings decisions stood (x ∷ l) = elim (ready_or_waits problem fixings decisions stood x) [
-    | inl ready ↦ inl (x , inl refl , ready)
-    | inr waits ↦ elim (some_ready_or_all_wait problem fixings decisions stood l) [
-        | inl later ↦ inl (later.0 , inr later.1 , later.2)
-        | inr all ↦ inr (λ e there. elim there [ inl same ↦ subst (Waits problem fixings decisions stood) same waits | inr h ↦ all e h ])
-      ]
+  | inl ready ↦ inl (x, inl refl, ready)
+  | inr waits ↦ elim (some_ready_or_all_wait problem fixings decisions stood l) [
+    | inl later ↦ inl (later.0, inr later.1, later.2)
+    | inr all ↦ inr (λ e there. elim there [ inl same ↦ subst (Waits problem fixings decisions stood) same waits | inr h ↦ all e h ])
   ]
+]
 
 -- the first of the events that are ready
 record Best (problem : Problem) (fixings : List Fixing) (decisions : List Decision) (stood l : List Event) (start : Event) : Type 0 where
@@ -213,18 +214,18 @@ record Best (problem : Problem) (fixings : List Fixing) (decisions : List Decisi
 best : (problem : Problem) (fixings : List Fixing) (decisions : List Decision) (stood l : List Event) (start : Event) → IsReady problem fixings decisions stood start → Best problem fixings decisions stood l start
 best problem fixings decisions stood [] start ready = record { event = start; where_is = inl refl; ready = ready; not_behind = inl refl; first = λ f none r. absurd none }
 best problem fixings decisions stood (x ∷ l) start ready = elim (ready_or_waits problem fixings decisions stood x) [
-    | inr waits ↦ skip (best problem fixings decisions stood l start ready) (λ is. waits_no waits is)
-    | inl own ↦ elim (in_some_order x start) [
-        | inl same ↦ alike same (best problem fixings decisions stood l start ready)
-        | inr order ↦ elim order [
-            | inl before ↦ take_it before (best problem fixings decisions stood l x own)
-            | inr behind ↦ keep behind (best problem fixings decisions stood l start ready)
-          ]
-      ]
+  | inr waits ↦ skip (best problem fixings decisions stood l start ready) (λ is. waits_no waits is)
+  | inl own ↦ elim (in_some_order x start) [
+    | inl same ↦ alike same (best problem fixings decisions stood l start ready)
+    | inr order ↦ elim order [
+      | inl before ↦ take_it before (best problem fixings decisions stood l x own)
+      | inr behind ↦ keep behind (best problem fixings decisions stood l start ready)
+    ]
   ]
+]
   where
     waits_no : Waits problem fixings decisions stood x → IsReady problem fixings decisions stood x → ⊥
-    waits_no waits is = let found = is waits.0 waits.1 in waits.2 (found.0 , contains_in found.0 stood found.1 , found.2)
+    waits_no waits is = let found = is waits.0 waits.1 in waits.2 (found.0, contains_in found.0 stood found.1, found.2)
 
     deeper : (e : Event) → (e ≡ start) ⊎ In e l → (e ≡ start) ⊎ In e (x ∷ l)
     deeper e (inl same) = inl same
@@ -276,9 +277,9 @@ record Next (problem : Problem) (fixings : List Fixing) (decisions : List Decisi
 
 next_event : (problem : Problem) (fixings : List Fixing) (decisions : List Decision) (stood rest : List Event) → (HasCycle problem fixings decisions → ⊥) → Covered problem fixings decisions stood rest → AreForced problem fixings decisions rest → (e : Event) → In e rest → Next problem fixings decisions stood rest
 next_event problem fixings decisions stood rest no_cycle covered forced e left = elim (some_ready_or_all_wait problem fixings decisions stood rest) [
-    | inr all ↦ absurd (not_all_wait problem fixings decisions stood rest no_cycle covered forced e left all)
-    | inl some ↦ from some (best problem fixings decisions stood rest some.0 some.2)
-  ]
+  | inr all ↦ absurd (not_all_wait problem fixings decisions stood rest no_cycle covered forced e left all)
+  | inl some ↦ from some (best problem fixings decisions stood rest some.0 some.2)
+]
   where
     from : (some : (e : Event) × In e rest × IsReady problem fixings decisions stood e) → Best problem fixings decisions stood rest some.0 → Next problem fixings decisions stood rest
     from some b = record { event = b.event; left = place some b.event b.where_is; ready = b.ready; first = b.first }
@@ -295,7 +296,7 @@ OnceEach (e ∷ events) = ((f : Event) → In f events → op_of f ≡ op_of e �
 
 once_without : (e : Event) (front back : List Event) → OnceEach (front ++ e ∷ back) → OnceEach (front ++ back)
 once_without e [] back once = once.1
-once_without e (x ∷ front) back once = ((λ f there. once.0 f (elim (in_either f front back there) [ inl h ↦ in_left f front (e ∷ back) h | inr h ↦ in_right f front (e ∷ back) (inr h) ])) , once_without e front back once.1)
+once_without e (x ∷ front) back once = ((λ f there. once.0 f (elim (in_either f front back there) [ inl h ↦ in_left f front (e ∷ back) h | inr h ↦ in_right f front (e ∷ back) (inr h) ])), once_without e front back once.1)
 
 none_alike : (e : Event) (front back : List Event) → OnceEach (front ++ e ∷ back) → (f : Event) → In f (front ++ back) → op_of f ≡ op_of e → ⊥
 none_alike e [] back once f there same = once.0 f there same
@@ -342,16 +343,16 @@ arrange problem fixings decisions no_cycle (suc n) stood (x ∷ rest) long cover
 
             moved : (f : Event) → In f (parts.front ++ next.event ∷ parts.back) → In f (stood ++ next.event ∷ []) ⊎ In f (parts.front ++ parts.back)
             moved f there = elim (in_either f parts.front (next.event ∷ parts.back) there) [
-                | inl h ↦ inr (in_left f parts.front parts.back h)
-                | inr h ↦ elim h [ inl same ↦ inl (in_right f stood (next.event ∷ []) (inl same)) | inr g ↦ inr (in_right f parts.front parts.back g) ]
-              ]
+              | inl h ↦ inr (in_left f parts.front parts.back h)
+              | inr h ↦ elim h [ inl same ↦ inl (in_right f stood (next.event ∷ []) (inl same)) | inr g ↦ inr (in_right f parts.front parts.back g) ]
+            ]
 
             covers : Covered problem fixings decisions (stood ++ next.event ∷ []) (parts.front ++ parts.back)
             covers o is = place (covered o is)
               where
                 place : ((f : Event) × (In f stood ⊎ In f (x ∷ rest)) × Starts o f) → (f : Event) × (In f (stood ++ next.event ∷ []) ⊎ In f (parts.front ++ parts.back)) × Starts o f
-                place (f , inl stands , starts) = (f , inl (in_left f stood (next.event ∷ []) stands) , starts)
-                place (f , inr left , starts) = (f , moved f (subst (In f) parts.is left) , starts)
+                place (f, inl stands, starts) = (f, inl (in_left f stood (next.event ∷ []) stands), starts)
+                place (f, inr left, starts) = (f, moved f (subst (In f) parts.is left), starts)
 
             from_plan : (tail : Arranged problem fixings decisions (stood ++ next.event ∷ []) (parts.front ++ parts.back)) (f : Event) → In f (next.event ∷ tail.plan) → In f (x ∷ rest)
             from_plan tail f (inl same) = subst (λ (g : Event). In g (x ∷ rest)) same next.left
@@ -359,9 +360,9 @@ arrange problem fixings decisions no_cycle (suc n) stood (x ∷ rest) long cover
 
             in_plan : (tail : Arranged problem fixings decisions (stood ++ next.event ∷ []) (parts.front ++ parts.back)) (f : Event) → In f (parts.front ++ next.event ∷ parts.back) → In f (next.event ∷ tail.plan)
             in_plan tail f there = elim (in_either f parts.front (next.event ∷ parts.back) there) [
-                | inl h ↦ inr (tail.there f (in_left f parts.front parts.back h))
-                | inr h ↦ elim h [ inl same ↦ inl same | inr g ↦ inr (tail.there f (in_right f parts.front parts.back g)) ]
-              ]
+              | inl h ↦ inr (tail.there f (in_left f parts.front parts.back h))
+              | inr h ↦ elim h [ inl same ↦ inl same | inr g ↦ inr (tail.there f (in_right f parts.front parts.back g)) ]
+            ]
 
             first_of : (tail : Arranged problem fixings decisions (stood ++ next.event ∷ []) (parts.front ++ parts.back)) (f : Event) → In f (next.event ∷ tail.plan) → IsReady problem fixings decisions stood f → (f ≡ next.event) ⊎ ComesBefore next.event f
             first_of tail f (inl same) is = inl (sym same)
@@ -370,9 +371,9 @@ arrange problem fixings decisions no_cycle (suc n) stood (x ∷ rest) long cover
             order : (tail : Arranged problem fixings decisions (stood ++ next.event ∷ []) (parts.front ++ parts.back)) (i : ℕ) (e : Event) → slice_get (next.event ∷ tail.plan) i ≡ Some e
                 → IsNext problem fixings decisions (stood ++ take i (next.event ∷ tail.plan)) (drop i (next.event ∷ tail.plan)) e
             order tail zero e at =
-              let own : IsNext problem fixings decisions stood (next.event ∷ tail.plan) next.event = record { ready = next.ready; first = λ f there is. first_of tail f (contains_in f (next.event ∷ tail.plan) there) is } in
-              subst (IsNext problem fixings decisions (stood ++ []) (next.event ∷ tail.plan)) (same_Some next.event e at)
-              (subst (λ (s : List Event). IsNext problem fixings decisions s (next.event ∷ tail.plan) next.event) (sym (nil_right stood)) own)
+                let own : IsNext problem fixings decisions stood (next.event ∷ tail.plan) next.event = record { ready = next.ready; first = λ f there is. first_of tail f (contains_in f (next.event ∷ tail.plan) there) is } in
+                subst (IsNext problem fixings decisions (stood ++ []) (next.event ∷ tail.plan)) (same_Some next.event e at)
+                (subst (λ (s : List Event). IsNext problem fixings decisions s (next.event ∷ tail.plan) next.event) (sym (nil_right stood)) own)
             order tail (suc i) e at = subst (λ (s : List Event). IsNext problem fixings decisions s (drop i tail.plan) e) (append_assoc stood (next.event ∷ []) (take i tail.plan)) (tail.ordered i e at)
 
             joined : Arranged problem fixings decisions (stood ++ next.event ∷ []) (parts.front ++ parts.back) → Arranged problem fixings decisions stood (x ∷ rest)
@@ -380,7 +381,7 @@ arrange problem fixings decisions no_cycle (suc n) stood (x ∷ rest) long cover
               plan = next.event ∷ tail.plan;
               from = from_plan tail;
               there = λ f there. in_plan tail f (subst (In f) parts.is there);
-              once = ((λ f there. none_alike next.event parts.front parts.back (subst OnceEach parts.is once) f (tail.from f there)) , tail.once);
+              once = ((λ f there. none_alike next.event parts.front parts.back (subst OnceEach parts.is once) f (tail.from f there)), tail.once);
               ordered = order tail;
             }
 
@@ -411,39 +412,39 @@ made problem fixings decisions (o ∷ ops) once = by_forced (is_forced_or_not pr
       where
         with_time : ((total : ℕ) × IsLongest problem fixings decisions o total) → Made problem fixings decisions ops → Made problem fixings decisions (o ∷ ops)
         with_time time later =
-          let own : Event = record { time = time.0; train = o.train; operation = o.op } in
-          record {
-            events = own ∷ later.events;
-            among = λ e there. elim there [ inl same ↦ inl (ap op_of same) | inr h ↦ inr (later.among e h) ];
-            forced = λ e there. elim there [ inl same ↦ subst (λ (f : Event). IsForced problem fixings decisions (op_of f)) same is | inr h ↦ later.forced e h ];
-            longest = λ e there. elim there [ inl same ↦ subst (λ (f : Event). IsLongest problem fixings decisions (op_of f) f.time) same time.1 | inr h ↦ later.longest e h ];
-            each = λ p there forced. elim there [
-                | inl same ↦ (own , inl refl , record { train = ap (λ (q : Op). q.train) same; operation = ap (λ (q : Op). q.op) same })
-                | inr h ↦ (let f = later.each p h forced in (f.0 , inr f.1 , f.2))
+            let own : Event = record { time = time.0; train = o.train; operation = o.op } in
+            record {
+              events = own ∷ later.events;
+              among = λ e there. elim there [ inl same ↦ inl (ap op_of same) | inr h ↦ inr (later.among e h) ];
+              forced = λ e there. elim there [ inl same ↦ subst (λ (f : Event). IsForced problem fixings decisions (op_of f)) same is | inr h ↦ later.forced e h ];
+              longest = λ e there. elim there [ inl same ↦ subst (λ (f : Event). IsLongest problem fixings decisions (op_of f) f.time) same time.1 | inr h ↦ later.longest e h ];
+              each = λ p there forced. elim there [
+                | inl same ↦ (own, inl refl, record { train = ap (λ (q : Op). q.train) same; operation = ap (λ (q : Op). q.op) same })
+                | inr h ↦ (let f = later.each p h forced in (f.0, inr f.1, f.2))
               ];
-            once = ((λ f there same. once.0 (subst (λ (p : Op). Among p ops) same (later.among f there))) , later.once);
-          }
+              once = ((λ f there same. once.0 (subst (λ (p : Op). Among p ops) same (later.among f there))), later.once);
+            }
 
 -- ---- all operations stand once
 
 among_train : (t k : ℕ) (o : Op) → Among o (ops_up_to t k) → (o.train ≡ t) × (o.op < k)
 unfolding ops_up_to
 among_train t zero o there = absurd there
-among_train t (suc k) o (inl same) = (sym (ap (λ (p : Op). p.train) same) , (let op : k ≡ o.op = ap (λ (p : Op). p.op) same in omega (arith, op)))
-among_train t (suc k) o (inr there) = let later = among_train t k o there in (later.0 , omega (arith, later.1))
+among_train t (suc k) o (inl same) = (sym (ap (λ (p : Op). p.train) same), (let op : k ≡ o.op = ap (λ (p : Op). p.op) same in omega (arith, op)))
+among_train t (suc k) o (inr there) = let later = among_train t k o there in (later.0, omega (arith, later.1))
 
 train_once : (t k : ℕ) → Once (ops_up_to t k)
 unfolding ops_up_to
 train_once t zero = tt
-train_once t (suc k) = ((λ there. let at = among_train t k (record { train = t; op = k }) there in omega (arith, at.1)) , train_once t k)
+train_once t (suc k) = ((λ there. let at = among_train t k (record { train = t; op = k }) there in omega (arith, at.1)), train_once t k)
 
 among_trains : (problem : Problem) (n : ℕ) (o : Op) → Among o (all_ops_up_to problem n) → o.train < n
 unfolding all_ops_up_to
 among_trains problem zero o there = absurd there
 among_trains problem (suc n) o there = elim (among_cases o (ops_up_to n (length (train_at problem n))) (all_ops_up_to problem n) there) [
-    | inl h ↦ (let at = among_train n (length (train_at problem n)) o h in omega (arith, at.0))
-    | inr h ↦ omega (arith, among_trains problem n o h)
-  ]
+  | inl h ↦ (let at = among_train n (length (train_at problem n)) o h in omega (arith, at.0))
+  | inr h ↦ omega (arith, among_trains problem n o h)
+]
 
 trains_once : (problem : Problem) (n : ℕ) → Once (all_ops_up_to problem n)
 unfolding all_ops_up_to
@@ -473,13 +474,15 @@ pub earliest_exists : (problem : Problem) (fixings : List Fixing) (decisions : L
 earliest_exists problem fixings decisions one no_cycle =
     let all = made problem fixings decisions (all_ops problem) (all_once problem) in
     let each : (o : Op) → IsForced problem fixings decisions o → (f : Event) × In f all.events × Starts o f = λ o is. all.each o (forced_among problem fixings decisions o is) is in
-    let covered : Covered problem fixings decisions [] all.events = λ o is. (let f = each o is in (f.0 , inr f.1 , f.2)) in
-    let sorted = arrange problem fixings decisions no_cycle (length all.events) [] all.events refl covered all.forced all.once in
-    (sorted.plan , record {
+    let covered : Covered problem fixings decisions [] all.events = λ o is. (let f = each o is in (f.0, inr f.1, f.2)) in
+    let sorted = arrange problem fixings decisions no_cycle (length all.events) [] all.events refl covered all.forced all.once in (
+      sorted.plan,
+      record {
         one_route = one;
         no_cycle = no_cycle;
-        each_run = λ o is. (let f = each o is in (f.0 , in_contains f.0 sorted.plan (sorted.there f.0 f.1) , f.2));
-        none_else = λ e there. (let at = sorted.from e (contains_in e sorted.plan there) in (all.forced e at , all.longest e at));
+        each_run = λ o is. (let f = each o is in (f.0, in_contains f.0 sorted.plan (sorted.there f.0 f.1), f.2));
+        none_else = λ e there. (let at = sorted.from e (contains_in e sorted.plan there) in (all.forced e at, all.longest e at));
         none_twice = none_twice sorted.plan sorted.once;
         ordered = sorted.ordered;
-      })
+      },
+    )

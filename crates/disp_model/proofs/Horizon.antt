@@ -1,29 +1,24 @@
 -- Where arcs have no cycle no walk is longer than the horizon: each duration and each release time is taken once.
-use Rattle.std.proofs.Common.{◌≡◌, ℕ, zero, suc, ◌+◌, ◌<◌, ◌≤◌, List, [], ◌∷◌, ◌++◌, length, get_or, take, max, Option, Some, None, Bool, true, false, cond, refl, sym, ap, subst, ◌∙◌, arith, rules, inl, inr}
-use Rattle.std.specs.Prelude.{nat_eq, slice_get, Contains, filter, sum_by, ◌⊎◌}
-use Rattle.std.specs.Option.{option_map_or}
-use Rattle.std.proofs.lemmas.Bool.{cases_lt}
-use Rattle.std.proofs.lemmas.Option.{none-some, same_Some}
-use Rattle.std.proofs.lemmas.List.Sums.{sum_by-cons, sum_by_more}
+use Rattle.std.proofs.Common.{◌≡◌, ℕ, ◌+◌, ◌<◌, ◌≤◌, List, [], ◌∷◌, ◌++◌, length, refl, sym, ap, subst, ◌∙◌, arith, inl, inr}
+use Rattle.std.specs.Prelude.{sum_by, ◌⊎◌}
+use Rattle.std.proofs.lemmas.List.Sums.{sum_by-cons}
 use Rattle.disp_model.specs.declared.train.Op.{Op}
-use Rattle.disp_model.specs.declared.train.Listing.{Listing}
 use Rattle.disp_model.specs.declared.train.Operation.{Operation}
 use Rattle.disp_model.specs.declared.fixing.Fixing.{Fixing}
 use Rattle.disp_model.specs.declared.decision.Decision.{Decision}
-use Rattle.disp_model.specs.declared.decision.Decision.TheVariants.{First}
 use Rattle.disp_model.specs.declared.problem.Problem.{Problem}
 use Rattle.disp_model.specs.Train.{duration_of, GoesOn, IsRoute}
-use Rattle.disp_model.specs.WellFormed.{LeadsTo, IsAcyclic, greatest_release, span_of, horizon}
+use Rattle.disp_model.specs.WellFormed.{LeadsTo, IsAcyclic}
 use Rattle.disp_model.specs.Valid.{train_at}
-use Rattle.disp_model.specs.Routes.{IsAllowed, IsForced}
-use Rattle.disp_model.specs.Arcs.{listings_of, shared_listings, Conflicts, release_of, min_of, Passes, IsTrainArc, IsOrderArc, GoesTo, IsReleaseArc, IsArc, HasArc, IsLongestArc}
+use Rattle.disp_model.specs.Routes.{IsForced}
+use Rattle.disp_model.specs.Arcs.{min_of, IsTrainArc, IsOrderArc, IsReleaseArc, IsArc, HasArc}
 use Rattle.disp_model.specs.Walks.{WalksOn, HasCycle}
 use Rattle.disp_model.proofs.Paths.{IsIn, leads_along, leads_to_later, never_again}
 use Rattle.disp_model.proofs.Branching.{route_from}
 use Rattle.disp_model.proofs.RouteSearch.{each_within}
 use Rattle.disp_model.proofs.LongestArcs.{same_ops}
-use Rattle.disp_model.proofs.LongestWalks.{Among, Once, EachAmong, Cut, cut, each_cut_out, among_all_ops, all_ops_up_to, ops_up_to, all_ops, forced_within}
-use Rattle.disp_model.proofs.Charges.{Before, FromOn, TakesMin, Follows, TakesRelease, min_again, release_again, sum_ops, most_released, release_within, Charge}
+use Rattle.disp_model.proofs.LongestWalks.{Among, Once, forced_within}
+use Rattle.disp_model.proofs.Charges.{FromOn, TakesMin, Follows, TakesRelease, min_again, release_again, sum_ops, most_released, release_within, Charge}
 
 -- ---- what an arc in a train takes
 
@@ -39,8 +34,8 @@ sum_ops_in problem t (x ∷ xs) = rw (sum_by-cons (duration_of (train_at problem
 among_in : (t : ℕ) (xs : List ℕ) (o : Op) → Among o (ops_in t xs) → IsIn o.op xs × (t ≡ o.train)
 unfolding ops_in
 among_in t [] o there = absurd there
-among_in t (x ∷ xs) o (inl same) = (inl (ap (λ (p : Op). p.op) same) , ap (λ (p : Op). p.train) same)
-among_in t (x ∷ xs) o (inr there) = let later = among_in t xs o there in (inr later.0 , later.1)
+among_in t (x ∷ xs) o (inl same) = (inl (ap (λ (p : Op). p.op) same), ap (λ (p : Op). p.train) same)
+among_in t (x ∷ xs) o (inr there) = let later = among_in t xs o there in (inr later.0, later.1)
 
 in_front : (x : ℕ) (xs ys : List ℕ) → IsIn x xs → IsIn x (xs ++ ys)
 in_front x [] ys there = absurd there
@@ -49,10 +44,11 @@ in_front x (y ∷ xs) ys (inr there) = inr (in_front x xs ys there)
 
 route_once : (t : ℕ) (train : List Operation) (p : ℕ) (between rest : List ℕ) → IsAcyclic train → GoesOn train p (between ++ rest) → Once (ops_in t (p ∷ between))
 unfolding ops_in
-route_once t train p [] rest acyclic goes = ((λ there. there) , tt)
-route_once t train p (q ∷ between) rest acyclic goes =
-    ((λ there. let at = among_in t (q ∷ between) (record { train = t; op = p }) there in never_again train p ((q ∷ between) ++ rest) acyclic goes (in_front p (q ∷ between) rest at.0))
-    , route_once t train q between rest acyclic goes.1)
+route_once t train p [] rest acyclic goes = ((λ there. there), tt)
+route_once t train p (q ∷ between) rest acyclic goes = (
+  (λ there. let at = among_in t (q ∷ between) (record { train = t; op = p }) there in never_again train p ((q ∷ between) ++ rest) acyclic goes (in_front p (q ∷ between) rest at.0)),
+  route_once t train q between rest acyclic goes.1,
+)
 
 charge_train : (problem : Problem) (fixings : List Fixing) (decisions : List Decision) (u v : Op) (arc_length : ℕ) → u.train < length problem.trains → IsTrainArc problem fixings decisions u v arc_length → Charge problem fixings decisions u v arc_length
 charge_train problem fixings decisions u v arc_length there arc =
@@ -74,27 +70,27 @@ charge_train problem fixings decisions u v arc_length there arc =
     from_u : (between behind : List ℕ) → GoesOn (train_at problem u.train) u.op (between ++ v.op ∷ behind) → (x : Op) → IsIn x.op (u.op ∷ between) → u.train ≡ x.train → FromOn problem u x
     from_u between behind goes x (inl same) train = inl (same_ops u x train same)
     from_u between behind goes x (inr later) train =
-      let way = leads_along (train_at problem u.train) u.op x.op (between ++ v.op ∷ behind) goes (in_front x.op between (v.op ∷ behind) later) in
-      inr (record { same = train; steps = way.0; way = way.1 })
+        let way = leads_along (train_at problem u.train) u.op x.op (between ++ v.op ∷ behind) goes (in_front x.op between (v.op ∷ behind) later) in
+        inr (record { same = train; steps = way.0; way = way.1 })
 
     takes : (between behind : List ℕ) → GoesOn (train_at problem u.train) u.op (between ++ v.op ∷ behind) → (x : Op) → IsIn x.op (u.op ∷ between) × (u.train ≡ x.train) → TakesMin problem u v x
     takes between behind goes x at =
-      let way = leads_to_later (train_at problem u.train) u.op v.op x.op between behind goes at.0 in
-      let inside = each_within (train_at problem u.train) u.op (between ++ v.op ∷ behind) goes x.op (in_front x.op (u.op ∷ between) (v.op ∷ behind) at.0) in
-      record {
-        from = from_u between behind goes x at.0 at.1;
-        past = inr (record { same = sym at.1 ∙ arc.same_train; steps = way.0; way = subst (λ (t : ℕ). LeadsTo (train_at problem t) way.0 x.op v.op) at.1 way.1 });
-        train = subst (λ (t : ℕ). t < length problem.trains) at.1 there;
-        within = subst (λ (t : ℕ). x.op < length (train_at problem t)) at.1 inside;
-      }
+        let way = leads_to_later (train_at problem u.train) u.op v.op x.op between behind goes at.0 in
+        let inside = each_within (train_at problem u.train) u.op (between ++ v.op ∷ behind) goes x.op (in_front x.op (u.op ∷ between) (v.op ∷ behind) at.0) in
+        record {
+          from = from_u between behind goes x at.0 at.1;
+          past = inr (record { same = sym at.1 ∙ arc.same_train; steps = way.0; way = subst (λ (t : ℕ). LeadsTo (train_at problem t) way.0 x.op v.op) at.1 way.1 });
+          train = subst (λ (t : ℕ). t < length problem.trains) at.1 there;
+          within = subst (λ (t : ℕ). x.op < length (train_at problem t)) at.1 inside;
+        }
 
 charge_order : (problem : Problem) (fixings : List Fixing) (decisions : List Decision) (u v : Op) (arc_length : ℕ) → IsForced problem fixings decisions u → IsOrderArc problem decisions u v arc_length → Charge problem fixings decisions u v arc_length
 charge_order problem fixings decisions u v arc_length forced arc = record {
   mins = u ∷ [];
   releases = u ∷ [];
   enough = omega (arith, arc.length_is, release_within problem u v);
-  mins_once = ((λ there. there) , tt);
-  releases_once = ((λ there. there) , tt);
+  mins_once = ((λ there. there), tt);
+  releases_once = ((λ there. there), tt);
   each_min = λ x among. own x among;
   each_release = λ h among. held h among;
 }
@@ -113,7 +109,7 @@ charge_release problem fixings decisions u v arc_length arc = record {
   releases = arc.holder ∷ [];
   enough = omega (arith, arc.length_is, release_within problem arc.holder v);
   mins_once = tt;
-  releases_once = ((λ there. there) , tt);
+  releases_once = ((λ there. there), tt);
   each_min = λ x none. absurd none;
   each_release = λ h among. held h among;
 }
@@ -124,12 +120,12 @@ charge_release problem fixings decisions u v arc_length arc = record {
 
 charge_of : (problem : Problem) (fixings : List Fixing) (decisions : List Decision) (u v : Op) (arc_length : ℕ) → IsArc problem fixings decisions u v arc_length → Charge problem fixings decisions u v arc_length
 charge_of problem fixings decisions u v arc_length arc = elim arc.kind [
-    | inl train ↦ charge_train problem fixings decisions u v arc_length arc.from_forced.train train
-    | inr rest ↦ elim rest [
-        | inl order ↦ charge_order problem fixings decisions u v arc_length arc.from_forced order
-        | inr release ↦ charge_release problem fixings decisions u v arc_length release
-      ]
+  | inl train ↦ charge_train problem fixings decisions u v arc_length arc.from_forced.train train
+  | inr rest ↦ elim rest [
+    | inl order ↦ charge_order problem fixings decisions u v arc_length arc.from_forced order
+    | inr release ↦ charge_release problem fixings decisions u v arc_length release
   ]
+]
 
 -- ---- what a walk takes
 
@@ -156,16 +152,23 @@ among_cases o (x ∷ xs) ys (inr there) = elim (among_cases o xs ys there) [ inl
 pub once_append : (xs ys : List Op) → Once xs → Once ys → ((o : Op) → Among o xs → Among o ys → ⊥) → Once (xs ++ ys)
 once_append [] ys one other apart = other
 once_append (x ∷ xs) ys one other apart =
-    ((λ there. elim (among_cases x xs ys there) [ inl h ↦ one.0 h | inr h ↦ apart x (inl refl) h ]) , once_append xs ys one.1 other (λ o here there. apart o (inr here) there))
+    ((λ there. elim (among_cases x xs ys there) [ inl h ↦ one.0 h | inr h ↦ apart x (inl refl) h ]), once_append xs ys one.1 other (λ o here there. apart o (inr here) there))
 
 pub walk_charge : (problem : Problem) (fixings : List Fixing) (decisions : List Decision) → (HasCycle problem fixings decisions → ⊥) → (v : Op) (walked : ℕ) (rest : List Op) (total : ℕ) → WalksOn problem fixings decisions v walked rest total → WalkCharge problem fixings decisions v walked rest total
 walk_charge problem fixings decisions no_cycle v walked [] total walk = record {
-  mins = []; releases = []; enough = omega (arith, walk); mins_once = tt; releases_once = tt;
-  mins_inside = λ x none. absurd none; each_min = λ x none. absurd none; releases_forced = λ h none. absurd none; each_release = λ h none. absurd none;
+  mins = [];
+  releases = [];
+  enough = omega (arith, walk);
+  mins_once = tt;
+  releases_once = tt;
+  mins_inside = λ x none. absurd none;
+  each_min = λ x none. absurd none;
+  releases_forced = λ h none. absurd none;
+  each_release = λ h none. absurd none;
 }
 walk_charge problem fixings decisions no_cycle v walked (r ∷ rest) total walk =
     let arc = walk.1.there in
-    let has : HasArc problem fixings decisions v r = (walk.0 , arc) in
+    let has : HasArc problem fixings decisions v r = (walk.0, arc) in
     let first = charge_of problem fixings decisions v r walk.0 arc in
     let later = walk_charge problem fixings decisions no_cycle r (walked + walk.0) rest total walk.2 in
     record {
@@ -176,8 +179,8 @@ walk_charge problem fixings decisions no_cycle v walked (r ∷ rest) total walk 
           (λ x here there. let at = later.each_min x there in no_cycle (min_again problem fixings decisions v r x (walked + walk.0) rest total has (first.each_min x here) walk.2 at.0 at.1 at.2 at.3));
       releases_once = once_append first.releases later.releases first.releases_once later.releases_once
           (λ h here there. let at = later.each_release h there in no_cycle (release_again problem fixings decisions v r h (walked + walk.0) rest total has (first.each_release h here) walk.2 at.0 at.1 at.2 at.3));
-      mins_inside = λ x there. elim (among_cases x first.mins later.mins there) [ inl h ↦ (let takes = first.each_min x h in (takes.train , takes.within)) | inr h ↦ later.mins_inside x h ];
-      each_min = λ x there. elim (among_cases x first.mins later.mins there) [ inl h ↦ (v , inl refl , arc.from_forced , (first.each_min x h).from) | inr h ↦ (let at = later.each_min x h in (at.0 , inr at.1 , at.2 , at.3)) ];
+      mins_inside = λ x there. elim (among_cases x first.mins later.mins there) [ inl h ↦ (let takes = first.each_min x h in (takes.train, takes.within)) | inr h ↦ later.mins_inside x h ];
+      each_min = λ x there. elim (among_cases x first.mins later.mins there) [ inl h ↦ (v, inl refl, arc.from_forced, (first.each_min x h).from) | inr h ↦ (let at = later.each_min x h in (at.0, inr at.1, at.2, at.3)) ];
       releases_forced = λ h there. elim (among_cases h first.releases later.releases there) [ inl g ↦ (first.each_release h g).forced | inr g ↦ later.releases_forced h g ];
-      each_release = λ h there. elim (among_cases h first.releases later.releases there) [ inl g ↦ (v , inl refl , arc.from_forced , (first.each_release h g).at) | inr g ↦ (let at = later.each_release h g in (at.0 , inr at.1 , at.2 , at.3)) ];
+      each_release = λ h there. elim (among_cases h first.releases later.releases there) [ inl g ↦ (v, inl refl, arc.from_forced, (first.each_release h g).at) | inr g ↦ (let at = later.each_release h g in (at.0, inr at.1, at.2, at.3)) ];
     }

@@ -1,10 +1,8 @@
 -- No walk of a node without a cycle is longer than the horizon.
-use Rattle.std.proofs.Common.{◌≡◌, ℕ, zero, suc, ◌+◌, ◌<◌, ◌≤◌, List, [], ◌∷◌, ◌++◌, length, get_or, take, Option, Some, None, Bool, true, false, cond, refl, sym, ap, subst, ◌∙◌, arith, rules, inl, inr}
-use Rattle.std.specs.Prelude.{nat_eq, slice_get, Contains, All, MatchOption, unwrap_or, sum_by, ◌⊎◌, ◌&&◌}
+use Rattle.std.proofs.Common.{◌≡◌, ℕ, zero, suc, ◌+◌, ◌<◌, ◌≤◌, List, [], ◌∷◌, ◌++◌, length, get_or, take, Option, Some, None, Bool, true, false, cond, refl, ap, subst, ◌∙◌, arith, inl, inr}
+use Rattle.std.specs.Prelude.{nat_eq, slice_get, MatchOption, unwrap_or, sum_by, ◌&&◌}
 use Rattle.std.specs.Option.{option_map_or}
-use Rattle.std.proofs.lemmas.Bool.{cases_lt}
 use Rattle.std.proofs.lemmas.Option.{none-some, same_Some, slice_get_within, get_or_from_slice_get}
-use Rattle.std.proofs.lemmas.List.{length-append}
 use Rattle.std.proofs.lemmas.List.Sums.{sum_by_more, sum_by-take-le}
 use Rattle.disp_model.specs.declared.limits.TheConstants.{GREATEST_NUMBER}
 use Rattle.disp_model.specs.declared.train.Op.{Op}
@@ -15,11 +13,10 @@ use Rattle.disp_model.specs.declared.decision.Decision.{Decision}
 use Rattle.disp_model.specs.declared.reply.Reply.TheVariants.{Accepted, Refused}
 use Rattle.disp_model.specs.declared.reply.Refusal.TheVariants.{NoTrain, NoOperation, TooLarge}
 use Rattle.disp_model.specs.declared.problem.Problem.{Problem}
-use Rattle.disp_model.specs.Train.{duration_of}
-use Rattle.disp_model.specs.WellFormed.{HasFitNumbers, greatest_release, span_of, horizon}
+use Rattle.disp_model.specs.WellFormed.{span_of, horizon}
 use Rattle.disp_model.specs.Valid.{train_at}
 use Rattle.disp_model.specs.Routes.{IsForced}
-use Rattle.disp_model.specs.Arcs.{listings_of, min_of}
+use Rattle.disp_model.specs.Arcs.{min_of}
 use Rattle.disp_model.specs.Walks.{fixed_start, lower_of, IsWalk, HasCycle}
 use Rattle.disp_model.specs.Replies.{RepliesToStart, IsReply, IsEdition}
 use Rattle.disp_model.proofs.Tightened.{within_row, at_least}
@@ -31,7 +28,7 @@ use Rattle.disp_model.proofs.Horizon.{walk_charge, sum_append}
 
 each_among : (xs all : List Op) → ((x : Op) → Among x xs → Among x all) → EachAmong xs all
 each_among [] all each = tt
-each_among (x ∷ xs) all each = (each x (inl refl) , each_among xs all (λ y there. each y (inr there)))
+each_among (x ∷ xs) all each = (each x (inl refl), each_among xs all (λ y there. each y (inr there)))
 
 sum_once : (f : Op → ℕ) (xs all : List Op) → Once xs → EachAmong xs all → sum_ops f xs ≤ sum_ops f all
 sum_once f [] all once each = omega arith
@@ -54,7 +51,7 @@ span_at problem o = min_of problem o + most_released problem o
 
 get_within : {X : Type 0} (xs : List X) (k : ℕ) → k < length xs → (x : X) × (slice_get xs k ≡ Some x)
 get_within [] k lt = absurd (omega arith)
-get_within (x ∷ xs) zero lt = (x , refl)
+get_within (x ∷ xs) zero lt = (x, refl)
 get_within (x ∷ xs) (suc k) lt = get_within xs k (omega arith)
 
 span_is : (problem : Problem) (t k : ℕ) (p : Operation) → slice_get (train_at problem t) k ≡ Some p → span_at problem (record { train = t; op = k }) ≡ span_of p
@@ -83,20 +80,20 @@ trains_sum problem (suc n) le =
     let more = sum_by_more (λ train. sum_by span_of train) problem.trains n [] (omega (arith, le)) in
     let suc_is : n + 1 ≡ suc n = omega arith in
     let next : sum_by (λ train. sum_by span_of train) (take (suc n) problem.trains) ≡ sum_by (λ train. sum_by span_of train) (take n problem.trains) + sum_by span_of (get_or problem.trains n []) =
-      subst (λ (m : ℕ). sum_by (λ train. sum_by span_of train) (take m problem.trains) ≡ sum_by (λ train. sum_by span_of train) (take n problem.trains) + sum_by span_of (get_or problem.trains n [])) suc_is more in
+    subst (λ (m : ℕ). sum_by (λ train. sum_by span_of train) (take m problem.trains) ≡ sum_by (λ train. sum_by span_of train) (take n problem.trains) + sum_by span_of (get_or problem.trains n [])) suc_is more in
     omega (arith, next, own, sum_by-take-le span_of train (length train), trains_sum problem n (omega (arith, le)), sum_append (span_at problem) (ops_up_to n (length train)) (all_ops_up_to problem n))
 
 -- ---- lowers are within the greatest number
 
 fixed_found : (fixings : List Fixing) (o : Op) (time : ℕ) → fixed_start fixings o ≡ Some time → (i : ℕ) × (t : ℕ) × (p : ℕ) × (slice_get fixings i ≡ Some (Started t p time))
 fixed_found [] o time at = absurd (none-some time at)
-fixed_found (Chosen t p next ∷ fixings) o time at = let later = fixed_found fixings o time at in (suc later.0 , later.1 , later.2 , later.3)
+fixed_found (Chosen t p next ∷ fixings) o time at = let later = fixed_found fixings o time at in (suc later.0, later.1, later.2, later.3)
 fixed_found (Started t p s ∷ fixings) o time at = here ((nat_eq t o.train) && (nat_eq p o.op)) at (λ h. fixed_found fixings o time h)
   where
     here : (b : Bool) → cond b (Some s) (fixed_start fixings o) ≡ Some time → (fixed_start fixings o ≡ Some time → (i : ℕ) × (t : ℕ) × (p : ℕ) × (slice_get fixings i ≡ Some (Started t p time)))
         → (i : ℕ) × (u : ℕ) × (q : ℕ) × (slice_get (Started t p s ∷ fixings) i ≡ Some (Started u q time))
-    here true at later = (0 , t , p , ap (λ (n : ℕ). Some (Started t p n)) (same_Some s time at))
-    here false at later = let found = later at in (suc found.0 , found.1 , found.2 , found.3)
+    here true at later = (0, t, p, ap (λ (n : ℕ). Some (Started t p n)) (same_Some s time at))
+    here false at later = let found = later at in (suc found.0, found.1, found.2, found.3)
 
 accepted_small : (problem : Problem) (fixings : List Fixing) (t o time n : ℕ) → IsReply problem fixings (Started t o time) (Accepted n) → time ≤ GREATEST_NUMBER
 accepted_small problem fixings t o time n reply = by_train (slice_get problem.trains t) reply
@@ -115,15 +112,15 @@ lower_within problem fixings decisions o edition forced = by_fixed (fixed_start 
     own : (found : Option Operation) → slice_get (train_at problem o.train) o.op ≡ found → option_map_or (λ p. p.lower) found 0 ≤ GREATEST_NUMBER
     own None at = omega arith
     own (Some p) at =
-      let fits = problem.well_formed.numbers o.train [] forced.train o.op p (slice_get_within (train_at problem o.train) o.op p at) in
-      let same : get_or (train_at problem o.train) o.op p ≡ p = get_or_from_slice_get (train_at problem o.train) o.op p p at in
-      subst (λ (q : Operation). q.lower ≤ GREATEST_NUMBER) same fits.lower
+        let fits = problem.well_formed.numbers o.train [] forced.train o.op p (slice_get_within (train_at problem o.train) o.op p at) in
+        let same : get_or (train_at problem o.train) o.op p ≡ p = get_or_from_slice_get (train_at problem o.train) o.op p p at in
+        subst (λ (q : Operation). q.lower ≤ GREATEST_NUMBER) same fits.lower
 
     by_fixed : (fixed : Option ℕ) → fixed_start fixings o ≡ fixed → unwrap_or fixed (option_map_or (λ p. p.lower) (slice_get (train_at problem o.train) o.op) 0) ≤ GREATEST_NUMBER
     by_fixed None at = own (slice_get (train_at problem o.train) o.op) refl
     by_fixed (Some time) at =
-      let found = fixed_found fixings o time at in
-      accepted_small problem (take found.0 fixings) found.1 found.2 time (found.0 + 1) (edition found.0 (Started found.1 found.2 time) found.3)
+        let found = fixed_found fixings o time at in
+        accepted_small problem (take found.0 fixings) found.1 found.2 time (found.0 + 1) (edition found.0 (Started found.1 found.2 time) found.3)
 
 -- ---- the horizon
 

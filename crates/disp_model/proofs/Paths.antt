@@ -72,7 +72,7 @@ leads_along train p o (q ∷ rest) goes (inr h) = let later = leads_along train 
 -- each operation up to v leads to v
 pub leads_to_later : (train : List Operation) (p v x : ℕ) (between behind : List ℕ) → GoesOn train p (between ++ v ∷ behind) → IsIn x (p ∷ between) → (n : ℕ) × LeadsTo train n x v
 leads_to_later train p v x between behind goes (inl same) =
-    let later = leads_along train p v (between ++ v ∷ behind) goes (in_middle v between behind) in (later.0 , subst (λ (y : ℕ). LeadsTo train later.0 y v) same later.1)
+    let later = leads_along train p v (between ++ v ∷ behind) goes (in_middle v between behind) in (later.0, subst (λ (y : ℕ). LeadsTo train later.0 y v) same later.1)
 leads_to_later train p v x [] behind goes (inr there) = absurd there
 leads_to_later train p v x (q ∷ between) behind goes (inr there) = leads_to_later train q v x between behind goes.1 there
 

@@ -190,13 +190,11 @@ pub fn horizon_bounds_walks()
     ensures { (problem : Problem) (fixings : List Fixing) (decisions : List Decision) (walk : List Op) (total : ℕ)
         → IsEdition problem fixings → (HasCycle problem fixings decisions → ⊥) → IsWalk problem fixings decisions walk total
         → total ≤ horizon problem.trains }
-{
-}
+{}
 
 /// Where each train has one allowed route and arcs have no cycle there is a plan of earliest starts.
 pub fn earliest_plans_exist()
     ensures { (problem : Problem) (fixings : List Fixing) (decisions : List Decision)
         → HaveOneRoute problem fixings decisions → (HasCycle problem fixings decisions → ⊥)
         → (plan : List Event) × IsEarliest problem fixings decisions plan }
-{
-}
+{}
