@@ -1,0 +1,29 @@
+-- The command line that the program takes, as clap's own function of simple commands reads it.
+use Rattle.std.specs.Prelude.{ℕ, List, [], ◌∷◌, Some, pos, true, codes}
+use Rattle.clap.specs.Words.{App, Rule, Shape, new_app, new_rule, with_rule, with_subcommand}
+use Rattle.clap.specs.Simple.{on_top}
+use Rattle.clap.specs.declared.builder.value_parser.ValueParser.TheVariants.{Signed}
+
+-- a name that must be given, by its place among the words
+abbrev pub needed : List ℕ → Rule
+needed id = record (new_rule id) { required = true; value_names = 1 }
+
+-- a name that may be given, behind two dashes and its id
+abbrev pub optional : List ℕ → Rule
+optional id = record (new_rule id) { long = Some id; value_names = 1 }
+
+-- `--budget`: a number of 32 bits, a million where it is not given
+abbrev pub budget : Rule
+budget = record (optional (codes "budget")) { defaults = codes "1000000" ∷ []; parser = Some (Signed (pos 0) (pos 4294967295)) }
+
+-- `solve PROBLEM [--budget B] [--plan OUT]`
+abbrev pub solve : App
+solve = with_rule (with_rule (with_rule (new_app (codes "solve")) (needed (codes "problem"))) budget) (optional (codes "plan"))
+
+-- `verify PROBLEM SOLUTION`
+abbrev pub verify : App
+verify = with_rule (with_rule (new_app (codes "verify")) (needed (codes "problem"))) (needed (codes "solution"))
+
+-- one of these commands; the words do not begin with the program's name
+abbrev pub program : App
+program = with_subcommand (with_subcommand (on_top (λ s. record s { no_binary_name = true; subcommand_required = true; disable_help_subcommand = true }) (new_app (codes "dispatch"))) solve.top) verify.top

@@ -1,0 +1,63 @@
+-- What the words behind the program's name ask for.
+use Rattle.std.specs.Prelude.{◌≡◌, ◌⊎◌, ℕ, ◌<◌, ◌^◌, List, [], Option, Some, None, codes, unwrap_or}
+use Rattle.std.specs.Str.Parse.{IsNumeral, digits_value, without_leading_plus}
+use Rattle.clap.specs.Words.{Row, subcommand_of, first_of, one_of, fault_of}
+use Rattle.command_words.specs.Program.{program}
+use Rattle.command_words.specs.declared.read.WordsNo.{WordsNo}
+use Rattle.command_words.specs.declared.read.WordsNo.TheVariants.{Refused, Memory}
+use Rattle.command_words.specs.declared.task.Task.{Task}
+use Rattle.command_words.specs.declared.task.Task.TheVariants.{Solve, Verify}
+
+-- clap finds no fault with the words
+abbrev pub AreTaken : List (List ℕ) → Type 0
+AreTaken words = fault_of program words ≡ []
+
+-- the words name the command, and these are what clap finds for its arguments
+abbrev pub Names : List (List ℕ) → List ℕ → List Row → Type 0
+Names words command rows = subcommand_of program words ≡ Some (command, rows)
+
+-- the text is that of a number of 32 bits
+pub record IsNumber (text : List ℕ) (n : ℕ) : Type 0 where
+  pub numeral : IsNumeral 10 (without_leading_plus text)
+  pub value : digits_value 10 (without_leading_plus text) ≡ n
+  pub small : n < 2 ^ 32
+
+-- the number that a text says, and a million where there is none (there always is one)
+abbrev pub IsBudget : Option (List ℕ) → ℕ → Type 0
+IsBudget None n = n ≡ 1000000
+IsBudget (Some text) n = IsNumber text n ⊎ (((m : ℕ) → IsNumber text m → ⊥) × (n ≡ 1000000))
+
+-- the name that clap finds for an argument that must be given (the empty one where it finds none, which it always does)
+abbrev pub name_in : List ℕ → List Row → List ℕ
+name_in id rows = unwrap_or (first_of id rows) []
+
+-- the values that clap finds for `solve`
+pub record IsSolve (words : List (List ℕ)) (problem : List ℕ) (budget : ℕ) (plan : Option (List ℕ)) : Type 0 where
+  pub taken : AreTaken words
+  pub rows : List Row
+  pub named : Names words (codes "solve") rows
+  pub problem_is : problem ≡ name_in (codes "problem") rows
+  pub budget_is : IsBudget (one_of (codes "budget") rows) budget
+  pub plan_is : plan ≡ first_of (codes "plan") rows
+
+-- the values that clap finds for `verify`
+pub record IsVerify (words : List (List ℕ)) (problem solution : List ℕ) : Type 0 where
+  pub taken : AreTaken words
+  pub rows : List Row
+  pub named : Names words (codes "verify") rows
+  pub problem_is : problem ≡ name_in (codes "problem") rows
+  pub solution_is : solution ≡ name_in (codes "solution") rows
+
+-- the words ask for the task
+abbrev pub IsTask : List (List ℕ) → Task → Type 0
+IsTask words (Solve problem budget plan) = IsSolve words problem budget plan
+IsTask words (Verify problem solution) = IsVerify words problem solution
+
+-- clap finds fault with the words
+abbrev pub AreRefused : List (List ℕ) → Type 0
+AreRefused words = AreTaken words → ⊥
+
+-- words are refused only where clap finds fault with them
+abbrev pub Denies : List (List ℕ) → WordsNo → Type 0
+Denies words (Refused text) = AreRefused words
+Denies words Memory = Unit {0}

@@ -1,0 +1,70 @@
+ghost use Rattle.std.specs.Prelude.{◌≡◌, IfOk, false};
+ghost use Rattle.clap.specs.Words.{app_of, rule_of};
+ghost use Rattle.clap.specs.declared.builder.command.Command.TheViews.{out-Command as fields_of};
+ghost use Rattle.command_words.specs.Program.{needed, optional, budget, solve, verify, program};
+
+use clap::{Arg, Command, value_parser};
+use std::alloc::{AllocError, Global};
+
+/// An argument that must be given, by its place.
+fn needed<'a>(alloc: Global, id: &'a str, shown: &'a str) -> Arg<'a>
+    ensures rule { rule_of result ≡ needed id.entry.now }
+    ensures own { result.global ≡ false }
+{
+    Arg::new(alloc, id).required(true).value_name(shown)
+}
+
+/// An argument that may be given, behind two dashes and its id.
+fn optional<'a>(alloc: Global, id: &'a str, shown: &'a str) -> Arg<'a>
+    ensures rule { rule_of result ≡ optional id.entry.now }
+    ensures own { result.global ≡ false }
+{
+    Arg::new(alloc, id).long(id).value_name(shown)
+}
+
+/// How often the search may branch.
+fn budget<'a>(alloc: Global) -> Arg<'a>
+    ensures rule { rule_of result ≡ budget }
+    ensures own { result.global ≡ false }
+{
+    optional(alloc, "budget", "B")
+        .default_value("1000000")
+        .value_parser(value_parser!(u32))
+        .help("How often the search may branch")
+}
+
+/// `solve`, with its arguments.
+fn solve<'a>(alloc: Global) -> Result<Command<'a>, AllocError>
+    ensures app { IfOk result (λ c. app_of c ≡ solve) }
+    ensures own { IfOk result (λ c. (fields_of c).has_globals ≡ false) }
+{
+    Command::new(alloc, "solve")
+        .about("Finds a plan of least cost")
+        .arg(needed(alloc, "problem", "PROBLEM"))?
+        .arg(budget(alloc))?
+        .arg(optional(alloc, "plan", "OUT"))
+}
+
+/// `verify`, with its arguments.
+fn verify<'a>(alloc: Global) -> Result<Command<'a>, AllocError>
+    ensures app { IfOk result (λ c. app_of c ≡ verify) }
+    ensures own { IfOk result (λ c. (fields_of c).has_globals ≡ false) }
+{
+    Command::new(alloc, "verify")
+        .about("Judges a solution")
+        .arg(needed(alloc, "problem", "PROBLEM"))?
+        .arg(needed(alloc, "solution", "SOLUTION"))
+}
+
+/// The program's command line.
+pub(crate) fn program<'a>(alloc: Global) -> Result<Command<'a>, AllocError>
+    ensures { IfOk result (λ c. app_of c ≡ program) }
+{
+    Command::new(alloc, "dispatch")
+        .about("Dispatches trains")
+        .no_binary_name(true)
+        .subcommand_required(true)
+        .disable_help_subcommand(true)
+        .subcommand(solve(alloc)?)?
+        .subcommand(verify(alloc)?)
+}

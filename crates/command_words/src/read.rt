@@ -1,0 +1,142 @@
+ghost use Rattle.std.specs.Prelude.{◌≡◌, ℕ, List, IfOk, IfErr, map, option_map, string_bytes, codes};
+ghost use Rattle.clap.specs.Words.{found_of, rows_of, subcommand_rows_of, subcommand_of, fault_of, first_of, one_of, HasKind};
+ghost use Rattle.command_words.specs.Program.{program};
+ghost use Rattle.command_words.specs.Task.{IsTask, AreTaken, Names, Denies, IsBudget, name_in};
+
+use crate::program::program;
+use crate::task::Task;
+use clap::error::ErrorKind;
+use clap::{ArgMatches, Error};
+use disp_model::Text;
+use std::alloc::{AllocError, Global};
+
+/// Why the words ask for nothing.
+#[derive(Drop)]
+pub enum WordsNo {
+    /// Words that clap finds fault with, a call for help included, and what it says of them.
+    Refused(Text),
+    /// Memory ran out.
+    Memory,
+}
+
+impl From<AllocError> for WordsNo {
+    ghost use Rattle.std.specs.Prelude.{◌≡◌};
+    ghost use Rattle.command_words.specs.declared.read.WordsNo.TheVariants.{Memory as OutOfMemory};
+
+    ghost from_gives = { λ _ no. no ≡ OutOfMemory };
+
+    fn from(_refused: AllocError) -> WordsNo {
+        WordsNo::Memory
+    }
+}
+
+/// What clap says of words that it finds fault with.
+fn refusal(alloc: Global, error: &Error) -> WordsNo
+    ensures { (words : List (List ℕ)) → HasKind (fault_of program words) error.now → Denies words result }
+{
+    if error.kind() == ErrorKind::OutOfMemory {
+        return WordsNo::Memory;
+    }
+    match format!(in alloc; "{error}") {
+        Ok(text) => WordsNo::Refused(Text::from_string(text)),
+        Err(_) => WordsNo::Memory,
+    }
+}
+
+/// The value that clap finds for an argument, if there is one.
+#[tactic(auto, using(crate::proofs::Rows::first_is))]
+fn value<'a>(found: &ArgMatches<'a>, id: &str) -> Option<&'a str>
+    ensures { option_map (λ text. text.now) result ≡ first_of id.now (rows_of (found_of found.now)) }
+{
+    found.get_str(id)
+}
+
+/// How often the search may branch.
+#[tactic(auto, using(crate::proofs::Rows::one_is))]
+fn budget(found: &ArgMatches) -> u32
+    ensures { IsBudget (one_of (codes "budget") (rows_of (found_of found.now))) result }
+{
+    match found.get_one::<u32>("budget") {
+        Some(number) => number,
+        None => 1_000_000,
+    }
+}
+
+/// A name that must be given.
+fn name(alloc: Global, found: &ArgMatches, id: &str) -> Result<Text, WordsNo>
+    ensures ok { IfOk result (λ name. name ≡ name_in id.now (rows_of (found_of found.now))) }
+    ensures err { IfErr result (λ no. no ≡ WordsNo.Memory) }
+{
+    let text = match value(found, id) {
+        Some(text) => text,
+        None => "",
+    };
+    Ok(Text::from_string(String::from_str(alloc, text)?))
+}
+
+/// A name that may be given.
+fn optional_name(alloc: Global, found: &ArgMatches, id: &str) -> Result<Option<Text>, WordsNo>
+    ensures ok { IfOk result (λ name. name ≡ first_of id.now (rows_of (found_of found.now))) }
+    ensures err { IfErr result (λ no. no ≡ WordsNo.Memory) }
+{
+    match value(found, id) {
+        Some(text) => Ok(Some(Text::from_string(String::from_str(alloc, text)?))),
+        None => Ok(None),
+    }
+}
+
+/// What is asked of `solve`.
+fn solve(alloc: Global, found: &ArgMatches) -> Result<Task, WordsNo>
+    ensures ok { IfOk result (λ task. (words : List (List ℕ)) → AreTaken words → Names words (codes "solve") (rows_of (found_of found.now)) → IsTask words task) }
+    ensures err { IfErr result (λ no. no ≡ WordsNo.Memory) }
+{
+    let problem = name(alloc, found, "problem")?;
+    let plan = optional_name(alloc, found, "plan")?;
+    Ok(Task::Solve {
+        problem,
+        budget: budget(found),
+        plan,
+    })
+}
+
+/// What is asked of `verify`.
+fn verify(alloc: Global, found: &ArgMatches) -> Result<Task, WordsNo>
+    ensures ok { IfOk result (λ task. (words : List (List ℕ)) → AreTaken words → Names words (codes "verify") (rows_of (found_of found.now)) → IsTask words task) }
+    ensures err { IfErr result (λ no. no ≡ WordsNo.Memory) }
+{
+    Ok(Task::Verify {
+        problem: name(alloc, found, "problem")?,
+        solution: name(alloc, found, "solution")?,
+    })
+}
+
+/// What clap's matches ask for.
+fn task(alloc: Global, matches: &ArgMatches) -> Result<Task, WordsNo>
+    ensures ok { IfOk result (λ task. (words : List (List ℕ)) → AreTaken words → subcommand_rows_of matches.now ≡ subcommand_of program words → IsTask words task) }
+    ensures err { IfErr result (λ no. (words : List (List ℕ)) → subcommand_rows_of matches.now ≡ subcommand_of program words → Denies words no) }
+{
+    if let Some(found) = matches.subcommand_matches("solve") {
+        return solve(alloc, found);
+    }
+    if let Some(found) = matches.subcommand_matches("verify") {
+        return verify(alloc, found);
+    }
+    Err(WordsNo::Refused(Text::from_string(String::new(alloc))))
+}
+
+/// Reads the words behind the program's name.
+///
+/// # Errors
+///
+/// `Refused` where clap finds fault with the words, a call for help included, with clap's own text;
+/// `Memory` may come whatever the words are.
+pub fn read_words(alloc: Global, words: &[String]) -> Result<Task, WordsNo>
+    ensures ok { IfOk result (λ task. IsTask (map (λ word. string_bytes word) words.now) task) }
+    ensures refused { IfErr result (Denies (map (λ word. string_bytes word) words.now)) }
+{
+    let command = program(alloc)?;
+    match command.try_get_matches_from(words) {
+        Ok(matches) => task(alloc, &matches),
+        Err(error) => Err(refusal(alloc, &error)),
+    }
+}

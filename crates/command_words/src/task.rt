@@ -1,0 +1,22 @@
+use disp_model::Text;
+
+/// What the words ask for. Names are those of files.
+#[derive(Drop)]
+pub enum Task {
+    /// A plan of least cost for a problem.
+    Solve {
+        /// The name of the problem's file.
+        problem: Text,
+        /// How often the search may branch, at most, for each edition.
+        budget: u32,
+        /// Where the plan is to be put, if anywhere.
+        plan: Option<Text>,
+    },
+    /// Whether a solution is valid for a problem.
+    Verify {
+        /// The name of the problem's file.
+        problem: Text,
+        /// The name of the solution's file.
+        solution: Text,
+    },
+}
