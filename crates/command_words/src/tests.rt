@@ -1,9 +1,9 @@
 // Words are read as clap reads them.
 use crate::{Task, WordsNo, read_words};
+use std::alloc::Global;
 use std::test::Fail;
 
-fn words(rt: &HostRuntime, line: &str) -> Result<Vec<String>, Fail> {
-    let alloc = rt.alloc();
+fn words(alloc: Global, line: &str) -> Result<Vec<String>, Fail> {
     let mut words = Vec::new(alloc);
     for word in line.split(' ') {
         words.push(String::from_str(alloc, word)?)?;
@@ -11,86 +11,89 @@ fn words(rt: &HostRuntime, line: &str) -> Result<Vec<String>, Fail> {
     Ok(words)
 }
 
-fn is_refused(rt: &HostRuntime, line: &str, wanted: &str) -> Result<bool, Fail> {
-    let words = words(rt, line)?;
-    match read_words(rt.alloc(), &words) {
-        Err(WordsNo::Refused(text)) => Ok(text.as_str().contains(wanted)),
-        _ => Ok(false),
-    }
+fn shown(alloc: Global, task: &Task) -> Result<String, Fail> {
+    let text = match task {
+        Task::Solve {
+            problem,
+            budget,
+            plan,
+        } => {
+            let plan = plan.as_ref().map_or("none", |name| name.as_str());
+            format!(in alloc; "solve {} {budget} {plan}", problem.as_str())?
+        }
+        Task::Verify { problem, solution } => {
+            format!(in alloc; "verify {} {}", problem.as_str(), solution.as_str())?
+        }
+    };
+    Ok(text)
+}
+
+fn read(alloc: Global, line: &str) -> Result<String, Fail> {
+    let words = words(alloc, line)?;
+    let read = read_words(alloc, &words);
+    let text = match &read {
+        Ok(task) => shown(alloc, task)?,
+        Err(WordsNo::Refused(text)) => String::from_str(alloc, text.as_str())?,
+        Err(WordsNo::Memory) => String::from_str(alloc, "memory")?,
+    };
+    Ok(text)
+}
+
+fn is_refused(alloc: Global, line: &str, wanted: &str) -> Result<bool, Fail> {
+    let text = read(alloc, line)?;
+    Ok(text.as_str().contains(wanted))
 }
 
 #[test]
-fn solve_has_its_budget_and_plan(rt: HostRuntime) -> Result<(), Fail> {
-    let given = words(&rt, "solve P --budget 7 --plan=OUT")?;
-    match read_words(rt.alloc(), &given) {
-        Ok(
-            Task::Solve {
-                problem,
-                budget,
-                plan,
-            },
-        ) => {
-            assert_eq!(rt; problem.as_str(), "P");
-            assert_eq!(rt; budget, 7);
-            assert_eq!(rt; plan.as_ref().map(|name| name.as_str()), Some("OUT"));
-        }
-        _ => assert!(rt; false),
-    }
+fn words_have_their_values(rt: HostRuntime) -> Result<(), Fail> {
+    let alloc = rt.alloc();
+    assert_eq!(rt;
+        read(alloc, "solve P --budget 7 --plan=OUT")?.as_str(),
+        "solve P 7 OUT"
+    );
+    assert_eq!(rt;
+        read(alloc, "solve --plan OUT P")?.as_str(),
+        "solve P 1000000 OUT"
+    );
+    assert_eq!(rt;
+        read(alloc, "solve P --budget 4294967295")?.as_str(),
+        "solve P 4294967295 none"
+    );
+    assert_eq!(rt;
+        read(alloc, "solve P --budget 0")?.as_str(),
+        "solve P 0 none"
+    );
+    assert_eq!(rt; read(alloc, "verify P S")?.as_str(), "verify P S");
     Ok(())
 }
 
 #[test]
-fn the_budget_is_a_million_where_none_is_given(rt: HostRuntime) -> Result<(), Fail> {
-    let given = words(&rt, "solve P")?;
-    match read_words(rt.alloc(), &given) {
-        Ok(Task::Solve { budget, plan, .. }) => {
-            assert_eq!(rt; budget, 1_000_000);
-            assert!(rt; plan.is_none());
-        }
-        _ => assert!(rt; false),
-    }
-    Ok(())
-}
-
-#[test]
-fn verify_has_two_names(rt: HostRuntime) -> Result<(), Fail> {
-    let given = words(&rt, "verify P S")?;
-    match read_words(rt.alloc(), &given) {
-        Ok(Task::Verify { problem, solution }) => {
-            assert_eq!(rt; problem.as_str(), "P");
-            assert_eq!(rt; solution.as_str(), "S");
-        }
-        _ => assert!(rt; false),
-    }
-    Ok(())
-}
-
-#[test]
-fn words_that_are_not_there_are_refused(rt: HostRuntime) -> Result<(), Fail> {
-    let none = Vec::new(rt.alloc());
-    assert!(rt; matches!(read_words(rt.alloc(), &none), Err(WordsNo::Refused(_))));
-    assert!(rt; is_refused(&rt, "solve", "<PROBLEM>")?);
-    assert!(rt; is_refused(&rt, "solve P Q", "unexpected argument 'Q'")?);
-    assert!(rt; is_refused(&rt, "solve P --budget -1", "unexpected argument '-1'")?);
-    assert!(rt; is_refused(&rt, "solve P --budget x", "invalid value 'x'")?);
+fn other_words_are_refused(rt: HostRuntime) -> Result<(), Fail> {
+    let alloc = rt.alloc();
+    let none = Vec::new(alloc);
+    assert!(rt; read_words(alloc, &none).is_err());
+    assert!(rt; is_refused(alloc, "solve", "<PROBLEM>")?);
+    assert!(rt; is_refused(alloc, "solve P Q", "unexpected argument 'Q'")?);
+    assert!(rt; is_refused(alloc, "solve P --budget -1", "unexpected argument '-1'")?);
+    assert!(rt; is_refused(alloc, "solve P --budget x", "invalid value 'x'")?);
     assert!(rt;
         is_refused(
-            &rt,
+            alloc,
             "solve P --budget 4294967296",
             "4294967296 is not in 0..=4294967295"
         )?
     );
     assert!(rt;
         is_refused(
-            &rt,
+            alloc,
             "solve P --workers 2",
             "unexpected argument '--workers'"
         )?
     );
-    assert!(rt; is_refused(&rt, "--help", "Usage: dispatch <COMMAND>")?);
-    assert!(rt; is_refused(&rt, "help", "'help'")?);
-    assert!(rt; is_refused(&rt, "solve --help", "--budget <B>")?);
-    assert!(rt; is_refused(&rt, "fly P", "'fly'")?);
-    assert!(rt; is_refused(&rt, "verify P", "<SOLUTION>")?);
+    assert!(rt; is_refused(alloc, "--help", "Usage: dispatch <COMMAND>")?);
+    assert!(rt; is_refused(alloc, "help", "'help'")?);
+    assert!(rt; is_refused(alloc, "solve --help", "--budget <B>")?);
+    assert!(rt; is_refused(alloc, "fly P", "'fly'")?);
+    assert!(rt; is_refused(alloc, "verify P", "<SOLUTION>")?);
     Ok(())
 }
