@@ -1,4 +1,4 @@
--- Files in memory, some of whose readings break.
+-- Files in memory, some of whose readings and puttings break.
 use Rattle.std.specs.Prelude.{◌≡◌, ℕ, ◌+◌, ◌⊎◌, List, [], Option, None, Contains}
 use Rattle.std.specs.Option.{option_map, option_map_or}
 use Rattle.std.specs.BTreeMap.{get_by_text}
@@ -25,9 +25,25 @@ NextBreaks shelf name = (held_file shelf name ≡ None) ⊎ Contains (broken_cal
 abbrev pub reading_faults : MemShelf → List ℕ → ℕ
 reading_faults shelf name = fault_count shelf.faults name
 
--- the name was asked for
+-- how often a putting under a name has failed
+abbrev pub putting_faults : MemShelf → List ℕ → ℕ
+putting_faults shelf name = fault_count shelf.put_faults name
+
+-- the name was asked for, or put
 abbrev pub KnowsName : MemShelf → List ℕ → Type 0
-KnowsName shelf name = Knows shelf.faults name
+KnowsName shelf name = Knows shelf.faults name ⊎ Knows shelf.put_faults name
+
+-- the numbers of the puttings that fail
+abbrev pub broken_puts : MemShelf → List ℕ
+broken_puts shelf = shelf.broken_puts.items
+
+-- how many puttings there were, but for those without room
+abbrev pub put_count : MemShelf → ℕ
+put_count shelf = shelf.puts
+
+-- the next putting fails: the list has its number
+abbrev pub NextPutBreaks : MemShelf → Type 0
+NextPutBreaks shelf = Contains (broken_puts shelf) (put_count shelf + 1)
 
 -- the name's file is as it was
 pub record KeepsFile (old new : MemShelf) (name : List ℕ) : Type 0 where

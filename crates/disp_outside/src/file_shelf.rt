@@ -3,7 +3,8 @@ ghost use Rattle.std.specs.Prelude.{◌≡◌, ◌≤◌, None, List, ℕ, lengt
 
 use crate::faults::FaultCounts;
 use crate::reading::read_whole;
-use crate::{FetchNo, Shelf};
+use crate::writing::write_whole;
+use crate::{FetchNo, PutNo, Shelf};
 use std::alloc::Global;
 use std::fs;
 use std::io::ErrorKind;
@@ -14,19 +15,22 @@ use std::rt::Files;
 pub struct FileShelf<R> {
     files: R,
     faults: FaultCounts,
+    put_faults: FaultCounts,
 }
 
 impl<R: Files> FileShelf<R> {
-    ghost use Rattle.disp_outside.specs.FileShelf.{fault_count_of, KnowsName};
+    ghost use Rattle.disp_outside.specs.FileShelf.{fault_count_of, put_fault_count_of, KnowsName};
 
     /// A shelf that knows no name yet.
     pub fn new(alloc: Global, files: R) -> Self
         ensures names { (name : List ℕ) → KnowsName result name → ⊥ }
         ensures faults { (name : List ℕ) → fault_count_of result name ≡ 0 }
+        ensures put_faults { (name : List ℕ) → put_fault_count_of result name ≡ 0 }
     {
         FileShelf {
             files,
             faults: FaultCounts::new(alloc),
+            put_faults: FaultCounts::new(alloc),
         }
     }
 
@@ -35,6 +39,13 @@ impl<R: Files> FileShelf<R> {
         ensures { result ≡ fault_count_of self.now name.now }
     {
         self.faults.count(name)
+    }
+
+    /// How often a putting under the name has failed.
+    pub fn put_faults(&self, name: &str) -> u64
+        ensures { result ≡ put_fault_count_of self.now name.now }
+    {
+        self.put_faults.count(name)
     }
 }
 
@@ -49,14 +60,29 @@ fn read_file<R: Files>(alloc: Global, files: &R, path: &str, limit: u64) -> Resu
     }
 }
 
+// Makes these the bytes of the file of this path. Once the file is opened it has lost what it held, so whatever
+// comes then is a fault.
+fn write_file<R: Files>(files: &R, path: &str, bytes: &[u8]) -> Result<(), PutNo> {
+    match fs::create(files, path) {
+        Ok(mut file) => match write_whole(&mut file, bytes) {
+            Ok(()) => Ok(()),
+            Err(_) => Err(PutNo::Failed),
+        },
+        Err(error) if error.kind() == ErrorKind::OutOfMemory => Err(PutNo::Memory),
+        Err(_) => Err(PutNo::Failed),
+    }
+}
+
 impl<R: Files + Send> Shelf for FileShelf<R> {
-    ghost use Rattle.disp_outside.specs.FileShelf.{fault_count_of, KnowsName};
+    ghost use Rattle.disp_outside.specs.FileShelf.{fault_count_of, put_fault_count_of, KnowsName};
 
     ghost knows = { λ shelf name. KnowsName shelf name };
 
     ghost holds = { λ _ _. None };
 
     ghost reading_faults = { λ shelf name. fault_count_of shelf name };
+
+    ghost putting_faults = { λ shelf name. put_fault_count_of shelf name };
 
     // Room for a fault is made first, so that each fault is counted.
     fn fetch(&mut self, alloc: Global, name: &str, limit: u64) -> Result<Vec<u8>, FetchNo> {
@@ -75,6 +101,21 @@ impl<R: Files + Send> Shelf for FileShelf<R> {
                 Err(FetchNo::TooLong)
             }
             Err(FetchNo::Memory) => Err(FetchNo::Memory),
+        }
+    }
+
+    fn put(&mut self, alloc: Global, name: &str, bytes: &[u8]) -> Result<(), PutNo> {
+        self.put_faults.make_room(alloc, name)?;
+        match write_file(&self.files, name, bytes) {
+            Ok(()) => {
+                self.put_faults.know(name);
+                Ok(())
+            }
+            Err(PutNo::Failed) => {
+                self.put_faults.add(name);
+                Err(PutNo::Failed)
+            }
+            Err(PutNo::Memory) => Err(PutNo::Memory),
         }
     }
 }

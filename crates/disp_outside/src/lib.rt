@@ -27,7 +27,7 @@ pub use file_shelf::FileShelf;
 pub use gate::{Gate, OpenGate, Point};
 pub use mem_shelf::MemShelf;
 pub use mem_sink::MemSink;
-pub use shelf::{FetchNo, Shelf};
+pub use shelf::{FetchNo, PutNo, Shelf};
 pub use sink::{Sink, WriteNo};
 pub use standard_output::StandardOutput;
 pub use steady_shelf::SteadyShelf;

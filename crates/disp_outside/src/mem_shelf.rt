@@ -1,35 +1,45 @@
-// Files in memory, some of whose readings break.
-ghost use Rattle.std.specs.Prelude.{◌≡◌, ◌≢◌, ◌≤◌, ◌<◌, ◌↔◌, ◌⊎◌, Some, None, [], List, ℕ, length, OnOk, OnErr, IfOk, IfSome, OnSome, IsSomeAnd, IsErrOf};
+// Files in memory, some of whose readings and puttings break.
+ghost use Rattle.std.specs.Prelude.{◌≡◌, ◌≢◌, ◌≤◌, ◌<◌, ◌↔◌, ◌⊎◌, ◌+◌, Some, None, [], List, ℕ, length, IsOk, OnOk, OnErr, IfOk, IfSome, OnSome, IsSomeAnd, IsErrOf};
 ghost use Rattle.std.specs.Option.{option_map};
 ghost use Rattle.disp_outside.specs.MemFile.{IsCounted};
 
 use crate::faults::FaultCounts;
 use crate::mem_file::MemFile;
-use crate::{FetchNo, Shelf};
+use crate::{FetchNo, PutNo, Shelf};
 use std::alloc::{AllocError, Global};
 use std::collections::BTreeMap;
 
-/// Files in memory, which it tells. A reading fails where there is no such file, and in the calls that it is told to.
+/// Files in memory, which it tells. A reading fails where there is no such file, and in the calls that it is told to;
+/// a putting fails in the calls that it is told to, and then the name's file stays.
 #[derive(Drop)]
 pub struct MemShelf {
     alloc: Global,
     files: BTreeMap<String, MemFile>,
     faults: FaultCounts,
+    put_faults: FaultCounts,
+    broken_puts: Vec<u64>,
+    puts: u64,
 }
 
 impl MemShelf {
-    ghost use Rattle.disp_outside.specs.MemShelf.{held_file, broken_calls, call_count, reading_faults, KnowsName, KeepsFile};
+    ghost use Rattle.disp_outside.specs.MemShelf.{held_file, broken_calls, call_count, broken_puts, put_count, reading_faults, putting_faults, KnowsName, KeepsFile};
 
     /// A shelf of no files.
     pub fn new(alloc: Global) -> Self
         ensures files { (name : List ℕ) → held_file result name ≡ None }
         ensures faults { (name : List ℕ) → reading_faults result name ≡ 0 }
+        ensures put_faults { (name : List ℕ) → putting_faults result name ≡ 0 }
+        ensures broken_puts { broken_puts result ≡ [] }
+        ensures puts { put_count result ≡ 0 }
         ensures names { (name : List ℕ) → ¬ KnowsName result name }
     {
         MemShelf {
             alloc,
             files: BTreeMap::new(alloc),
             faults: FaultCounts::new(alloc),
+            put_faults: FaultCounts::new(alloc),
+            broken_puts: Vec::new(alloc),
+            puts: 0,
         }
     }
 
@@ -42,7 +52,22 @@ impl MemShelf {
         ensures others { (other : List ℕ) → other ≢ name.now → KeepsFile self.old self.new other }
         ensures err { OnErr result ((other : List ℕ) → KeepsFile self.old self.new other) }
         ensures faults { (other : List ℕ) → reading_faults self.new other ≡ reading_faults self.old other }
+        ensures put_faults { (other : List ℕ) → putting_faults self.new other ≡ putting_faults self.old other }
         ensures names { (other : List ℕ) → KnowsName self.new other ↔ KnowsName self.old other }
+        ensures puts { (broken_puts self.new ≡ broken_puts self.old) × (put_count self.new ≡ put_count self.old) }
+    {
+        self.set_file(name, bytes, broken)
+    }
+
+    // Changes the files alone.
+    #[tactic(auto, using(std::proofs::lemmas::Map::Text::text_keys))]
+    fn set_file(&mut self, name: &str, bytes: &[u8], broken: &[u64]) -> Result<(), AllocError>
+        ensures file { OnOk result (held_file self.new name.now ≡ Some bytes.now) }
+        ensures broken { OnOk result (broken_calls self.new name.now ≡ broken.now) }
+        ensures calls { OnOk result (call_count self.new name.now ≡ 0) }
+        ensures others { (other : List ℕ) → other ≢ name.now → KeepsFile self.old self.new other }
+        ensures err { OnErr result ((other : List ℕ) → KeepsFile self.old self.new other) }
+        ensures rest { self.new ≡ record self.old { files = self.new.files } }
     {
         let key = String::from_str(self.alloc, name)?;
         let file = MemFile {
@@ -52,6 +77,26 @@ impl MemShelf {
         };
         self.files.insert(key, file)?;
         Ok(())
+    }
+
+    /// Makes the puttings of these numbers fail, counted from 1 over all names.
+    pub fn break_puts(&mut self, calls: &[u64]) -> Result<(), AllocError>
+        ensures calls { OnOk result (broken_puts self.new ≡ calls.now) }
+        ensures puts { put_count self.new ≡ put_count self.old }
+        ensures files { (name : List ℕ) → KeepsFile self.old self.new name }
+        ensures faults { (name : List ℕ) → reading_faults self.new name ≡ reading_faults self.old name }
+        ensures put_faults { (name : List ℕ) → putting_faults self.new name ≡ putting_faults self.old name }
+        ensures names { (name : List ℕ) → KnowsName self.new name ↔ KnowsName self.old name }
+    {
+        self.broken_puts = calls.to_vec(self.alloc)?;
+        Ok(())
+    }
+
+    /// How often a putting under the name has failed.
+    pub fn put_faults(&self, name: &str) -> u64
+        ensures { result ≡ putting_faults self.now name.now }
+    {
+        self.put_faults.count(name)
     }
 
     /// The bytes of the name's file, if there is one.
@@ -70,13 +115,15 @@ impl MemShelf {
 }
 
 impl Shelf for MemShelf {
-    ghost use Rattle.disp_outside.specs.MemShelf.{held_file, broken_calls, call_count, reading_faults, KnowsName, NextBreaks, KeepsFile};
+    ghost use Rattle.disp_outside.specs.MemShelf.{held_file, broken_calls, call_count, broken_puts, put_count, reading_faults, putting_faults, KnowsName, NextBreaks, NextPutBreaks, KeepsFile};
 
     ghost knows = { λ shelf name. KnowsName shelf name };
 
     ghost holds = { λ shelf name. Some (held_file shelf name) };
 
     ghost reading_faults = { λ shelf name. reading_faults shelf name };
+
+    ghost putting_faults = { λ shelf name. putting_faults shelf name };
 
     #[tactic(auto, using(std::proofs::lemmas::Map::Text::text_keys))]
     fn fetch(&mut self, alloc: Global, name: &str, limit: u64) -> Result<Vec<u8>, FetchNo>
@@ -87,6 +134,7 @@ impl Shelf for MemShelf {
         ensures failed { IsErrOf result FetchNo.Failed ↔ (reading_faults self.old name.now < reading_faults self.new name.now) }
         ensures counted { reading_faults self.old name.now ≤ reading_faults self.new name.now }
         ensures other_counts { (other : List ℕ) → other ≢ name.now → reading_faults self.new other ≡ reading_faults self.old other }
+        ensures putting_counts { (other : List ℕ) → putting_faults self.new other ≡ putting_faults self.old other }
         ensures held { (other : List ℕ) → Some (held_file self.new other) ≡ Some (held_file self.old other) }
         ensures known { IsErrOf result FetchNo.Memory ⊎ KnowsName self.new name.now }
         ensures still_known { (other : List ℕ) → KnowsName self.old other → KnowsName self.new other }
@@ -119,5 +167,41 @@ impl Shelf for MemShelf {
             }
             Err(FetchNo::Memory) => Err(FetchNo::Memory),
         }
+    }
+
+    #[tactic(auto, using(std::proofs::lemmas::Map::Text::text_keys))]
+    fn put(&mut self, alloc: Global, name: &str, bytes: &[u8]) -> Result<(), PutNo>
+        ensures bytes { IsOk result → IfSome (Some (held_file self.new name.now)) (λ file. file ≡ Some bytes.now) }
+        ensures failed { IsErrOf result PutNo.Failed ↔ (putting_faults self.old name.now < putting_faults self.new name.now) }
+        ensures counted { putting_faults self.old name.now ≤ putting_faults self.new name.now }
+        ensures other_counts { (other : List ℕ) → other ≢ name.now → putting_faults self.new other ≡ putting_faults self.old other }
+        ensures reading_counts { (other : List ℕ) → reading_faults self.new other ≡ reading_faults self.old other }
+        ensures held { (other : List ℕ) → other ≢ name.now → Some (held_file self.new other) ≡ Some (held_file self.old other) }
+        ensures known { IsErrOf result PutNo.Memory ⊎ KnowsName self.new name.now }
+        ensures still_known { (other : List ℕ) → KnowsName self.old other → KnowsName self.new other }
+        ensures memory { IsErrOf result PutNo.Memory → (other : List ℕ) → KnowsName self.new other → KnowsName self.old other }
+        ensures memory_held { IsErrOf result PutNo.Memory → Some (held_file self.new name.now) ≡ Some (held_file self.old name.now) }
+
+        // It fails exactly in the calls of the list, and then the file stays.
+        ensures breaks { IsErrOf result PutNo.Failed → NextPutBreaks self.old }
+        ensures broken { NextPutBreaks self.old → IsErrOf result PutNo.Failed ⊎ IsErrOf result PutNo.Memory }
+        ensures stays { IsErrOf result PutNo.Failed → held_file self.new name.now ≡ held_file self.old name.now }
+        ensures calls { (IsErrOf result PutNo.Memory → put_count self.new ≡ put_count self.old) × (IsErrOf result PutNo.Memory ⊎ (put_count self.new ≡ put_count self.old + 1)) }
+        ensures list { broken_puts self.new ≡ broken_puts self.old }
+        ensures others { (other : List ℕ) → other ≢ name.now → KeepsFile self.old self.new other }
+    {
+        let Some(call) = self.puts.checked_add(1) else {
+            return Err(PutNo::Memory);
+        };
+        self.put_faults.make_room(alloc, name)?;
+        if self.broken_puts.contains(&call) {
+            self.puts = call;
+            self.put_faults.add(name);
+            return Err(PutNo::Failed);
+        }
+        self.set_file(name, bytes, &[])?;
+        self.puts = call;
+        self.put_faults.know(name);
+        Ok(())
     }
 }

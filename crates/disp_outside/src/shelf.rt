@@ -1,6 +1,7 @@
 // Files by name, as the program sees them.
-ghost use Rattle.std.specs.Prelude.{◌≡◌, ◌≢◌, ◌<◌, ◌≤◌, ◌↔◌, List, ℕ, length, Option, Some, IfOk, IfSome, IsErrOf, IsSomeAnd, ◌⊎◌};
+ghost use Rattle.std.specs.Prelude.{◌≡◌, ◌≢◌, ◌<◌, ◌≤◌, ◌↔◌, List, ℕ, length, Option, Some, IfOk, IfSome, IsOk, IsErrOf, IsSomeAnd, ◌⊎◌};
 ghost use Rattle.disp_outside.specs.declared.shelf.FetchNo.TheVariants.{Memory};
+ghost use Rattle.disp_outside.specs.declared.shelf.PutNo.TheVariants.{Memory as PutMemory};
 
 use std::alloc::{AllocError, Global};
 
@@ -23,6 +24,23 @@ impl From<AllocError> for FetchNo {
     }
 }
 
+/// Why a file was not put.
+#[derive(Clone, Copy, Debug, PartialEq, Eq)]
+pub enum PutNo {
+    /// The file could not be written.
+    Failed,
+    /// There was no room.
+    Memory,
+}
+
+impl From<AllocError> for PutNo {
+    ghost from_gives = { λ _ no. no ≡ PutMemory };
+
+    fn from(_: AllocError) -> Self {
+        PutNo::Memory
+    }
+}
+
 /// Files by name.
 ///
 /// A name is its bytes. A shelf may tell what a name holds, and then an answer is about those bytes.
@@ -35,6 +53,9 @@ pub trait Shelf: Send {
 
     /// How often a reading of a name has failed.
     ghost reading_faults: { Self → List ℕ → ℕ };
+
+    /// How often a putting under a name has failed.
+    ghost putting_faults: { Self → List ℕ → ℕ };
 
     /// The bytes of a file of at most `limit` bytes.
     ///
@@ -52,9 +73,31 @@ pub trait Shelf: Send {
         ensures failed { IsErrOf result FetchNo.Failed ↔ (reading_faults self.old name.now < reading_faults self.new name.now) }
         ensures counted { reading_faults self.old name.now ≤ reading_faults self.new name.now }
         ensures other_counts { (other : List ℕ) → other ≢ name.now → reading_faults self.new other ≡ reading_faults self.old other }
+        ensures putting_counts { (other : List ℕ) → putting_faults self.new other ≡ putting_faults self.old other }
 
         ensures held { (other : List ℕ) → holds self.new other ≡ holds self.old other }
         ensures known { IsErrOf result FetchNo.Memory ⊎ knows self.new name.now }
         ensures still_known { (other : List ℕ) → knows self.old other → knows self.new other }
         ensures memory { IsErrOf result FetchNo.Memory → (other : List ℕ) → knows self.new other → knows self.old other };
+
+    /// Makes these the bytes of the name's file.
+    ///
+    /// # Errors
+    ///
+    /// `Failed` where the file could not be written, and then the name may hold anything; `Memory`, with which all is
+    /// as before.
+    fn put(&mut self, alloc: Global, name: &str, bytes: &[u8]) -> Result<(), PutNo>
+        ensures bytes { IsOk result → IfSome (holds self.new name.now) (λ file. file ≡ Some bytes.now) }
+
+        // A fault is told exactly where it is counted, and no other count changes.
+        ensures failed { IsErrOf result PutNo.Failed ↔ (putting_faults self.old name.now < putting_faults self.new name.now) }
+        ensures counted { putting_faults self.old name.now ≤ putting_faults self.new name.now }
+        ensures other_counts { (other : List ℕ) → other ≢ name.now → putting_faults self.new other ≡ putting_faults self.old other }
+        ensures reading_counts { (other : List ℕ) → reading_faults self.new other ≡ reading_faults self.old other }
+
+        ensures held { (other : List ℕ) → other ≢ name.now → holds self.new other ≡ holds self.old other }
+        ensures known { IsErrOf result PutNo.Memory ⊎ knows self.new name.now }
+        ensures still_known { (other : List ℕ) → knows self.old other → knows self.new other }
+        ensures memory { IsErrOf result PutNo.Memory → (other : List ℕ) → knows self.new other → knows self.old other }
+        ensures memory_held { IsErrOf result PutNo.Memory → holds self.new name.now ≡ holds self.old name.now };
 }

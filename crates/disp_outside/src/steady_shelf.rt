@@ -1,13 +1,13 @@
-// Files in memory whose readings never fail.
+// Files in memory whose readings and puttings never fail.
 ghost use Rattle.std.specs.Prelude.{◌≡◌, ◌≢◌, Some, [], List, ℕ, OnOk, OnErr};
 
 use crate::copying::copy_within;
-use crate::{FetchNo, Shelf};
+use crate::{FetchNo, PutNo, Shelf};
 use std::alloc::{AllocError, Global};
 use std::collections::BTreeMap;
 
-/// Files in memory, which it tells. Each name holds a file, an empty one at first, and no reading fails, but for want
-/// of memory.
+/// Files in memory, which it tells. Each name holds a file, an empty one at first, and nothing fails, but for want of
+/// memory.
 #[derive(Drop)]
 pub struct SteadyShelf {
     alloc: Global,
@@ -60,7 +60,14 @@ impl Shelf for SteadyShelf {
 
     ghost reading_faults = { λ _ _. 0 };
 
+    ghost putting_faults = { λ _ _. 0 };
+
     fn fetch(&mut self, alloc: Global, name: &str, limit: u64) -> Result<Vec<u8>, FetchNo> {
         copy_within(alloc, self.file(name), limit)
+    }
+
+    fn put(&mut self, _alloc: Global, name: &str, bytes: &[u8]) -> Result<(), PutNo> {
+        self.place(name, bytes)?;
+        Ok(())
     }
 }

@@ -1,5 +1,5 @@
 // Files of the system and in memory.
-use crate::{FetchNo, FileShelf, Shelf};
+use crate::{FetchNo, FileShelf, MemShelf, PutNo, Shelf};
 use std::alloc::Global;
 use std::test::Fail;
 use std::{env, fs, process};
@@ -52,5 +52,42 @@ fn a_large_file_is_read_whole(rt: HostRuntime) -> Result<(), Fail> {
     fs::remove_file(&rt, name)?;
     assert!(rt; whole.is_ok_and(|got| got == bytes));
     assert_eq!(rt; cut.err(), Some(FetchNo::TooLong));
+    Ok(())
+}
+
+#[test]
+fn a_file_that_is_put_is_read_back(rt: HostRuntime) -> Result<(), Fail> {
+    let alloc = rt.alloc();
+    let path = path_of(&rt, "put")?;
+    let name = path.as_str();
+    fs::write(&rt, name, "longer than what is put")?;
+    let missing = path_of(&rt, "no/such/folder")?;
+    let mut shelf = FileShelf::new(alloc, &rt);
+    let put = shelf.put(alloc, name, b"plan\n");
+    let read = shelf.fetch(alloc, name, 100);
+    let lost = shelf.put(alloc, missing.as_str(), b"plan\n");
+    fs::remove_file(&rt, name)?;
+    assert_eq!(rt; put, Ok(()));
+    assert!(rt; read.is_ok_and(|got| got.as_slice() == b"plan\n".as_slice()));
+    assert_eq!(rt; lost, Err(PutNo::Failed));
+    assert_eq!(rt;
+        (shelf.put_faults(name), shelf.put_faults(missing.as_str())),
+        (0, 1)
+    );
+    Ok(())
+}
+
+#[test]
+fn a_putting_in_memory_breaks_where_it_is_told_to(rt: HostRuntime) -> Result<(), Fail> {
+    let alloc = rt.alloc();
+    let mut shelf = MemShelf::new(alloc);
+    shelf.break_puts(&[2])?;
+    assert_eq!(rt; shelf.put(alloc, "a", b"one"), Ok(()));
+    assert_eq!(rt; shelf.put(alloc, "a", b"two"), Err(PutNo::Failed));
+    assert_eq!(rt; shelf.put(alloc, "b", b"three"), Ok(()));
+    assert_eq!(rt; shelf.file("a"), Some(b"one".as_slice()));
+    assert_eq!(rt; shelf.file("b"), Some(b"three".as_slice()));
+    assert_eq!(rt; (shelf.put_faults("a"), shelf.put_faults("b")), (1, 0));
+    assert_eq!(rt; shelf.faults("a"), 0);
     Ok(())
 }

@@ -1,7 +1,7 @@
 ghost use Rattle.std.specs.Prelude.{◌≡◌, ◌++◌, OnOk, IfOk, string_bytes};
 ghost use Rattle.std.specs.List.{flat_map};
 ghost use Rattle.std.specs.Fmt.{decimal};
-ghost use Rattle.dispatch_cli.specs.Texts.{Adds, event_text, next_event_text, events_text, solution_text};
+ghost use Rattle.solution_text.specs.Texts.{Adds, event_text, next_event_text, events_text, solution_text};
 
 use disp_model::{Event, Memory};
 use std::alloc::Global;
@@ -68,7 +68,7 @@ fn push_events(text: &mut String, plan: &[Event]) -> Result<(), Memory>
 }
 
 /// The text of a solution: its events in order, and its cost.
-pub(crate) fn write_solution(alloc: Global, plan: &[Event], cost: u64) -> Result<String, Memory>
+fn solution(alloc: Global, plan: &[Event], cost: u64) -> Result<String, Memory>
     ensures text { IfOk result (λ text. string_bytes text ≡ solution_text plan.now cost) }
 {
     let mut text = String::from_str(alloc, "{\"events\":[")?;
@@ -77,4 +77,13 @@ pub(crate) fn write_solution(alloc: Global, plan: &[Event], cost: u64) -> Result
     push_number(&mut text, cost)?;
     push_text(&mut text, "}")?;
     Ok(text)
+}
+
+/// The text of a solution in JSON, compact and with keys in order: the events in list order, and
+/// the cost as the objective value.
+pub fn write_solution(alloc: Global, plan: &[Event], cost: u64) -> Result<Vec<u8>, Memory>
+    ensures text { IfOk result (λ text. text.items ≡ solution_text plan.now cost) }
+{
+    let text = solution(alloc, plan, cost)?;
+    Ok(text.into_bytes())
 }

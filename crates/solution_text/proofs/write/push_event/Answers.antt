@@ -1,5 +1,5 @@
-use Rattle.dispatch_cli.proofs.Joined.{joined}
-use Rattle.dispatch_cli.proofs.solution.push_event.Goals as goal
+use Rattle.solution_text.proofs.Joined.{joined}
+use Rattle.solution_text.proofs.write.push_event.Goals as goal
 
 pub returns : goal.returns
 returns c = record {

@@ -4,7 +4,7 @@ use Rattle.std.specs.Prelude.{codes}
 use Rattle.std.specs.List.{flat_map}
 use Rattle.std.proofs.lemmas.List.{flat_map_more, take_more}
 use Rattle.disp_model.specs.declared.plan.Event.{Event}
-use Rattle.dispatch_cli.specs.Texts.{Adds, event_text, next_event_text}
+use Rattle.solution_text.specs.Texts.{Adds, event_text, next_event_text}
 
 -- one more text behind those that were added
 pub joined : {before text more added piece : List ℕ} → Adds before text added → Adds text more piece → Adds before more (added ++ piece)
