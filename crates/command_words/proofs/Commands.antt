@@ -1,16 +1,16 @@
 -- Words that are taken name one of the commands.
 use Rattle.std.proofs.Common.{◌≡◌, ◌⊎◌, ℕ, Bool, true, false, cond, subst, List, [], ◌∷◌, Option, Some, None, refl, inl, inr, codes, option_map, is_some}
-use Rattle.std.specs.Prelude.{find, not, ◌&&◌}
+use Rattle.std.specs.Prelude.{not, ◌&&◌}
 use Rattle.std.specs.List.{list_any}
 use Rattle.clap.specs.Kinds.{Kinds, or_else, check_kinds}
 use Rattle.clap.specs.Facts.{explicit_source}
 use Rattle.clap.specs.Takes.{is_given}
 use Rattle.clap.specs.Faults.{level_fault, check_fault, walk_fault, settle_fault, defaults_fault, entered_fault}
-use Rattle.clap.specs.Walk.{Held, Names as Commands, Row, Text, answers_to, finished, nothing_held, settled, stop_after, walk, walk_from}
-use Rattle.clap.specs.Simple.{Shape, built, entered, label_of, rows_at, argument_words, names_of}
-use Rattle.clap.specs.Words.{subcommand_of, fault_of}
+use Rattle.clap.specs.Walk.{Held, Names as Commands, Row, Text, finished, nothing_held, settled, stop_after, walk, walk_from}
+use Rattle.clap.specs.Simple.{Shape, built, entered, rows_at, argument_words, names_of}
+use Rattle.clap.specs.Words.{subcommand_of}
 use Rattle.command_words.specs.Program.{program}
-use Rattle.command_words.specs.Task.{AreTaken, Names}
+use Rattle.command_words.specs.Task.{AreTaken}
 
 last_empty : (a b c d e : Kinds) → or_else a (or_else b (or_else c (or_else d e))) ≡ [] → e ≡ []
 last_empty [] [] [] [] e h = h

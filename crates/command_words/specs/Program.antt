@@ -1,6 +1,6 @@
 -- The command line that the program takes, as clap's own function of simple commands reads it.
 use Rattle.std.specs.Prelude.{ℕ, List, [], ◌∷◌, Some, pos, true, codes}
-use Rattle.clap.specs.Words.{App, Rule, Shape, new_app, new_rule, with_rule, with_subcommand}
+use Rattle.clap.specs.Words.{App, Rule, new_app, new_rule, with_rule, with_subcommand}
 use Rattle.clap.specs.Simple.{on_top}
 use Rattle.clap.specs.declared.builder.value_parser.ValueParser.TheVariants.{Signed}
 

@@ -1,31 +1,28 @@
 -- Lines that go out one after another, and some of a line at the end.
-use Rattle.std.proofs.Common.{◌≡◌, ℕ, zero, suc, ◌+◌, ◌<◌, ◌≤◌, List, [], ◌∷◌, ◌++◌, length, get_or, take, map, Option, Some, None, String, Global, string_bytes, refl, sym, ap, ◌∙◌, append_assoc, append-nil, arith, length-append}
+use Rattle.std.proofs.Common.{◌≡◌, ℕ, zero, suc, ◌+◌, ◌<◌, ◌≤◌, List, [], ◌∷◌, ◌++◌, length, get_or, take, map, Option, Some, None, refl, sym, ap, ◌∙◌, append_assoc, append-nil, arith, length-append}
 use Rattle.std.specs.List.{concat}
 use Rattle.std.specs.Io.KnownBytes.{append_known}
 use Rattle.std.proofs.Math.Seq.{take-append-add, take-length}
 use Rattle.disp_outside.specs.Sink.{WritesPart}
 use Rattle.disp_outside.specs.declared.sink.WriteNo.{WriteNo}
 use Rattle.disp_outside.specs.declared.sink.WriteNo.TheVariants.{Failed, Memory}
-use Rattle.dispatch_cli.specs.Outcome.{Writes}
-
-abbrev pub text_of : List (String Global) → List ℕ
-text_of lines = concat (map (λ line. string_bytes line) lines)
+use Rattle.dispatch_cli.specs.Outside.{Writes}
 
 -- the text of one more line
-pub text_more : (lines : List (String Global)) (i : ℕ) (d : String Global) → i < length lines → text_of (take (i + 1) lines) ≡ text_of (take i lines) ++ string_bytes (get_or lines i d)
+pub text_more : (lines : List (List ℕ)) (i : ℕ) (d : List ℕ) → i < length lines → concat (take (i + 1) lines) ≡ concat (take i lines) ++ get_or lines i d
 text_more [] i d within = absurd (omega arith)
-text_more (line ∷ lines) zero d within = append-nil (string_bytes line)
+text_more (line ∷ lines) zero d within = append-nil (line)
 text_more (line ∷ lines) (suc i) d within =
     let more : suc i + 1 ≡ suc (i + 1) = omega arith in
-    rw more (ap (λ (t : List ℕ). string_bytes line ++ t) (text_more lines i d (omega arith)) ∙ sym (append_assoc (string_bytes line) (text_of (take i lines)) (string_bytes (get_or lines i d))))
+    rw more (ap (λ (t : List ℕ). line ++ t) (text_more lines i d (omega arith)) ∙ sym (append_assoc (line) (concat (take i lines)) (get_or lines i d)))
 
 -- the text of all lines begins with those so far and the next one
-pub text_around : (lines : List (String Global)) (i : ℕ) (d : String Global) → i < length lines → (rest : List ℕ) × (text_of lines ≡ text_of (take i lines) ++ (string_bytes (get_or lines i d) ++ rest))
+pub text_around : (lines : List (List ℕ)) (i : ℕ) (d : List ℕ) → i < length lines → (rest : List ℕ) × (concat lines ≡ concat (take i lines) ++ (get_or lines i d ++ rest))
 text_around [] i d within = absurd (omega arith)
-text_around (line ∷ lines) zero d within = (text_of lines, refl)
+text_around (line ∷ lines) zero d within = (concat lines, refl)
 text_around (line ∷ lines) (suc i) d within =
     let later = text_around lines i d (omega arith) in
-    (later.0, ap (λ (t : List ℕ). string_bytes line ++ t) later.1 ∙ sym (append_assoc (string_bytes line) (text_of (take i lines)) (string_bytes (get_or lines i d) ++ later.0)))
+    (later.0, ap (λ (t : List ℕ). line ++ t) later.1 ∙ sym (append_assoc (line) (concat (take i lines)) (get_or lines i d ++ later.0)))
 
 append_twice : (known : Option (List ℕ)) (a b : List ℕ) → append_known (append_known known a) b ≡ append_known known (a ++ b)
 append_twice None a b = refl
@@ -70,12 +67,12 @@ pub part_of_write : (refused : WriteNo) (text new : Option (List ℕ)) (piece : 
 part_of_write Failed text new piece part memory = part refl
 part_of_write Memory text new piece part memory = no_part text new piece (memory refl)
 
-pub part_of_lines : (refused : WriteNo) (old text new : Option (List ℕ)) (lines : List (String Global)) (i : ℕ) (d : String Global) → i < length lines → Writes old text (text_of (take i lines))
-    → (refused ≡ Failed → WritesPart text new (string_bytes (get_or lines i d))) → (refused ≡ Memory → new ≡ text) → WritesPart old new (text_of lines)
+pub part_of_lines : (refused : WriteNo) (old text new : Option (List ℕ)) (lines : List (List ℕ)) (i : ℕ) (d : List ℕ) → i < length lines → Writes old text (concat (take i lines))
+    → (refused ≡ Failed → WritesPart text new (get_or lines i d)) → (refused ≡ Memory → new ≡ text) → WritesPart old new (concat lines)
 part_of_lines refused old text new lines i d within done part memory =
     let around = text_around lines i d within in
-    let piece = part_of_write refused text new (string_bytes (get_or lines i d)) part memory in
-    rw around.1 (part_more old text new (text_of (take i lines)) (string_bytes (get_or lines i d)) around.0 done piece)
+    let piece = part_of_write refused text new (get_or lines i d) part memory in
+    rw around.1 (part_more old text new (concat (take i lines)) (get_or lines i d) around.0 done piece)
 
-pub lines_more : (old text new : Option (List ℕ)) (lines : List (String Global)) (i : ℕ) (d : String Global) → i < length lines → Writes old text (text_of (take i lines)) → Writes text new (string_bytes (get_or lines i d)) → Writes old new (text_of (take (i + 1) lines))
-lines_more old text new lines i d within done piece = rw (text_more lines i d within) (writes_more old text new (text_of (take i lines)) (string_bytes (get_or lines i d)) done piece)
+pub lines_more : (old text new : Option (List ℕ)) (lines : List (List ℕ)) (i : ℕ) (d : List ℕ) → i < length lines → Writes old text (concat (take i lines)) → Writes text new (get_or lines i d) → Writes old new (concat (take (i + 1) lines))
+lines_more old text new lines i d within done piece = rw (text_more lines i d within) (writes_more old text new (concat (take i lines)) (get_or lines i d) done piece)

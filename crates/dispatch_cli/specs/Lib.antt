@@ -1,4 +1,7 @@
-pub mod Earliest
+pub mod Outside
 pub mod Texts
-pub mod Words
-pub mod Outcome
+pub mod Journals
+pub mod Solving
+pub mod Answers
+pub mod Causes
+pub mod Endings

@@ -1,20 +1,22 @@
-// The program's one call: from words, files and a place to print to, to what is printed and the
-// status. `dispatch` solves plain problems: on status 0 the plan that it printed is valid for the
-// problem of the file's bytes, has the printed cost, and no valid plan costs less. Every other status
-// has its cause. It uses the outside through the traits of disp_outside alone.
+// The program's one call: from words, files and a place to print to, to what is printed, what is put,
+// the journal and the status. `dispatch` solves problems without choices: what it prints as optimal is
+// a valid plan with its cost, and no valid plan costs less; what it prints as infeasible has no valid
+// plan. Every other status has its cause. It uses the outside through the traits of disp_outside alone.
 #![tactic(auto)]
 
+mod answer;
 mod cause;
-mod cost;
 mod done;
-mod earliest;
+mod input;
+mod journal;
+mod lines;
 mod print;
 mod program;
 mod run;
-mod solution;
-mod words;
+mod solve;
 
-pub use cause::Cause;
+pub use answer::{Answer, Put};
+pub use cause::{Cause, Input};
 pub use done::Done;
 pub use program::dispatch;
 

@@ -1,85 +1,79 @@
-ghost use Rattle.std.specs.Prelude.{◌≡◌, ◌≢◌, ◌≤◌, ◌<◌, ◌↔◌, ℕ, List, MatchResult, IfOk, IfErr, IsErrOf, map, string_bytes, length, Some, Err};
-ghost use Rattle.std.specs.List.{concat};
-ghost use Rattle.displib_reader.specs.Outcome.{IsReadAs};
-ghost use Rattle.dispatch_cli.specs.Words.{problem_named};
-ghost use Rattle.dispatch_cli.specs.Outcome.{IsAnswer, IsSolved, Denies, Misses, Stops, Counted, HoldsBytes, solved_text};
+ghost use Rattle.std.specs.Prelude.{◌≡◌, ◌≢◌, ◌≤◌, ◌<◌, ℕ, List, IfOk, IfErr, IsErrAnd, map, option_map, string_bytes};
+ghost use Rattle.command_words.specs.Task.{IsTask};
+ghost use Rattle.dispatch_cli.specs.Answers.{IsAnswer, AnswersTask, AnswersSolve};
+ghost use Rattle.dispatch_cli.specs.Causes.{RefusesWords, Stops, StopsTask, StopsSolve, IsReadingFault, IsAnswerStatus, CountsReading, CountsTask};
 
-use crate::cause::Cause;
-use crate::earliest::earliest_plan;
-use crate::solution::write_solution;
-use crate::words::problem_name;
-use disp_model::{Event, MOST_FILE_BYTES, Memory, Problem};
-use disp_outside::{FetchNo, Shelf};
-use displib_reader::{ProblemNo, read_problem};
+use crate::answer::Answer;
+use crate::cause::{Cause, Input};
+use crate::input::{fetch, problem_of};
+use crate::solve::solve;
+use command_words::{Task, WordsNo, read_words};
+use disp_model::Text;
+use disp_outside::Shelf;
 use std::alloc::Global;
 
-/// The problem of the bytes.
-fn problem_of(alloc: Global, bytes: &[u8]) -> Result<Problem, Cause>
-    ensures { MatchResult result (IsReadAs bytes.now) (Denies bytes.now) }
+/// The task that the words ask for.
+fn task_of(alloc: Global, words: &[String]) -> Result<Task, Cause>
+    ensures ok { IfOk result (IsTask (map (λ word. string_bytes word) words.now)) }
+    ensures no { IfErr result (RefusesWords (map (λ word. string_bytes word) words.now)) }
 {
-    match read_problem(alloc, bytes) {
-        Ok(problem) => Ok(problem),
-        Err(ProblemNo::NotJson) => Err(Cause::NotJson),
-        Err(ProblemNo::NotPlain) => Err(Cause::NotPlain),
-        Err(ProblemNo::Memory) => Err(Cause::Memory),
+    match read_words(alloc, words) {
+        Ok(task) => Ok(task),
+        Err(WordsNo::Refused(text)) => Err(Cause::Words(text)),
+        Err(WordsNo::Memory) => Err(Cause::Memory),
     }
 }
 
-/// The lines that are printed of a plan and its cost.
-fn solved_lines(alloc: Global, plan: &[Event], cost: u64) -> Result<Vec<String>, Memory>
-    ensures { IfOk result (λ lines. concat (map (λ line. string_bytes line) lines.items) ≡ solved_text plan.now cost) }
-{
-    let edition = String::from_str(alloc, "edition 0\n")?;
-    let verdict = format!(in alloc; "optimal {cost}\n")?;
-    let mut solution = write_solution(alloc, plan, cost)?;
-    solution.push_str("\n")?;
-    Ok(vec![in alloc; edition, verdict, solution]?)
-}
+/// Solves the problem of a file.
+fn run_solve<S: Shelf>(
+    alloc: Global,
+    shelf: &mut S,
+    problem: &Text,
+    plan: Option<&Text>,
+) -> Result<Answer, Cause>
+    ensures ok { IfOk result (λ answer. (budget : ℕ) → AnswersSolve (S.holds shelf.old) problem.now budget (option_map (λ name. name.now) plan.entry) answer) }
+    ensures no { IfErr result (StopsSolve (S.holds shelf.old) (S.reading_faults shelf.old) (S.reading_faults shelf.new) problem.now) }
+    ensures status { IfOk result (λ answer. IsAnswerStatus answer.status) }
 
-/// The lines that are printed of a file of these bytes.
-fn answer_lines(alloc: Global, bytes: &[u8]) -> Result<Vec<String>, Cause>
-    ensures { MatchResult result (λ lines. IsAnswer bytes.now (concat (map (λ line. string_bytes line) lines.items))) (Denies bytes.now) }
-{
-    let problem = problem_of(alloc, bytes)?;
-    let (plan, cost) = earliest_plan(alloc, &problem)?;
-    Ok(solved_lines(alloc, plan.as_slice(), cost)?)
-}
-
-/// The bytes of a file.
-fn fetch<S: Shelf>(alloc: Global, name: &str, shelf: &mut S) -> Result<Vec<u8>, Cause>
-    ensures bytes { IfOk result (λ bytes. HoldsBytes (S.holds shelf.old) name.now bytes.items) }
-    ensures short { IfOk result (λ bytes. length bytes.items ≤ MOST_FILE_BYTES) }
-    ensures no { IfErr result (Misses (S.holds shelf.old) (S.reading_faults shelf.old) (S.reading_faults shelf.new) name.now) }
-
-    ensures counted { S.reading_faults shelf.old name.now ≤ S.reading_faults shelf.new name.now }
-    ensures failed { S.reading_faults shelf.old name.now < S.reading_faults shelf.new name.now → result ≡ Err Cause.Failed }
-    ensures others { (other : List ℕ) → other ≢ name.now → S.reading_faults shelf.new other ≡ S.reading_faults shelf.old other }
+    ensures counted { S.reading_faults shelf.old problem.now ≤ S.reading_faults shelf.new problem.now }
+    ensures failed { S.reading_faults shelf.old problem.now < S.reading_faults shelf.new problem.now → IsErrAnd result IsReadingFault }
+    ensures others { (other : List ℕ) → other ≢ problem.now → S.reading_faults shelf.new other ≡ S.reading_faults shelf.old other }
+    ensures puttings { (other : List ℕ) → S.putting_faults shelf.new other ≡ S.putting_faults shelf.old other }
     ensures held { (other : List ℕ) → S.holds shelf.new other ≡ S.holds shelf.old other }
 {
-    match shelf.fetch(alloc, name, MOST_FILE_BYTES) {
-        Ok(bytes) => Ok(bytes),
-        Err(FetchNo::Failed) => Err(Cause::Failed),
-        Err(FetchNo::TooLong) => Err(Cause::TooLong),
-        Err(FetchNo::Memory) => Err(Cause::Memory),
+    let bytes = fetch(alloc, shelf, Input::Problem, problem.as_str())?;
+    let problem = problem_of(alloc, &bytes)?;
+    solve(alloc, &problem, plan)
+}
+
+/// Does what a task asks for.
+fn run_task<S: Shelf>(alloc: Global, shelf: &mut S, task: &Task) -> Result<Answer, Cause>
+    ensures ok { IfOk result (AnswersTask (S.holds shelf.old) task.now) }
+    ensures no { IfErr result (StopsTask (S.holds shelf.old) (S.reading_faults shelf.old) (S.reading_faults shelf.new) task.now) }
+    ensures status { IfOk result (λ answer. IsAnswerStatus answer.status) }
+
+    ensures counts { (name : List ℕ) → CountsTask task.now (S.reading_faults shelf.old) (S.reading_faults shelf.new) name }
+    ensures failed { (name : List ℕ) → S.reading_faults shelf.old name < S.reading_faults shelf.new name → IsErrAnd result IsReadingFault }
+    ensures puttings { (name : List ℕ) → S.putting_faults shelf.new name ≡ S.putting_faults shelf.old name }
+    ensures held { (name : List ℕ) → S.holds shelf.new name ≡ S.holds shelf.old name }
+{
+    match task {
+        Task::Solve { problem, plan, .. } => run_solve(alloc, shelf, problem, plan.as_ref()),
+        Task::Verify { .. } => Err(Cause::Memory),
     }
 }
 
-/// The lines that are printed for the words, from the files of the shelf.
-pub(crate) fn run<S: Shelf>(
-    alloc: Global,
-    words: &[String],
-    shelf: &mut S,
-) -> Result<Vec<String>, Cause>
-    ensures solved { IfOk result (λ lines. IsSolved (map (λ word. string_bytes word) words.now) (S.holds shelf.old) (concat (map (λ line. string_bytes line) lines.items))) }
-    ensures stopped { IfErr result (Stops (map (λ word. string_bytes word) words.now) (S.holds shelf.old) (S.reading_faults shelf.old) (S.reading_faults shelf.new)) }
+/// The answer to the words, from the files of the shelf.
+pub(crate) fn run<S: Shelf>(alloc: Global, words: &[String], shelf: &mut S) -> Result<Answer, Cause>
+    ensures ok { IfOk result (IsAnswer (map (λ word. string_bytes word) words.now) (S.holds shelf.old)) }
+    ensures no { IfErr result (Stops (map (λ word. string_bytes word) words.now) (S.holds shelf.old) (S.reading_faults shelf.old) (S.reading_faults shelf.new)) }
+    ensures status { IfOk result (λ answer. IsAnswerStatus answer.status) }
 
-    ensures counts { (name : List ℕ) → Counted (map (λ word. string_bytes word) words.now) (S.reading_faults shelf.old) (S.reading_faults shelf.new) name }
-    ensures failed { (name : List ℕ) → S.reading_faults shelf.old name < S.reading_faults shelf.new name → result ≡ Err Cause.Failed }
+    ensures counts { (name : List ℕ) → CountsReading (map (λ word. string_bytes word) words.now) (S.reading_faults shelf.old) (S.reading_faults shelf.new) name }
+    ensures failed { (name : List ℕ) → S.reading_faults shelf.old name < S.reading_faults shelf.new name → IsErrAnd result IsReadingFault }
+    ensures puttings { (name : List ℕ) → S.putting_faults shelf.new name ≡ S.putting_faults shelf.old name }
     ensures held { (name : List ℕ) → S.holds shelf.new name ≡ S.holds shelf.old name }
 {
-    let Some(name) = problem_name(words) else {
-        return Err(Cause::Words);
-    };
-    let bytes = fetch(alloc, name, shelf)?;
-    answer_lines(alloc, &bytes)
+    let task = task_of(alloc, words)?;
+    run_task(alloc, shelf, &task)
 }

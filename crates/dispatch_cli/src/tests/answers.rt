@@ -1,16 +1,14 @@
-// What is printed for problems, and for texts that are none.
+// What is printed for problems without choices, and for texts that are none.
 use super::doubles::{solve, words_of};
 use crate::dispatch;
 use disp_outside::{OpenGate, SteadyShelf, SteadySink};
 use std::process::Abort;
 use std::test::Fail;
 
-const NOT_PLAIN: &str = "problem: NotPlain\n";
-
 const NOT_JSON: &str = "problem: NotJson\n";
 
 #[test]
-fn plain_problems_are_solved(rt: HostRuntime) -> Result<(), Fail> {
+fn problems_without_choices_are_solved(rt: HostRuntime) -> Result<(), Fail> {
     let rows = [
         (
             r#"{"trains":[],"objective":[]}"#,
@@ -46,28 +44,86 @@ fn plain_problems_are_solved(rt: HostRuntime) -> Result<(), Fail> {
 }
 
 #[test]
-fn what_is_no_plain_problem_is_refused(rt: HostRuntime) -> Result<(), Fail> {
+fn what_breaks_a_rule_is_refused(rt: HostRuntime) -> Result<(), Fail> {
     let rows = [
-        r#"[]"#,
-        r#"{"trains":[]}"#,
+        (r#"[]"#, "Shape /"),
+        (r#"{"trains":[]}"#, "Shape /objective"),
+        (r#"{"trains":[[null]],"objective":[]}"#, "Shape /trains/0/0"),
+        (
+            r#"{"trains":[[{"start_lb":2147483648}],[{"min_duration":"5"}]],"objective":[]}"#,
+            "Shape /trains/1/0/min_duration",
+        ),
+        (
+            r#"{"trains":[[{"start_lb":2147483648}]],"objective":[]}"#,
+            "TooLarge /trains/0/0/start_lb",
+        ),
+        (
+            r#"{"trains":[[{"start_lb":5.0}]],"objective":[]}"#,
+            "NotWhole /trains/0/0/start_lb",
+        ),
+        (
+            r#"{"trains":[[{"successors":[1]},{"successors":[2,3]},{"successors":[1]},{}]],"objective":[]}"#,
+            "Loop 0 1",
+        ),
+        (
+            r#"{"trains":[[{"successors":[0]}]],"objective":[]}"#,
+            "NotOneEntry 0 0",
+        ),
+        (r#"{"trains":[[]],"objective":[]}"#, "NotOneEntry 0 0"),
+        (r#"{"trains":[[{},{}]],"objective":[]}"#, "NotOneEntry 0 2"),
+        (
+            r#"{"trains":[[{"successors":[1,2]},{},{}]],"objective":[]}"#,
+            "NotOneExit 0 2",
+        ),
+        (
+            r#"{"trains":[[{}]],"objective":[{"type":"op_delay","train":0,"operation":0,"coeff":2147483647},{"type":"op_delay","train":0,"operation":0,"coeff":2147483647},{"type":"op_delay","train":0,"operation":0,"coeff":2147483647}]}"#,
+            "TooCostly 13835058042397261827",
+        ),
+        (
+            r#"{"trains":[[{}]],"objective":[{"type":"delay","train":0,"operation":0}]}"#,
+            "UnknownObjective 0",
+        ),
+        (
+            r#"{"trains":[[{}]],"objective":[{"type":"op_delay","train":0,"operation":1}]}"#,
+            "BadIndex /objective/0/operation",
+        ),
+    ];
+    for (problem, want) in rows {
+        let (status, written) = solve(&rt, problem.as_bytes())?;
+        let line = format!(in rt.alloc(); "problem: {want}\n")?;
+        assert_eq!(rt; status, 2, "{problem}");
+        assert_eq!(rt; written.as_slice(), line.as_bytes(), "{problem}");
+    }
+    Ok(())
+}
+
+#[test]
+fn problems_with_choices_are_refused(rt: HostRuntime) -> Result<(), Fail> {
+    let rows = [
         r#"{"trains":[[{"min_duration":10,"resources":[{"resource":"r"}],"successors":[1]},{}],[{"min_duration":4,"resources":[{"resource":"r"}],"successors":[1]},{}]],"objective":[]}"#,
         r#"{"trains":[[{"successors":[1,2]},{"successors":[3]},{"successors":[3]},{}]],"objective":[]}"#,
-        r#"{"trains":[[{"start_lb":5,"start_ub":4}]],"objective":[]}"#,
-        r#"{"trains":[[{"start_lb":2147483648}]],"objective":[]}"#,
-        r#"{"trains":[[{"start_lb":5.0}]],"objective":[]}"#,
-        r#"{"trains":[[{"successors":[1]},{"successors":[2,3]},{"successors":[1]},{}]],"objective":[]}"#,
-        r#"{"trains":[[{"successors":[0]}]],"objective":[]}"#,
-        r#"{"trains":[[]],"objective":[]}"#,
-        r#"{"trains":[[{}]],"objective":[{"type":"op_delay","train":0,"operation":0,"coeff":2147483647},{"type":"op_delay","train":0,"operation":0,"coeff":2147483647},{"type":"op_delay","train":0,"operation":0,"coeff":2147483647}]}"#,
-        r#"{"trains":[[{}]],"objective":[{"type":"delay","train":0,"operation":0}]}"#,
-        r#"{"trains":[[{}]],"objective":[{"type":"op_delay","train":0,"operation":1}]}"#,
-        r#"{"trains":[[null]],"objective":[]}"#,
+        r#"{"trains":[[{"resources":[{"resource":"r"}],"successors":[1]},{}],[{"resources":[{"resource":"r"}],"successors":[1,2]},{"successors":[3]},{"successors":[3]},{}]],"objective":[]}"#,
     ];
     for problem in rows {
         let (status, written) = solve(&rt, problem.as_bytes())?;
         assert_eq!(rt; status, 2, "{problem}");
-        assert_eq!(rt; written.as_slice(), NOT_PLAIN.as_bytes(), "{problem}");
+        assert_eq!(rt;
+            written.as_slice(),
+            b"problem: Choices\n".as_slice(),
+            "{problem}"
+        );
     }
+    Ok(())
+}
+
+#[test]
+fn a_start_that_is_too_late_is_infeasible(rt: HostRuntime) -> Result<(), Fail> {
+    let (status, written) = solve(
+        &rt,
+        br#"{"trains":[[{"start_lb":5,"start_ub":4}]],"objective":[]}"#,
+    )?;
+    assert_eq!(rt; status, 1);
+    assert_eq!(rt; written.as_slice(), b"edition 0\ninfeasible\n".as_slice());
     Ok(())
 }
 
@@ -102,27 +158,29 @@ fn what_is_no_json_is_refused(rt: HostRuntime) -> Result<(), Fail> {
     Ok(())
 }
 
-// The words get the line of usage.
-fn usage_is_told(rt: &(impl Abort + AllocGlobal), words: &[&str]) -> Result<(), Fail> {
+// The words get clap's text.
+fn is_told(rt: &(impl Abort + AllocGlobal), words: &[&str], text: &str) -> Result<(), Fail> {
     let alloc = rt.alloc();
     let words = words_of(alloc, words)?;
     let mut shelf = SteadyShelf::new(alloc);
     let mut out = SteadySink::new(alloc);
     let done = dispatch(rt, alloc, &words, &mut shelf, &mut out, &OpenGate);
     assert_eq!(rt; done.status, 2, "{words:?}");
-    assert_eq!(rt;
-        out.written(),
-        b"usage: dispatch solve PROBLEM\n".as_slice(),
-        "{words:?}"
-    );
+    assert!(rt; done.journal.is_empty());
+    let told = String::from_utf8(out.written().to_vec(alloc)?)?;
+    assert!(rt; told.as_str().contains(text), "{words:?}");
     Ok(())
 }
 
 #[test]
 fn other_words_are_refused(rt: HostRuntime) -> Result<(), Fail> {
-    usage_is_told(&rt, &[])?;
-    usage_is_told(&rt, &["solve"])?;
-    usage_is_told(&rt, &["solve", "-p"])?;
-    usage_is_told(&rt, &["solve", "p", "q"])?;
-    usage_is_told(&rt, &["verify", "p"])
+    is_told(&rt, &[], "Usage")?;
+    is_told(&rt, &["solve"], "<PROBLEM>")?;
+    is_told(&rt, &["solve", "p", "q"], "'q'")?;
+    is_told(&rt, &["solve", "p", "--budget", "-1"], "'-1'")?;
+    is_told(&rt, &["solve", "p", "--budget", "x"], "'x'")?;
+    is_told(&rt, &["solve", "p", "--budget", "4294967296"], "4294967296")?;
+    is_told(&rt, &["solve", "p", "--workers", "2"], "--workers")?;
+    is_told(&rt, &["--help"], "Usage: dispatch")?;
+    is_told(&rt, &["fly", "p"], "'fly'")
 }

@@ -1,6 +1,6 @@
 // A run on files in memory, and shelves that always refuse.
 use crate::dispatch;
-use disp_outside::{FetchNo, OpenGate, Shelf, SteadyShelf, SteadySink};
+use disp_outside::{FetchNo, OpenGate, PutNo, Shelf, SteadyShelf, SteadySink};
 use std::alloc::Global;
 use std::test::Fail;
 
@@ -37,8 +37,14 @@ impl Shelf for LongShelf {
 
     ghost reading_faults = { λ _ _. 0 };
 
+    ghost putting_faults = { λ _ _. 0 };
+
     fn fetch(&mut self, _alloc: Global, _name: &str, _limit: u64) -> Result<Vec<u8>, FetchNo> {
         Err(FetchNo::TooLong)
+    }
+
+    fn put(&mut self, _alloc: Global, _name: &str, _bytes: &[u8]) -> Result<(), PutNo> {
+        Err(PutNo::Memory)
     }
 }
 
@@ -55,7 +61,13 @@ impl Shelf for FullShelf {
 
     ghost reading_faults = { λ _ _. 0 };
 
+    ghost putting_faults = { λ _ _. 0 };
+
     fn fetch(&mut self, _alloc: Global, _name: &str, _limit: u64) -> Result<Vec<u8>, FetchNo> {
         Err(FetchNo::Memory)
+    }
+
+    fn put(&mut self, _alloc: Global, _name: &str, _bytes: &[u8]) -> Result<(), PutNo> {
+        Err(PutNo::Memory)
     }
 }

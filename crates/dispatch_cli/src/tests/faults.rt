@@ -7,6 +7,9 @@ use std::test::Fail;
 const PROBLEM: &str =
     r#"{"trains":[[{"min_duration":5,"successors":[1]},{}]],"objective":[{"type":"op_delay","train":0,"operation":1,"threshold":3,"coeff":2,"increment":1}]}"#;
 
+const PLAN: &str =
+    "{\"events\":[{\"operation\":0,\"time\":0,\"train\":0},{\"operation\":1,\"time\":5,\"train\":0}],\"objective_value\":5}\n";
+
 // The status of `solve p` on the shelf, and what was written.
 fn run<S: Shelf>(rt: &HostRuntime, shelf: &mut S) -> Result<(Done, Vec<u8>), Fail> {
     let alloc = rt.alloc();
@@ -70,5 +73,64 @@ fn a_refusal_that_breaks_keeps_its_status(rt: HostRuntime) -> Result<(), Fail> {
     let done = dispatch(&rt, alloc, &words, &mut shelf, &mut out, &OpenGate);
     assert_eq!(rt; done.status, 2);
     assert_eq!(rt; out.written(), b"problem".as_slice());
+    Ok(())
+}
+
+// The name's file is there, with these bytes.
+fn holds(shelf: &MemShelf, name: &str, bytes: &[u8]) -> bool {
+    match shelf.file(name) {
+        Some(file) => file == bytes,
+        None => false,
+    }
+}
+
+// Where the plan cannot be put, nothing is written, and the journal is whole.
+#[test]
+fn a_plan_that_cannot_be_put_ends_the_run(rt: HostRuntime) -> Result<(), Fail> {
+    let alloc = rt.alloc();
+    let words = words_of(alloc, &["solve", "p", "--plan", "out"])?;
+    let mut shelf = MemShelf::new(alloc);
+    shelf.place("p", PROBLEM.as_bytes(), &[])?;
+    shelf.place("out", b"old", &[])?;
+    shelf.break_puts(&[1])?;
+    let mut out = SteadySink::new(alloc);
+    let done = dispatch(&rt, alloc, &words, &mut shelf, &mut out, &OpenGate);
+    assert_eq!(rt; done.status, 4);
+    assert_eq!(rt; done.journal.len(), 2);
+    assert_eq!(rt; out.written(), b"".as_slice());
+    assert_eq!(rt; shelf.put_faults("out"), 1);
+    Ok(())
+}
+
+#[test]
+fn a_plan_is_put_before_the_answer_is_printed(rt: HostRuntime) -> Result<(), Fail> {
+    let alloc = rt.alloc();
+    let words = words_of(alloc, &["solve", "p", "--plan", "out"])?;
+    let mut shelf = MemShelf::new(alloc);
+    shelf.place("p", PROBLEM.as_bytes(), &[])?;
+    let mut out = MemSink::new(alloc, &[BrokenWrite { call: 1, sent: 0 }])?;
+    let done = dispatch(&rt, alloc, &words, &mut shelf, &mut out, &OpenGate);
+    assert_eq!(rt; done.status, 4);
+    assert!(rt; holds(&shelf, "out", PLAN.as_bytes()));
+    Ok(())
+}
+
+#[test]
+fn no_plan_is_put_where_there_is_none(rt: HostRuntime) -> Result<(), Fail> {
+    let alloc = rt.alloc();
+    let words = words_of(alloc, &["solve", "p", "--plan", "out"])?;
+    let mut shelf = MemShelf::new(alloc);
+    shelf.place(
+        "p",
+        br#"{"trains":[[{"start_lb":5,"start_ub":4}]],"objective":[]}"#,
+        &[],
+    )?;
+    shelf.place("out", b"old", &[])?;
+    let mut out = SteadySink::new(alloc);
+    let done = dispatch(&rt, alloc, &words, &mut shelf, &mut out, &OpenGate);
+    assert_eq!(rt; done.status, 1);
+    assert_eq!(rt; done.journal.len(), 1);
+    assert_eq!(rt; out.written(), b"edition 0\ninfeasible\n".as_slice());
+    assert!(rt; holds(&shelf, "out", b"old"));
     Ok(())
 }

@@ -1,0 +1,144 @@
+-- What stops a run before there is an answer, and what is printed for it.
+use Rattle.std.specs.Prelude.{◌≡◌, ◌≢◌, ◌⊎◌, ℕ, ◌<◌, ◌≤◌, List, [], ◌++◌, codes, Option, Some}
+use Rattle.disp_model.specs.declared.problem.Problem.{Problem}
+use Rattle.displib_reader.specs.declared.fault.ProblemNo.{ProblemNo}
+use Rattle.displib_reader.specs.Outcome.{IsReadAs, IsRefused}
+use Rattle.displib_reader.specs.Why.{why_text}
+use Rattle.single_routes.specs.Choices.{HasChoices}
+use Rattle.command_words.specs.declared.task.Task.{Task}
+use Rattle.command_words.specs.declared.task.Task.TheVariants.{Solve, Verify}
+use Rattle.command_words.specs.Task.{IsTask, AreRefused}
+use Rattle.dispatch_cli.specs.declared.cause.Cause.{Cause}
+use Rattle.dispatch_cli.specs.declared.cause.Cause.TheVariants.{Words, Failed, TooLong, NoProblem, Choices, Memory}
+use Rattle.dispatch_cli.specs.declared.cause.Input.{Input}
+use Rattle.dispatch_cli.specs.declared.cause.Input.TheVariants as input
+use Rattle.dispatch_cli.specs.Outside.{Holdings, Counts, IsFile, HoldsTooMuch}
+use Rattle.dispatch_cli.specs.Texts.{line}
+
+-- ---- what is printed
+
+abbrev pub prefix_of : Input → List ℕ
+prefix_of input.Problem = codes "problem: "
+
+-- the line that is printed for a cause; for refused words it is clap's text
+abbrev pub line_of : Cause → List ℕ
+line_of (Words text) = text
+line_of (Failed which) = line (prefix_of which ++ codes "Failed")
+line_of (TooLong which) = line (prefix_of which ++ codes "TooLong")
+line_of (NoProblem refusal) = line (prefix_of input.Problem ++ why_text refusal)
+line_of Choices = line (prefix_of input.Problem ++ codes "Choices")
+line_of Memory = line (codes "memory")
+
+-- what is due where something stopped a run, before the line for want of memory: nothing where that is what stopped it
+abbrev pub due_line : Cause → List ℕ
+due_line (Words text) = line_of (Words text)
+due_line (Failed which) = line_of (Failed which)
+due_line (TooLong which) = line_of (TooLong which)
+due_line (NoProblem refusal) = line_of (NoProblem refusal)
+due_line Choices = line_of Choices
+due_line Memory = []
+
+-- the status for a cause
+abbrev pub status_of : Cause → ℕ
+status_of (Words text) = 2
+status_of (Failed which) = 4
+status_of (TooLong which) = 2
+status_of (NoProblem refusal) = 2
+status_of Choices = 2
+status_of Memory = 5
+
+-- ---- what has happened
+
+-- the name that a task gives for an input
+abbrev pub name_in : Task → Input → Option (List ℕ)
+name_in (Solve problem budget plan) input.Problem = Some problem
+name_in (Verify problem solution) input.Problem = Some problem
+
+-- the file of the name is read, and its bytes are such
+pub record IsBadFile (holds : Holdings) (name : List ℕ) (Bad : List ℕ → Type 0) : Type 0 where
+  pub bytes : List ℕ
+  pub file : IsFile holds name bytes
+  pub bad : Bad bytes
+
+-- the task gives a name for the input, and its file's bytes are such
+abbrev pub IsBadInput : Holdings → Task → Input → (List ℕ → Type 0) → Type 0
+IsBadInput holds task which Bad = (name : List ℕ) × (name_in task which ≡ Some name) × IsBadFile holds name Bad
+
+-- the bytes are those of a problem that has choices
+pub record IsReadWithChoices (bytes : List ℕ) : Type 0 where
+  pub problem : Problem
+  pub read : IsReadAs bytes problem
+  pub choices : HasChoices problem
+
+-- what stopped a task has happened
+abbrev pub StopsTask : Holdings → Counts → Counts → Task → Cause → Type 0
+StopsTask holds old new task (Words text) = ⊥
+StopsTask holds old new task (Failed which) = (name : List ℕ) × (name_in task which ≡ Some name) × (old name < new name)
+StopsTask holds old new task (TooLong which) = (name : List ℕ) × (name_in task which ≡ Some name) × HoldsTooMuch holds name
+StopsTask holds old new task (NoProblem refusal) = IsBadInput holds task input.Problem (λ bytes. IsRefused bytes refusal)
+StopsTask holds old new task Choices = IsBadInput holds task input.Problem IsReadWithChoices
+StopsTask holds old new task Memory = Unit {0}
+
+-- the words ask for a task, and what stopped it has happened
+pub record IsStopped (words : List (List ℕ)) (holds : Holdings) (old new : Counts) (cause : Cause) : Type 0 where
+  pub task : Task
+  pub asked : IsTask words task
+  pub stops : StopsTask holds old new task cause
+
+-- what stopped a run has happened
+abbrev pub Stops : List (List ℕ) → Holdings → Counts → Counts → Cause → Type 0
+Stops words holds old new (Words text) = AreRefused words
+Stops words holds old new (Failed which) = IsStopped words holds old new (Failed which)
+Stops words holds old new (TooLong which) = IsStopped words holds old new (TooLong which)
+Stops words holds old new (NoProblem refusal) = IsStopped words holds old new (NoProblem refusal)
+Stops words holds old new Choices = IsStopped words holds old new Choices
+Stops words holds old new Memory = Unit {0}
+
+-- the count of a name does not fall, and stays where the task does not give the name to be read
+pub record CountsTask (task : Task) (old new : Counts) (name : List ℕ) : Type 0 where
+  pub never_falls : old name ≤ new name
+  pub stays : ((which : Input) → name_in task which ≡ Some name → ⊥) → new name ≡ old name
+
+-- the count of a name does not fall, and stays where the words do not give the name to be read
+pub record CountsReading (words : List (List ℕ)) (old new : Counts) (name : List ℕ) : Type 0 where
+  pub never_falls : old name ≤ new name
+  pub stays : ((task : Task) (which : Input) → IsTask words task → name_in task which ≡ Some name → ⊥) → new name ≡ old name
+
+-- ---- for private clauses
+
+-- why there is no file of a name
+abbrev pub Misses : Holdings → Counts → Counts → Input → List ℕ → Cause → Type 0
+Misses holds old new which name (Failed other) = (other ≡ which) × (old name < new name)
+Misses holds old new which name (TooLong other) = (other ≡ which) × HoldsTooMuch holds name
+Misses holds old new which name Memory = Unit {0}
+Misses holds old new which name _ = ⊥
+
+-- why the words ask for nothing
+abbrev pub RefusesWords : List (List ℕ) → Cause → Type 0
+RefusesWords words (Words text) = AreRefused words
+RefusesWords words Memory = Unit {0}
+RefusesWords words _ = ⊥
+
+-- why bytes are no problem
+abbrev pub RefusesProblem : List ℕ → Cause → Type 0
+RefusesProblem bytes (NoProblem refusal) = IsRefused bytes refusal
+RefusesProblem bytes Memory = Unit {0}
+RefusesProblem bytes _ = ⊥
+
+-- why the problem of a file is not solved
+abbrev pub StopsSolve : Holdings → Counts → Counts → List ℕ → Cause → Type 0
+StopsSolve holds old new name (Words text) = ⊥
+StopsSolve holds old new name (Failed which) = (which ≡ input.Problem) × (old name < new name)
+StopsSolve holds old new name (TooLong which) = (which ≡ input.Problem) × HoldsTooMuch holds name
+StopsSolve holds old new name (NoProblem refusal) = IsBadFile holds name (λ bytes. IsRefused bytes refusal)
+StopsSolve holds old new name Choices = IsBadFile holds name IsReadWithChoices
+StopsSolve holds old new name Memory = Unit {0}
+
+-- a reading failed
+abbrev pub IsReadingFault : Cause → Type 0
+IsReadingFault (Failed which) = Unit {0}
+IsReadingFault _ = ⊥
+
+-- the answer ends with one of the statuses of an answer
+abbrev pub IsAnswerStatus : ℕ → Type 0
+IsAnswerStatus status = (status ≡ 0) ⊎ (status ≡ 1)

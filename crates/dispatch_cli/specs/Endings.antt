@@ -1,0 +1,142 @@
+-- How a run of the program ends.
+use Rattle.std.specs.Prelude.{◌≡◌, ◌≢◌, ◌⊎◌, ℕ, ◌<◌, ◌≤◌, List, [], Option, Some, None}
+use Rattle.std.specs.List.{concat}
+use Rattle.disp_outside.specs.Sink.{WritesPart}
+use Rattle.disp_model.specs.declared.entry.Entry.{Entry}
+use Rattle.dispatch_cli.specs.declared.answer.Answer.{Answer}
+use Rattle.dispatch_cli.specs.declared.answer.Put.{Put}
+use Rattle.dispatch_cli.specs.declared.cause.Cause.{Cause}
+use Rattle.dispatch_cli.specs.declared.cause.Cause.TheVariants.{Failed, Memory}
+use Rattle.dispatch_cli.specs.declared.cause.Input.{Input}
+use Rattle.dispatch_cli.specs.Outside.{Outside, Holdings, Counts, Writes}
+use Rattle.dispatch_cli.specs.Answers.{IsAnswer, IsPut, IsDuePut, PutsUnder}
+use Rattle.dispatch_cli.specs.Causes.{Stops, line_of, due_line, status_of}
+
+-- status 0 or 1: what was to be put is held, and the lines of the answer were written
+pub record Answers (words : List (List ℕ)) (old new : Outside) (status : ℕ) (journal : List Entry) : Type 0 where
+  pub answer : Answer
+  pub is_answer : IsAnswer words old.holds answer
+  pub status_is : status ≡ answer.status
+  pub journal_is : journal ≡ answer.journal
+  pub written : Writes old.written new.written (concat answer.lines)
+  pub put : IsPut answer.put new.holds
+
+-- status 2: the words or a file were refused, and the line for it was written, or some of it where a write failed
+pub record Refuses (words : List (List ℕ)) (old new : Outside) (journal : List Entry) : Type 0 where
+  pub cause : Cause
+  pub stops : Stops words old.holds old.reading new.reading cause
+  pub status : status_of cause ≡ 2
+  pub journal_is : journal ≡ []
+  pub part : WritesPart old.written new.written (line_of cause)
+  pub whole : new.faults ≡ old.faults → Writes old.written new.written (line_of cause)
+
+-- a named file could not be read, and the line for it was written, or some of it where a write failed
+pub record CannotRead (words : List (List ℕ)) (old new : Outside) (journal : List Entry) : Type 0 where
+  pub which : Input
+  pub stops : Stops words old.holds old.reading new.reading (Failed which)
+  pub journal_is : journal ≡ []
+  pub part : WritesPart old.written new.written (line_of (Failed which))
+  pub whole : new.faults ≡ old.faults → Writes old.written new.written (line_of (Failed which))
+
+-- the plan could not be put, and nothing was written
+pub record CannotPut (words : List (List ℕ)) (old new : Outside) (journal : List Entry) : Type 0 where
+  pub answer : Answer
+  pub is_answer : IsAnswer words old.holds answer
+  pub journal_is : journal ≡ answer.journal
+  pub put : Put
+  pub put_is : answer.put ≡ Some put
+  pub fault : old.putting put.name < new.putting put.name
+  pub nothing : new.written ≡ old.written
+
+-- what was to be put is held, and a write of the lines failed
+pub record CannotWrite (words : List (List ℕ)) (old new : Outside) (journal : List Entry) : Type 0 where
+  pub answer : Answer
+  pub is_answer : IsAnswer words old.holds answer
+  pub journal_is : journal ≡ answer.journal
+  pub put : IsPut answer.put new.holds
+  pub fault : old.faults < new.faults
+  pub part : WritesPart old.written new.written (concat answer.lines)
+
+-- status 4: a reading of a named file, a putting under a named one, or a write failed
+abbrev pub Fails : List (List ℕ) → Outside → Outside → List Entry → Type 0
+Fails words old new journal = CannotRead words old new journal ⊎ (CannotPut words old new journal ⊎ CannotWrite words old new journal)
+
+-- what would have been written: the lines of an answer, the line for what stopped the run, or nothing where that was want
+-- of memory; and the journal that goes with it
+abbrev pub IsDue : List (List ℕ) → Outside → Outside → List ℕ → List Entry → Type 0
+IsDue words old new text journal =
+    ((answer : Answer) × IsAnswer words old.holds answer × (text ≡ concat answer.lines) × (journal ≡ answer.journal))
+    ⊎ ((cause : Cause) × Stops words old.holds old.reading new.reading cause × (text ≡ due_line cause) × (journal ≡ []))
+
+-- status 5: some of what would have been written went out, and behind it some of the line for want of memory, once
+pub record GivesUp (words : List (List ℕ)) (old new : Outside) (journal : List Entry) : Type 0 where
+  pub text : List ℕ
+  pub due : IsDue words old new text journal
+  pub between : Option (List ℕ)
+  pub part : WritesPart old.written between text
+  pub memory : WritesPart between new.written (line_of Memory)
+
+-- the count of failed puttings of a name does not fall, and stays where nothing is to be put under the name
+pub record CountsPutting (words : List (List ℕ)) (holds : Holdings) (old new : Counts) (name : List ℕ) : Type 0 where
+  pub never_falls : old name ≤ new name
+  pub stays : (IsDuePut words holds name → ⊥) → new name ≡ old name
+
+-- ---- for private clauses
+
+-- some of the text went out, and some of the line for want of memory behind it
+pub record WritesThenGivesUp (old new : Option (List ℕ)) (text : List ℕ) : Type 0 where
+  pub between : Option (List ℕ)
+  pub part : WritesPart old between text
+  pub memory : WritesPart between new (line_of Memory)
+
+-- how the writing of the lines of an answer ends
+pub record Finishes (old_faults new_faults : ℕ) (old new : Option (List ℕ)) (text : List ℕ) (wanted status : ℕ) : Type 0 where
+  pub counted : old_faults ≤ new_faults
+  pub statuses : (status ≡ wanted) ⊎ ((status ≡ 4) ⊎ (status ≡ 5))
+  pub done : status ≢ 4 → status ≢ 5 → Writes old new text × (new_faults ≡ old_faults)
+  pub failed : status ≡ 4 → WritesPart old new text × (old_faults < new_faults)
+  pub memory : status ≡ 5 → WritesThenGivesUp old new text
+
+-- how the writing of the line for what stopped a run ends
+pub record Halts (old_faults new_faults : ℕ) (old new : Option (List ℕ)) (cause : Cause) (status : ℕ) : Type 0 where
+  pub counted : old_faults ≤ new_faults
+  pub statuses : (status ≡ status_of cause) ⊎ (status ≡ 5)
+  pub part : status ≢ 5 → WritesPart old new (line_of cause)
+  pub whole : status ≢ 5 → new_faults ≡ old_faults → Writes old new (line_of cause)
+  pub memory : status ≡ 5 → WritesThenGivesUp old new (due_line cause)
+
+-- a putting failed, and nothing was written
+pub record PutFails (answer : Answer) (old new : Outside) : Type 0 where
+  pub put : Put
+  pub put_is : answer.put ≡ Some put
+  pub fault : old.putting put.name < new.putting put.name
+  pub nothing : new.written ≡ old.written
+  pub counted : new.faults ≡ old.faults
+
+-- what was to be put is held, and a write failed
+pub record WriteFails (answer : Answer) (old new : Outside) : Type 0 where
+  pub put : IsPut answer.put new.holds
+  pub fault : old.faults < new.faults
+  pub part : WritesPart old.written new.written (concat answer.lines)
+
+-- how the putting and the writing of an answer end
+pub record Publishes (answer : Answer) (old new : Outside) (status : ℕ) : Type 0 where
+  pub counted : old.faults ≤ new.faults
+  pub statuses : (status ≡ answer.status) ⊎ ((status ≡ 4) ⊎ (status ≡ 5))
+  pub written : status ≢ 4 → status ≢ 5 → Writes old.written new.written (concat answer.lines)
+  pub put : status ≢ 4 → status ≢ 5 → IsPut answer.put new.holds
+  pub quiet : status ≢ 4 → status ≢ 5 → new.faults ≡ old.faults
+  pub failed : status ≡ 4 → PutFails answer old new ⊎ WriteFails answer old new
+  pub memory : status ≡ 5 → WritesThenGivesUp old.written new.written (concat answer.lines)
+
+-- a name of which nothing is put keeps its count of failed puttings, and what it holds; its count never falls, and rises
+-- only where a putting failed
+pub record PutsOnly (put : Option Put) (old_holds new_holds : Holdings) (old_counts new_counts : Counts) (name : List ℕ) : Type 0 where
+  pub never_falls : old_counts name ≤ new_counts name
+  pub stays : (PutsUnder name put → ⊥) → new_counts name ≡ old_counts name
+  pub held : (PutsUnder name put → ⊥) → new_holds name ≡ old_holds name
+
+-- the putting failed, and it was counted under its name
+abbrev pub PutMisses : Option Put → Counts → Counts → Type 0
+PutMisses None old new = ⊥
+PutMisses (Some put) old new = old put.name < new put.name

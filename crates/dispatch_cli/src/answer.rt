@@ -1,0 +1,23 @@
+use disp_model::{Entry, List, Text};
+
+/// What is to be put on the shelf.
+#[derive(Drop)]
+pub struct Put {
+    /// The name of the file.
+    pub name: Text,
+    /// What the file is to hold.
+    pub bytes: List<u8>,
+}
+
+/// What a task comes to, before anything of it is put or written.
+#[derive(Drop)]
+pub struct Answer {
+    /// The history of the search.
+    pub journal: List<Entry>,
+    /// What is to be put before the lines are written, if anything.
+    pub put: Option<Put>,
+    /// The lines to be written, each with its end.
+    pub lines: List<List<u8>>,
+    /// The status with which the program is to end.
+    pub status: u8,
+}

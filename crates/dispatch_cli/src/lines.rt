@@ -1,0 +1,39 @@
+ghost use Rattle.std.specs.Prelude.{◌≡◌, IfOk, [], ◌∷◌};
+ghost use Rattle.dispatch_cli.specs.Texts.{edition_line, optimal_line, infeasible_line, plan_line};
+
+use disp_model::{Event, List, Memory};
+use solution_text::write_solution;
+use std::alloc::Global;
+
+/// The line of an edition.
+pub(crate) fn edition_line(alloc: Global, number: u32) -> Result<List<u8>, Memory>
+    ensures { IfOk result (λ line. line ≡ edition_line number) }
+{
+    let text = format!(in alloc; "edition {number}\n")?;
+    Ok(List::from_vec(text.into_bytes()))
+}
+
+/// The line of an optimal cost.
+pub(crate) fn optimal_line(alloc: Global, cost: u64) -> Result<List<u8>, Memory>
+    ensures { IfOk result (λ line. line ≡ optimal_line cost) }
+{
+    let text = format!(in alloc; "optimal {cost}\n")?;
+    Ok(List::from_vec(text.into_bytes()))
+}
+
+/// The line that no plan is valid.
+pub(crate) fn infeasible_line(alloc: Global) -> Result<List<u8>, Memory>
+    ensures { IfOk result (λ line. line ≡ infeasible_line) }
+{
+    let text = String::from_str(alloc, "infeasible\n")?;
+    Ok(List::from_vec(text.into_bytes()))
+}
+
+/// The line of a plan with its cost: its solution, which is what a file of it holds too.
+pub(crate) fn plan_line(alloc: Global, plan: &[Event], cost: u64) -> Result<List<u8>, Memory>
+    ensures { IfOk result (λ line. line ≡ plan_line (plan.now, cost)) }
+{
+    let mut bytes = write_solution(alloc, plan, cost)?;
+    bytes.push(b'\n')?;
+    Ok(List::from_vec(bytes))
+}
