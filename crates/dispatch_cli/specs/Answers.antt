@@ -1,13 +1,15 @@
 -- What the program finds for words, from the files of a shelf.
-use Rattle.std.specs.Prelude.{◌≡◌, ℕ, List, [], ◌∷◌, Option, Some, None, option_map}
+use Rattle.std.specs.Prelude.{◌≡◌, ◌⊎◌, ℕ, List, [], ◌∷◌, Option, Some, None, option_map}
 use Rattle.disp_model.specs.declared.plan.Event.{Event}
+use Rattle.disp_model.specs.declared.fixing.Fixing.{Fixing}
 use Rattle.disp_model.specs.declared.entry.Mark.{Mark}
 use Rattle.disp_model.specs.declared.entry.Mark.TheVariants as mark
 use Rattle.disp_model.specs.declared.entry.Standing.{Standing}
 use Rattle.disp_model.specs.declared.problem.Problem.{Problem}
 use Rattle.disp_model.specs.History.{edition_of, last_plan, IsStanding}
 use Rattle.disp_model.specs.Legal.{IsLegal}
-use Rattle.displib_reader.specs.Outcome.{IsReadAs}
+use Rattle.solution_verifier.specs.declared.fault.Fault.{Fault}
+use Rattle.solution_verifier.specs.First.{IsRight, IsFirstFault}
 use Rattle.single_routes.specs.declared.solved.Solved.{Solved}
 use Rattle.single_routes.specs.Choices.{HasChoices}
 use Rattle.single_routes.specs.Solution.{Solves}
@@ -16,8 +18,9 @@ use Rattle.command_words.specs.declared.task.Task.TheVariants.{Solve, Verify}
 use Rattle.command_words.specs.Task.{IsTask}
 use Rattle.dispatch_cli.specs.declared.answer.Answer.{Answer}
 use Rattle.dispatch_cli.specs.declared.answer.Put.{Put}
-use Rattle.dispatch_cli.specs.Outside.{Holdings, IsFile, HoldsBytes}
-use Rattle.dispatch_cli.specs.Texts.{answer_lines, plan_line}
+use Rattle.dispatch_cli.specs.Outside.{Holdings, HoldsBytes}
+use Rattle.dispatch_cli.specs.Files.{IsProblemFile, IsSolutionFile}
+use Rattle.dispatch_cli.specs.Texts.{answer_lines, plan_line, valid_line, fault_line}
 use Rattle.dispatch_cli.specs.Journals.{journal_of, Promises}
 
 -- the status for a mark
@@ -49,15 +52,42 @@ pub record IsSolved (problem : Problem) (budget : ℕ) (plan : Option (List ℕ)
 
 -- the named file is a problem's, which is solved
 pub record AnswersSolve (holds : Holdings) (name : List ℕ) (budget : ℕ) (plan : Option (List ℕ)) (answer : Answer) : Type 0 where
-  pub bytes : List ℕ
-  pub file : IsFile holds name bytes
   pub problem : Problem
-  pub read : IsReadAs bytes problem
+  pub file : IsProblemFile holds name problem
   pub solved : IsSolved problem budget plan answer
+
+-- the plan is valid, costs so much, and a stated cost is that
+pub record SaysValid (problem : Problem) (fixings : List Fixing) (plan : List Event) (stated : Option ℕ) (status : ℕ) (lines : List (List ℕ)) : Type 0 where
+  pub cost : ℕ
+  pub right : IsRight problem fixings plan stated cost
+  pub status_is : status ≡ 0
+  pub lines_are : lines ≡ valid_line cost ∷ []
+
+-- the plan has this first fault
+pub record SaysFault (problem : Problem) (fixings : List Fixing) (plan : List Event) (stated : Option ℕ) (status : ℕ) (lines : List (List ℕ)) : Type 0 where
+  pub fault : Fault
+  pub first : IsFirstFault problem fixings plan stated fault
+  pub status_is : status ≡ 1
+  pub lines_are : lines ≡ fault_line problem fault ∷ []
+
+-- a plan with a stated cost is judged
+pub record IsJudged (problem : Problem) (fixings : List Fixing) (plan : List Event) (stated : Option ℕ) (answer : Answer) : Type 0 where
+  pub journal : answer.journal ≡ []
+  pub put : answer.put ≡ None
+  pub says : SaysValid problem fixings plan stated answer.status answer.lines ⊎ SaysFault problem fixings plan stated answer.status answer.lines
+
+-- the named files are a problem's and a solution's, which is judged
+pub record AnswersVerify (holds : Holdings) (problem_name solution_name : List ℕ) (answer : Answer) : Type 0 where
+  pub problem : Problem
+  pub problem_file : IsProblemFile holds problem_name problem
+  pub plan : List Event
+  pub stated : Option ℕ
+  pub solution_file : IsSolutionFile holds solution_name plan stated
+  pub judged : IsJudged problem [] plan stated answer
 
 abbrev pub AnswersTask : Holdings → Task → Answer → Type 0
 AnswersTask holds (Solve problem budget plan) answer = AnswersSolve holds problem budget plan answer
-AnswersTask holds (Verify problem solution) answer = ⊥
+AnswersTask holds (Verify problem solution) answer = AnswersVerify holds problem solution answer
 
 -- the words ask for a task, and this is the answer to it
 pub record IsAnswer (words : List (List ℕ)) (holds : Holdings) (answer : Answer) : Type 0 where
@@ -80,3 +110,19 @@ pub record IsDuePut (words : List (List ℕ)) (holds : Holdings) (name : List �
   pub answer : Answer
   pub is_answer : IsAnswer words holds answer
   pub under : PutsUnder name answer.put
+
+-- ---- for private clauses
+
+-- the answer is one line and a status
+pub record IsOneLine (line : List ℕ) (status : ℕ) (answer : Answer) : Type 0 where
+  pub journal : answer.journal ≡ []
+  pub put : answer.put ≡ None
+  pub lines : answer.lines ≡ line ∷ []
+  pub status_is : answer.status ≡ status
+
+-- the name's file is a solution's, which is judged
+pub record IsJudgedFile (holds : Holdings) (problem : Problem) (name : List ℕ) (answer : Answer) : Type 0 where
+  pub plan : List Event
+  pub stated : Option ℕ
+  pub file : IsSolutionFile holds name plan stated
+  pub judged : IsJudged problem [] plan stated answer

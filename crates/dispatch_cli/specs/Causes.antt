@@ -1,15 +1,17 @@
 -- What stops a run before there is an answer, and what is printed for it.
-use Rattle.std.specs.Prelude.{◌≡◌, ◌≢◌, ◌⊎◌, ℕ, ◌<◌, ◌≤◌, List, [], ◌++◌, codes, Option, Some}
+use Rattle.std.specs.Prelude.{◌≡◌, ◌≢◌, ◌⊎◌, ℕ, ◌<◌, ◌≤◌, List, [], ◌++◌, codes, Option, Some, None}
 use Rattle.disp_model.specs.declared.problem.Problem.{Problem}
 use Rattle.displib_reader.specs.declared.fault.ProblemNo.{ProblemNo}
 use Rattle.displib_reader.specs.Outcome.{IsReadAs, IsRefused}
 use Rattle.displib_reader.specs.Why.{why_text}
+use Rattle.solution_text.specs.Why as solution
+use Rattle.solution_text.specs.Reading as reading
 use Rattle.single_routes.specs.Choices.{HasChoices}
 use Rattle.command_words.specs.declared.task.Task.{Task}
 use Rattle.command_words.specs.declared.task.Task.TheVariants.{Solve, Verify}
 use Rattle.command_words.specs.Task.{IsTask, AreRefused}
 use Rattle.dispatch_cli.specs.declared.cause.Cause.{Cause}
-use Rattle.dispatch_cli.specs.declared.cause.Cause.TheVariants.{Words, Failed, TooLong, NoProblem, Choices, Memory}
+use Rattle.dispatch_cli.specs.declared.cause.Cause.TheVariants.{Words, Failed, TooLong, NoProblem, NoSolution, Choices, Memory}
 use Rattle.dispatch_cli.specs.declared.cause.Input.{Input}
 use Rattle.dispatch_cli.specs.declared.cause.Input.TheVariants as input
 use Rattle.dispatch_cli.specs.Outside.{Holdings, Counts, IsFile, HoldsTooMuch}
@@ -19,6 +21,7 @@ use Rattle.dispatch_cli.specs.Texts.{line}
 
 abbrev pub prefix_of : Input → List ℕ
 prefix_of input.Problem = codes "problem: "
+prefix_of input.Solution = codes "solution: "
 
 -- the line that is printed for a cause; for refused words it is clap's text
 abbrev pub line_of : Cause → List ℕ
@@ -26,6 +29,7 @@ line_of (Words text) = text
 line_of (Failed which) = line (prefix_of which ++ codes "Failed")
 line_of (TooLong which) = line (prefix_of which ++ codes "TooLong")
 line_of (NoProblem refusal) = line (prefix_of input.Problem ++ why_text refusal)
+line_of (NoSolution refusal) = line (prefix_of input.Solution ++ solution.why_text refusal)
 line_of Choices = line (prefix_of input.Problem ++ codes "Choices")
 line_of Memory = line (codes "memory")
 
@@ -35,6 +39,7 @@ due_line (Words text) = line_of (Words text)
 due_line (Failed which) = line_of (Failed which)
 due_line (TooLong which) = line_of (TooLong which)
 due_line (NoProblem refusal) = line_of (NoProblem refusal)
+due_line (NoSolution refusal) = line_of (NoSolution refusal)
 due_line Choices = line_of Choices
 due_line Memory = []
 
@@ -44,6 +49,7 @@ status_of (Words text) = 2
 status_of (Failed which) = 4
 status_of (TooLong which) = 2
 status_of (NoProblem refusal) = 2
+status_of (NoSolution refusal) = 2
 status_of Choices = 2
 status_of Memory = 5
 
@@ -52,7 +58,9 @@ status_of Memory = 5
 -- the name that a task gives for an input
 abbrev pub name_in : Task → Input → Option (List ℕ)
 name_in (Solve problem budget plan) input.Problem = Some problem
+name_in (Solve problem budget plan) input.Solution = None
 name_in (Verify problem solution) input.Problem = Some problem
+name_in (Verify problem solution) input.Solution = Some solution
 
 -- the file of the name is read, and its bytes are such
 pub record IsBadFile (holds : Holdings) (name : List ℕ) (Bad : List ℕ → Type 0) : Type 0 where
@@ -76,6 +84,7 @@ StopsTask holds old new task (Words text) = ⊥
 StopsTask holds old new task (Failed which) = (name : List ℕ) × (name_in task which ≡ Some name) × (old name < new name)
 StopsTask holds old new task (TooLong which) = (name : List ℕ) × (name_in task which ≡ Some name) × HoldsTooMuch holds name
 StopsTask holds old new task (NoProblem refusal) = IsBadInput holds task input.Problem (λ bytes. IsRefused bytes refusal)
+StopsTask holds old new task (NoSolution refusal) = IsBadInput holds task input.Solution (λ bytes. reading.IsRefused bytes refusal)
 StopsTask holds old new task Choices = IsBadInput holds task input.Problem IsReadWithChoices
 StopsTask holds old new task Memory = Unit {0}
 
@@ -91,6 +100,7 @@ Stops words holds old new (Words text) = AreRefused words
 Stops words holds old new (Failed which) = IsStopped words holds old new (Failed which)
 Stops words holds old new (TooLong which) = IsStopped words holds old new (TooLong which)
 Stops words holds old new (NoProblem refusal) = IsStopped words holds old new (NoProblem refusal)
+Stops words holds old new (NoSolution refusal) = IsStopped words holds old new (NoSolution refusal)
 Stops words holds old new Choices = IsStopped words holds old new Choices
 Stops words holds old new Memory = Unit {0}
 
@@ -125,14 +135,56 @@ RefusesProblem bytes (NoProblem refusal) = IsRefused bytes refusal
 RefusesProblem bytes Memory = Unit {0}
 RefusesProblem bytes _ = ⊥
 
+-- why bytes are no solution
+abbrev pub RefusesSolution : List ℕ → Cause → Type 0
+RefusesSolution bytes (NoSolution refusal) = reading.IsRefused bytes refusal
+RefusesSolution bytes Memory = Unit {0}
+RefusesSolution bytes _ = ⊥
+
+-- why there is no problem of a name
+abbrev pub StopsProblem : Holdings → Counts → Counts → List ℕ → Cause → Type 0
+StopsProblem holds old new name (Failed which) = (which ≡ input.Problem) × (old name < new name)
+StopsProblem holds old new name (TooLong which) = (which ≡ input.Problem) × HoldsTooMuch holds name
+StopsProblem holds old new name (NoProblem refusal) = IsBadFile holds name (λ bytes. IsRefused bytes refusal)
+StopsProblem holds old new name Memory = Unit {0}
+StopsProblem holds old new name _ = ⊥
+
+-- why there is no solution of a name
+abbrev pub StopsSolution : Holdings → Counts → Counts → List ℕ → Cause → Type 0
+StopsSolution holds old new name (Failed which) = (which ≡ input.Solution) × (old name < new name)
+StopsSolution holds old new name (TooLong which) = (which ≡ input.Solution) × HoldsTooMuch holds name
+StopsSolution holds old new name (NoSolution refusal) = IsBadFile holds name (λ bytes. reading.IsRefused bytes refusal)
+StopsSolution holds old new name Memory = Unit {0}
+StopsSolution holds old new name _ = ⊥
+
 -- why the problem of a file is not solved
 abbrev pub StopsSolve : Holdings → Counts → Counts → List ℕ → Cause → Type 0
 StopsSolve holds old new name (Words text) = ⊥
 StopsSolve holds old new name (Failed which) = (which ≡ input.Problem) × (old name < new name)
 StopsSolve holds old new name (TooLong which) = (which ≡ input.Problem) × HoldsTooMuch holds name
 StopsSolve holds old new name (NoProblem refusal) = IsBadFile holds name (λ bytes. IsRefused bytes refusal)
+StopsSolve holds old new name (NoSolution refusal) = ⊥
 StopsSolve holds old new name Choices = IsBadFile holds name IsReadWithChoices
 StopsSolve holds old new name Memory = Unit {0}
+
+-- the file of an input is missing, as named by the input
+abbrev pub FailsOf : Counts → Counts → List ℕ → List ℕ → Input → Type 0
+FailsOf old new problem_name solution_name input.Problem = old problem_name < new problem_name
+FailsOf old new problem_name solution_name input.Solution = old solution_name < new solution_name
+
+abbrev pub TooLongOf : Holdings → List ℕ → List ℕ → Input → Type 0
+TooLongOf holds problem_name solution_name input.Problem = HoldsTooMuch holds problem_name
+TooLongOf holds problem_name solution_name input.Solution = HoldsTooMuch holds solution_name
+
+-- why a solution is not judged
+abbrev pub StopsVerify : Holdings → Counts → Counts → List ℕ → List ℕ → Cause → Type 0
+StopsVerify holds old new problem_name solution_name (Words text) = ⊥
+StopsVerify holds old new problem_name solution_name (Failed which) = FailsOf old new problem_name solution_name which
+StopsVerify holds old new problem_name solution_name (TooLong which) = TooLongOf holds problem_name solution_name which
+StopsVerify holds old new problem_name solution_name (NoProblem refusal) = IsBadFile holds problem_name (λ bytes. IsRefused bytes refusal)
+StopsVerify holds old new problem_name solution_name (NoSolution refusal) = IsBadFile holds solution_name (λ bytes. reading.IsRefused bytes refusal)
+StopsVerify holds old new problem_name solution_name Choices = ⊥
+StopsVerify holds old new problem_name solution_name Memory = Unit {0}
 
 -- a reading failed
 abbrev pub IsReadingFault : Cause → Type 0

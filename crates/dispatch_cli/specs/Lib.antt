@@ -1,4 +1,5 @@
 pub mod Outside
+pub mod Files
 pub mod Texts
 pub mod Journals
 pub mod Solving

@@ -1,5 +1,5 @@
 -- The outside as the program sees it at one moment.
-use Rattle.std.specs.Prelude.{◌≡◌, ℕ, ◌<◌, ◌≤◌, List, length, Option, Some, IfSome, IsSomeAnd}
+use Rattle.std.specs.Prelude.{◌≡◌, ◌≢◌, ℕ, ◌<◌, ◌≤◌, List, length, Option, Some, IfSome, IsSomeAnd}
 use Rattle.std.specs.Io.KnownBytes.{append_known}
 use Rattle.disp_model.specs.declared.limits.TheConstants.{MOST_FILE_BYTES}
 
@@ -40,3 +40,19 @@ pub record IsFile (holds : Holdings) (name bytes : List ℕ) : Type 0 where
 -- all of the text went out
 abbrev pub Writes : Option (List ℕ) → Option (List ℕ) → List ℕ → Type 0
 Writes old new text = new ≡ append_known old text
+
+-- one name was read: its count does not fall, and where it rises there is a fault; all else stays
+pub record ReadsOne (name : List ℕ) (old new : Counts) (old_puts new_puts : Counts) (old_holds new_holds : Holdings) (Fault : Type 0) : Type 0 where
+  pub counted : old name ≤ new name
+  pub fault : old name < new name → Fault
+  pub others : (other : List ℕ) → other ≢ name → new other ≡ old other
+  pub puttings : (other : List ℕ) → new_puts other ≡ old_puts other
+  pub held : (other : List ℕ) → new_holds other ≡ old_holds other
+
+-- two names were read: no count falls, and where one rises there is a fault; all else stays
+pub record ReadsTwo (one two : List ℕ) (old new : Counts) (old_puts new_puts : Counts) (old_holds new_holds : Holdings) (Fault : Type 0) : Type 0 where
+  pub counted : (name : List ℕ) → old name ≤ new name
+  pub fault : (name : List ℕ) → old name < new name → Fault
+  pub others : (other : List ℕ) → other ≢ one → other ≢ two → new other ≡ old other
+  pub puttings : (other : List ℕ) → new_puts other ≡ old_puts other
+  pub held : (other : List ℕ) → new_holds other ≡ old_holds other

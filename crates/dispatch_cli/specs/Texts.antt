@@ -5,7 +5,10 @@ use Rattle.disp_model.specs.declared.plan.Event.{Event}
 use Rattle.disp_model.specs.declared.entry.Mark.{Mark}
 use Rattle.disp_model.specs.declared.entry.Mark.TheVariants.{Working, Optimal, Infeasible, Stopped}
 use Rattle.disp_model.specs.declared.entry.Standing.{Standing}
+use Rattle.disp_model.specs.declared.problem.Problem.{Problem}
 use Rattle.solution_text.specs.Texts.{solution_text}
+use Rattle.solution_verifier.specs.declared.fault.Fault.{Fault}
+use Rattle.solution_verifier.specs.FaultText.{fault_text}
 
 -- a text and the end of its line
 abbrev pub line : List ℕ → List ℕ
@@ -44,3 +47,11 @@ answer_lines standing plan Working = []
 answer_lines standing plan (Optimal cost) = edition_line standing.edition ∷ optimal_line cost ∷ plan_lines plan
 answer_lines standing plan Infeasible = edition_line standing.edition ∷ infeasible_line ∷ []
 answer_lines standing plan (Stopped spent bound) = edition_line standing.edition ∷ unfinished_line standing.best bound spent ∷ plan_lines plan
+
+-- the line for a plan that is valid, with its cost
+abbrev pub valid_line : ℕ → List ℕ
+valid_line cost = line (codes "valid " ++ decimal cost)
+
+-- the line for a plan's fault
+abbrev pub fault_line : Problem → Fault → List ℕ
+fault_line problem fault = line (fault_text problem fault)

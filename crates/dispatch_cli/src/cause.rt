@@ -1,15 +1,17 @@
 ghost use Rattle.std.specs.Prelude.{◌≡◌, IfOk, string_bytes};
-ghost use Rattle.dispatch_cli.specs.declared.cause.Cause.TheVariants.{NoProblem};
+ghost use Rattle.dispatch_cli.specs.declared.cause.Cause.TheVariants.{NoProblem, NoSolution};
 ghost use Rattle.dispatch_cli.specs.Causes.{prefix_of, line_of, status_of};
 
 use disp_model::{Memory, Text};
 use displib_reader::ProblemNo;
+use solution_text::SolutionNo;
 use std::alloc::Global;
 
 /// A file that the words give to be read.
 #[derive(Clone, Copy, Debug, PartialEq, Eq)]
 pub enum Input {
     Problem,
+    Solution,
 }
 
 /// What stops a run before there is an answer.
@@ -23,6 +25,8 @@ pub enum Cause {
     TooLong(Input),
     /// The file is no problem.
     NoProblem(ProblemNo),
+    /// The file is no solution.
+    NoSolution(SolutionNo),
     /// The problem has choices: an operation has two successors, or two trains list one resource.
     Choices,
     /// Memory ran out.
@@ -36,6 +40,7 @@ impl Input {
     {
         match self {
             Input::Problem => "problem: ",
+            Input::Solution => "solution: ",
         }
     }
 }
@@ -45,6 +50,16 @@ fn problem_line(alloc: Global, no: &ProblemNo) -> Result<String, Memory>
     ensures { IfOk result (λ text. string_bytes text ≡ line_of (NoProblem no.now)) }
 {
     let mut text = String::from_str(alloc, "problem: ")?;
+    no.write(&mut text)?;
+    text.push_str("\n")?;
+    Ok(text)
+}
+
+/// The line for a solution that is refused.
+fn solution_line(alloc: Global, no: &SolutionNo) -> Result<String, Memory>
+    ensures { IfOk result (λ text. string_bytes text ≡ line_of (NoSolution no.now)) }
+{
+    let mut text = String::from_str(alloc, "solution: ")?;
     no.write(&mut text)?;
     text.push_str("\n")?;
     Ok(text)
@@ -60,6 +75,7 @@ impl Cause {
             Cause::Failed(which) => Ok(format!(in alloc; "{}Failed\n", which.prefix())?),
             Cause::TooLong(which) => Ok(format!(in alloc; "{}TooLong\n", which.prefix())?),
             Cause::NoProblem(no) => problem_line(alloc, no),
+            Cause::NoSolution(no) => solution_line(alloc, no),
             Cause::Choices => Ok(String::from_str(alloc, "problem: Choices\n")?),
             Cause::Memory => Ok(String::from_str(alloc, "memory\n")?),
         }
@@ -70,7 +86,11 @@ impl Cause {
         ensures { result ≡ status_of self.now }
     {
         match self {
-            Cause::Words(_) | Cause::TooLong(_) | Cause::NoProblem(_) | Cause::Choices => 2,
+            Cause::Words(_)
+            | Cause::TooLong(_)
+            | Cause::NoProblem(_)
+            | Cause::NoSolution(_)
+            | Cause::Choices => 2,
             Cause::Failed(_) => 4,
             Cause::Memory => 5,
         }

@@ -1,17 +1,20 @@
-ghost use Rattle.std.specs.Prelude.{◌≡◌, ◌≢◌, ◌≤◌, ◌<◌, ℕ, List, IfOk, IfErr, MatchResult, Err};
-ghost use Rattle.displib_reader.specs.Outcome.{IsReadAs, IsRefused};
+ghost use Rattle.std.specs.Prelude.{◌≡◌, IfOk, IfErr, IsErrAnd, MatchResult, Err};
+ghost use Rattle.displib_reader.specs.Outcome.{IsReadAs};
+ghost use Rattle.solution_text.specs.Reading as reading;
 ghost use Rattle.dispatch_cli.specs.declared.cause.Cause.TheVariants.{Failed};
-ghost use Rattle.dispatch_cli.specs.Outside.{IsFile};
-ghost use Rattle.dispatch_cli.specs.Causes.{Misses, RefusesProblem};
+ghost use Rattle.dispatch_cli.specs.Outside.{IsFile, ReadsOne};
+ghost use Rattle.dispatch_cli.specs.Causes.{Misses, RefusesProblem, RefusesSolution, StopsProblem, StopsSolution, IsReadingFault};
+ghost use Rattle.dispatch_cli.specs.Files.{IsProblemFile, IsSolutionFile};
 
 use crate::cause::{Cause, Input};
-use disp_model::{MOST_FILE_BYTES, Problem};
+use disp_model::{MOST_FILE_BYTES, Plan, Problem};
 use disp_outside::{FetchNo, Shelf};
 use displib_reader::{ProblemNo, read_problem};
+use solution_text::{SolutionNo, read_solution};
 use std::alloc::Global;
 
 /// The bytes of a file.
-pub(crate) fn fetch<S: Shelf>(
+fn fetch<S: Shelf>(
     alloc: Global,
     shelf: &mut S,
     which: Input,
@@ -19,12 +22,7 @@ pub(crate) fn fetch<S: Shelf>(
 ) -> Result<Vec<u8>, Cause>
     ensures file { IfOk result (λ bytes. IsFile (S.holds shelf.old) name.now bytes.items) }
     ensures no { IfErr result (Misses (S.holds shelf.old) (S.reading_faults shelf.old) (S.reading_faults shelf.new) which name.now) }
-
-    ensures counted { S.reading_faults shelf.old name.now ≤ S.reading_faults shelf.new name.now }
-    ensures failed { S.reading_faults shelf.old name.now < S.reading_faults shelf.new name.now → result ≡ Err (Failed which) }
-    ensures others { (other : List ℕ) → other ≢ name.now → S.reading_faults shelf.new other ≡ S.reading_faults shelf.old other }
-    ensures puttings { (other : List ℕ) → S.putting_faults shelf.new other ≡ S.putting_faults shelf.old other }
-    ensures held { (other : List ℕ) → S.holds shelf.new other ≡ S.holds shelf.old other }
+    ensures reads { ReadsOne name.now (S.reading_faults shelf.old) (S.reading_faults shelf.new) (S.putting_faults shelf.old) (S.putting_faults shelf.new) (S.holds shelf.old) (S.holds shelf.new) (result ≡ Err (Failed which)) }
 {
     match shelf.fetch(alloc, name, MOST_FILE_BYTES) {
         Ok(bytes) => Ok(bytes),
@@ -35,7 +33,7 @@ pub(crate) fn fetch<S: Shelf>(
 }
 
 /// The problem of a file's bytes.
-pub(crate) fn problem_of(alloc: Global, bytes: &[u8]) -> Result<Problem, Cause>
+fn problem_of(alloc: Global, bytes: &[u8]) -> Result<Problem, Cause>
     ensures { MatchResult result (IsReadAs bytes.now) (RefusesProblem bytes.now) }
 {
     match read_problem(alloc, bytes) {
@@ -43,4 +41,43 @@ pub(crate) fn problem_of(alloc: Global, bytes: &[u8]) -> Result<Problem, Cause>
         Err(ProblemNo::Memory) => Err(Cause::Memory),
         Err(no) => Err(Cause::NoProblem(no)),
     }
+}
+
+/// The plan and the stated cost of a file's bytes.
+fn solution_of(alloc: Global, bytes: &[u8]) -> Result<(Plan, Option<u64>), Cause>
+    ensures { MatchResult result (λ r. reading.IsReadAs bytes.now r.0 r.1) (RefusesSolution bytes.now) }
+{
+    match read_solution(alloc, bytes) {
+        Ok(solution) => Ok(solution),
+        Err(SolutionNo::Memory) => Err(Cause::Memory),
+        Err(no) => Err(Cause::NoSolution(no)),
+    }
+}
+
+/// The problem of a file.
+pub(crate) fn problem_file<S: Shelf>(
+    alloc: Global,
+    shelf: &mut S,
+    name: &str,
+) -> Result<Problem, Cause>
+    ensures ok { IfOk result (IsProblemFile (S.holds shelf.old) name.now) }
+    ensures no { IfErr result (StopsProblem (S.holds shelf.old) (S.reading_faults shelf.old) (S.reading_faults shelf.new) name.now) }
+    ensures reads { ReadsOne name.now (S.reading_faults shelf.old) (S.reading_faults shelf.new) (S.putting_faults shelf.old) (S.putting_faults shelf.new) (S.holds shelf.old) (S.holds shelf.new) (IsErrAnd result IsReadingFault) }
+{
+    let bytes = fetch(alloc, shelf, Input::Problem, name)?;
+    problem_of(alloc, &bytes)
+}
+
+/// The plan and the stated cost of a file.
+pub(crate) fn solution_file<S: Shelf>(
+    alloc: Global,
+    shelf: &mut S,
+    name: &str,
+) -> Result<(Plan, Option<u64>), Cause>
+    ensures ok { IfOk result (λ r. IsSolutionFile (S.holds shelf.old) name.now r.0 r.1) }
+    ensures no { IfErr result (StopsSolution (S.holds shelf.old) (S.reading_faults shelf.old) (S.reading_faults shelf.new) name.now) }
+    ensures reads { ReadsOne name.now (S.reading_faults shelf.old) (S.reading_faults shelf.new) (S.putting_faults shelf.old) (S.putting_faults shelf.new) (S.holds shelf.old) (S.holds shelf.new) (IsErrAnd result IsReadingFault) }
+{
+    let bytes = fetch(alloc, shelf, Input::Solution, name)?;
+    solution_of(alloc, &bytes)
 }

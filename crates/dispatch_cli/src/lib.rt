@@ -9,6 +9,7 @@ mod cause;
 mod done;
 mod input;
 mod journal;
+mod judge;
 mod lines;
 mod print;
 mod program;

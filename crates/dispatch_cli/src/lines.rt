@@ -1,8 +1,9 @@
 ghost use Rattle.std.specs.Prelude.{◌≡◌, IfOk, [], ◌∷◌};
-ghost use Rattle.dispatch_cli.specs.Texts.{edition_line, optimal_line, infeasible_line, plan_line};
+ghost use Rattle.dispatch_cli.specs.Texts.{edition_line, optimal_line, infeasible_line, plan_line, valid_line, fault_line};
 
-use disp_model::{Event, List, Memory};
+use disp_model::{Event, List, Memory, Problem};
 use solution_text::write_solution;
+use solution_verifier::Fault;
 use std::alloc::Global;
 
 /// The line of an edition.
@@ -36,4 +37,22 @@ pub(crate) fn plan_line(alloc: Global, plan: &[Event], cost: u64) -> Result<List
     let mut bytes = write_solution(alloc, plan, cost)?;
     bytes.push(b'\n')?;
     Ok(List::from_vec(bytes))
+}
+
+/// The line of a valid plan's cost.
+pub(crate) fn valid_line(alloc: Global, cost: u128) -> Result<List<u8>, Memory>
+    ensures { IfOk result (λ line. line ≡ valid_line cost) }
+{
+    let text = format!(in alloc; "valid {cost}\n")?;
+    Ok(List::from_vec(text.into_bytes()))
+}
+
+/// The line of a plan's fault.
+pub(crate) fn fault_line(alloc: Global, problem: &Problem, fault: &Fault) -> Result<List<u8>, Memory>
+    ensures { IfOk result (λ line. line ≡ fault_line problem.now fault.now) }
+{
+    let mut text = String::new(alloc);
+    fault.write(problem, &mut text)?;
+    text.push_str("\n")?;
+    Ok(List::from_vec(text.into_bytes()))
 }

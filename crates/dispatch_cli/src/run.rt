@@ -1,14 +1,16 @@
-ghost use Rattle.std.specs.Prelude.{◌≡◌, ◌≢◌, ◌≤◌, ◌<◌, ℕ, List, IfOk, IfErr, IsErrAnd, map, option_map, string_bytes};
+ghost use Rattle.std.specs.Prelude.{◌≡◌, ◌<◌, ℕ, List, IfOk, IfErr, IsErrAnd, map, option_map, string_bytes};
 ghost use Rattle.command_words.specs.Task.{IsTask};
-ghost use Rattle.dispatch_cli.specs.Answers.{IsAnswer, AnswersTask, AnswersSolve};
-ghost use Rattle.dispatch_cli.specs.Causes.{RefusesWords, Stops, StopsTask, StopsSolve, IsReadingFault, IsAnswerStatus, CountsReading, CountsTask};
+ghost use Rattle.dispatch_cli.specs.Outside.{ReadsOne, ReadsTwo};
+ghost use Rattle.dispatch_cli.specs.Answers.{IsAnswer, AnswersTask, AnswersSolve, AnswersVerify, IsJudgedFile};
+ghost use Rattle.dispatch_cli.specs.Causes.{RefusesWords, Stops, StopsTask, StopsSolve, StopsSolution, StopsVerify, IsReadingFault, IsAnswerStatus, CountsReading, CountsTask};
 
 use crate::answer::Answer;
-use crate::cause::{Cause, Input};
-use crate::input::{fetch, problem_of};
+use crate::cause::Cause;
+use crate::input::{problem_file, solution_file};
+use crate::judge::judge;
 use crate::solve::solve;
 use command_words::{Task, WordsNo, read_words};
-use disp_model::Text;
+use disp_model::{Problem, Text};
 use disp_outside::Shelf;
 use std::alloc::Global;
 
@@ -34,16 +36,42 @@ fn run_solve<S: Shelf>(
     ensures ok { IfOk result (λ answer. (budget : ℕ) → AnswersSolve (S.holds shelf.old) problem.now budget (option_map (λ name. name.now) plan.entry) answer) }
     ensures no { IfErr result (StopsSolve (S.holds shelf.old) (S.reading_faults shelf.old) (S.reading_faults shelf.new) problem.now) }
     ensures status { IfOk result (λ answer. IsAnswerStatus answer.status) }
-
-    ensures counted { S.reading_faults shelf.old problem.now ≤ S.reading_faults shelf.new problem.now }
-    ensures failed { S.reading_faults shelf.old problem.now < S.reading_faults shelf.new problem.now → IsErrAnd result IsReadingFault }
-    ensures others { (other : List ℕ) → other ≢ problem.now → S.reading_faults shelf.new other ≡ S.reading_faults shelf.old other }
-    ensures puttings { (other : List ℕ) → S.putting_faults shelf.new other ≡ S.putting_faults shelf.old other }
-    ensures held { (other : List ℕ) → S.holds shelf.new other ≡ S.holds shelf.old other }
+    ensures reads { ReadsOne problem.now (S.reading_faults shelf.old) (S.reading_faults shelf.new) (S.putting_faults shelf.old) (S.putting_faults shelf.new) (S.holds shelf.old) (S.holds shelf.new) (IsErrAnd result IsReadingFault) }
 {
-    let bytes = fetch(alloc, shelf, Input::Problem, problem.as_str())?;
-    let problem = problem_of(alloc, &bytes)?;
+    let problem = problem_file(alloc, shelf, problem.as_str())?;
     solve(alloc, &problem, plan)
+}
+
+/// Judges the solution of a file.
+fn judge_file<S: Shelf>(
+    alloc: Global,
+    shelf: &mut S,
+    problem: &Problem,
+    solution: &str,
+) -> Result<Answer, Cause>
+    ensures ok { IfOk result (IsJudgedFile (S.holds shelf.old) problem.now solution.now) }
+    ensures no { IfErr result (StopsSolution (S.holds shelf.old) (S.reading_faults shelf.old) (S.reading_faults shelf.new) solution.now) }
+    ensures status { IfOk result (λ answer. IsAnswerStatus answer.status) }
+    ensures reads { ReadsOne solution.now (S.reading_faults shelf.old) (S.reading_faults shelf.new) (S.putting_faults shelf.old) (S.putting_faults shelf.new) (S.holds shelf.old) (S.holds shelf.new) (IsErrAnd result IsReadingFault) }
+{
+    let (plan, stated) = solution_file(alloc, shelf, solution)?;
+    Ok(judge(alloc, problem, &plan, stated)?)
+}
+
+/// Judges the solution of a file for the problem of another.
+fn run_verify<S: Shelf>(
+    alloc: Global,
+    shelf: &mut S,
+    problem: &Text,
+    solution: &Text,
+) -> Result<Answer, Cause>
+    ensures ok { IfOk result (AnswersVerify (S.holds shelf.old) problem.now solution.now) }
+    ensures no { IfErr result (StopsVerify (S.holds shelf.old) (S.reading_faults shelf.old) (S.reading_faults shelf.new) problem.now solution.now) }
+    ensures status { IfOk result (λ answer. IsAnswerStatus answer.status) }
+    ensures reads { ReadsTwo problem.now solution.now (S.reading_faults shelf.old) (S.reading_faults shelf.new) (S.putting_faults shelf.old) (S.putting_faults shelf.new) (S.holds shelf.old) (S.holds shelf.new) (IsErrAnd result IsReadingFault) }
+{
+    let problem = problem_file(alloc, shelf, problem.as_str())?;
+    judge_file(alloc, shelf, &problem, solution.as_str())
 }
 
 /// Does what a task asks for.
@@ -59,7 +87,7 @@ fn run_task<S: Shelf>(alloc: Global, shelf: &mut S, task: &Task) -> Result<Answe
 {
     match task {
         Task::Solve { problem, plan, .. } => run_solve(alloc, shelf, problem, plan.as_ref()),
-        Task::Verify { .. } => Err(Cause::Memory),
+        Task::Verify { problem, solution } => run_verify(alloc, shelf, problem, solution),
     }
 }
 

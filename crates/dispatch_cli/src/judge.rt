@@ -1,0 +1,39 @@
+ghost use Rattle.std.specs.Prelude.{◌≡◌, IfOk, [], Option};
+ghost use Rattle.dispatch_cli.specs.Answers.{IsJudged, IsOneLine};
+ghost use Rattle.dispatch_cli.specs.Causes.{IsAnswerStatus};
+
+use crate::answer::Answer;
+use crate::lines::{fault_line, valid_line};
+use disp_model::{List, Memory, Plan, Problem};
+use solution_verifier::verify;
+use std::alloc::Global;
+
+/// An answer of one line.
+fn one_line(alloc: Global, line: List<u8>, status: u8) -> Result<Answer, Memory>
+    ensures { IfOk result (λ answer. IsOneLine line status answer) }
+{
+    let mut lines = List::new(alloc);
+    lines.push(line)?;
+    Ok(Answer {
+        journal: List::new(alloc),
+        put: None,
+        lines,
+        status,
+    })
+}
+
+/// The answer to a plan with its stated cost.
+pub(crate) fn judge(
+    alloc: Global,
+    problem: &Problem,
+    plan: &Plan,
+    stated: Option<u64>,
+) -> Result<Answer, Memory>
+    ensures ok { IfOk result (IsJudged problem.now [] plan.now stated) }
+    ensures status { IfOk result (λ answer. IsAnswerStatus answer.status) }
+{
+    match verify(problem, &[], plan, stated) {
+        Ok(cost) => one_line(alloc, valid_line(alloc, cost)?, 0),
+        Err(fault) => one_line(alloc, fault_line(alloc, problem, &fault)?, 1),
+    }
+}
