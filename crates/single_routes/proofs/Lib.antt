@@ -12,3 +12,4 @@ pub mod Running
 pub mod Planned
 pub mod Costed
 pub mod Answered
+pub mod Small
