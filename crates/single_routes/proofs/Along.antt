@@ -1,6 +1,6 @@
 -- The events along routes: the run of each train, its order, and its operations.
-use Rattle.std.proofs.Common.{◌≡◌, ℕ, zero, suc, ◌+◌, ◌<◌, ◌≤◌, List, [], ◌∷◌, ◌++◌, length, get_or, map, max, cond, false, Some, None, refl, sym, ap, subst, ◌∙◌, arith, inl, inr, append-nil, zero-add}
-use Rattle.std.specs.Prelude.{nat_eq, nat_le, slice_get}
+use Rattle.std.proofs.Common.{◌≡◌, ℕ, zero, suc, ◌+◌, ◌<◌, List, [], ◌∷◌, length, get_or, map, max, cond, false, refl, ap, subst, ◌∙◌, arith, append-nil, zero-add}
+use Rattle.std.specs.Prelude.{nat_eq, nat_le}
 use Rattle.std.specs.List.Sorted.{IsSortedBy}
 use Rattle.std.proofs.lemmas.Bool.{ne_eqb, eq-eqb}
 use Rattle.std.proofs.lemmas.List.Elements.{filter-append}
@@ -9,7 +9,6 @@ use Rattle.disp_model.specs.declared.train.Operation.{Operation}
 use Rattle.disp_model.specs.Train.{duration_of}
 use Rattle.disp_model.specs.Plan.{run_of}
 use Rattle.disp_model.proofs.Runs.{Spaced}
-use Rattle.single_routes.specs.declared.stop.Stop.{Stop}
 use Rattle.single_routes.specs.Earliest.{lower_in, run_along, events_along}
 use Rattle.single_routes.specs.Stops.{stops_along, event_at}
 use Rattle.single_routes.proofs.Ordered.{comes_before, not_before, sorted_more, sorted_one, sorted_none}

@@ -1,6 +1,6 @@
 -- What is answered solves the problem.
-use Rattle.std.proofs.Common.{◌≡◌, ℕ, ◌+◌, ◌<◌, ◌≤◌, List, [], ◌∷◌, length, get_or, Some, refl, sym, ap, subst, ◌∙◌, arith, inl, inr}
-use Rattle.std.specs.Prelude.{slice_get, All, sum_by}
+use Rattle.std.proofs.Common.{◌≡◌, ℕ, ◌<◌, List, [], ◌∷◌, length, get_or, sym, subst, ◌∙◌, arith, inr}
+use Rattle.std.specs.Prelude.{All, sum_by}
 use Rattle.disp_model.specs.declared.train.Op.{Op}
 use Rattle.disp_model.specs.declared.plan.Event.{Event}
 use Rattle.disp_model.specs.declared.tree.ComponentWalk.{ComponentWalk}
@@ -10,7 +10,7 @@ use Rattle.disp_model.specs.declared.tree.TreeNode.{TreeNode}
 use Rattle.disp_model.specs.declared.tree.TreeNode.TheVariants.{Leaf}
 use Rattle.disp_model.specs.declared.tree.Verdict.TheVariants as verdict
 use Rattle.disp_model.specs.declared.problem.Problem.{Problem}
-use Rattle.disp_model.specs.Cost.{cost_of, IsLeast, IsInfeasible}
+use Rattle.disp_model.specs.Cost.{cost_of}
 use Rattle.disp_model.specs.Walks.{IsWalk, EndsIn}
 use Rattle.disp_model.specs.Trees.{IsLateWalk, Accepts, FitsOp, FitsLeaf, FitsNode}
 use Rattle.disp_model.proofs.TreesYes.{tree_says}
@@ -21,6 +21,7 @@ use Rattle.single_routes.specs.Solution.{IsBest, IsNone}
 use Rattle.single_routes.specs.Stops.{AreRuns, AreInTime, IsLateIn, AreWalksFrom, walk_between, cost_in_runs, events_of}
 use Rattle.single_routes.proofs.Walked.{op, walk_is_walk, walk_ends}
 use Rattle.single_routes.proofs.Planned.{earliest_plan, plan_valid}
+use Rattle.single_routes.proofs.EarliestStarts.{is_earliest}
 use Rattle.single_routes.proofs.Costed.{reached, times_within, plan_costs, costs_fit, walks_cost, walk_numbers, walks_count, walks_distinct, walk_fits, walks_fit}
 
 one_fits : (leaf : TreeLeaf) → FitsLeaf leaf → All FitsNode (Leaf leaf ∷ [])
@@ -41,6 +42,7 @@ best_made problem runs plan cost walks tree single are in_time order total made 
     let count : length walks ≡ length problem.components = walks_count 0 runs problem.components walks made in
     record {
       earliest = earliest_plan problem runs plan are order;
+      by_walks = is_earliest problem runs plan single are valid (earliest_plan problem runs plan are order) order;
       valid = valid;
       costs = costs;
       least = record { reached = (plan, valid, costs); none_below = λ other is_valid. tree_says problem [] other (verdict.Optimal cost) (Leaf (Costs walks) ∷ []) is_valid accepted };

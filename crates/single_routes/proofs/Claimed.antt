@@ -1,9 +1,9 @@
 -- Forks and meetings, found in the lists of trains and claims.
-use Rattle.std.proofs.Common.{◌≡◌, ◌≢◌, ℕ, zero, suc, ◌+◌, ◌<◌, ◌≤◌, List, [], ◌∷◌, ◌++◌, length, get_or, map, Some, None, Bool, true, false, cond, refl, sym, ap, subst, ◌∙◌, arith, inl, inr}
-use Rattle.std.specs.Prelude.{nat_eq, slice_get, Contains, All, ◌⊎◌, filter}
-use Rattle.std.specs.List.{list_any, flat_map, AllByRecursion}
+use Rattle.std.proofs.Common.{◌≡◌, ◌≢◌, ℕ, zero, suc, ◌+◌, ◌<◌, ◌≤◌, List, [], ◌∷◌, ◌++◌, length, get_or, true, refl, sym, ap, subst, ◌∙◌, arith, inl, inr}
+use Rattle.std.specs.Prelude.{nat_eq, slice_get, Contains, All, ◌⊎◌}
+use Rattle.std.specs.List.{list_any}
 use Rattle.std.specs.Option.{option_map_or}
-use Rattle.std.proofs.lemmas.Bool.{cases_Bool, cases_lt, eqb-true, eqb-false, eq-eqb, false≢true}
+use Rattle.std.proofs.lemmas.Bool.{cases_Bool, cases_lt, eqb-true, eq-eqb, false≢true}
 use Rattle.std.proofs.lemmas.List.Elements.{All-head, All-tail, All-cons, All-contains, Contains-get_or}
 use Rattle.std.proofs.lemmas.List.Concat.{flat_map-cons}
 use Rattle.disp_model.specs.declared.train.Op.{Op}
@@ -12,7 +12,7 @@ use Rattle.disp_model.specs.declared.train.Operation.{Operation}
 use Rattle.disp_model.specs.declared.problem.Problem.{Problem}
 use Rattle.disp_model.specs.Train.{next_of}
 use Rattle.disp_model.specs.Valid.{train_at}
-use Rattle.disp_model.specs.Arcs.{Conflicts, listings_of, shared_listings}
+use Rattle.disp_model.specs.Arcs.{listings_of, shared_listings}
 use Rattle.single_routes.specs.declared.choices.Claim.{Claim}
 use Rattle.single_routes.specs.Choices.{HasFork, HasMeeting, HasChoices}
 use Rattle.single_routes.specs.Stops.{IsStraight, listing_claims, train_claims, claims_from, HasClash}
@@ -77,12 +77,12 @@ of_in x [] h = absurd h
 of_in x (y ∷ xs) (inl e) = (0, omega arith, e)
 of_in x (y ∷ xs) (inr h) = let c = of_in x xs h in (suc c.0, omega (arith, c.1), c.2)
 
-in_left : {X : Type 0} (x : X) (xs ys : List X) → In x xs → In x (xs ++ ys)
+pub in_left : {X : Type 0} (x : X) (xs ys : List X) → In x xs → In x (xs ++ ys)
 in_left x [] ys h = absurd h
 in_left x (y ∷ xs) ys (inl e) = inl e
 in_left x (y ∷ xs) ys (inr h) = inr (in_left x xs ys h)
 
-in_right : {X : Type 0} (x : X) (xs ys : List X) → In x ys → In x (xs ++ ys)
+pub in_right : {X : Type 0} (x : X) (xs ys : List X) → In x ys → In x (xs ++ ys)
 in_right x [] ys h = h
 in_right x (y ∷ xs) ys h = inr (in_right x xs ys h)
 

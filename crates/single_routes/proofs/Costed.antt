@@ -1,6 +1,6 @@
 -- Walks to the stops of runs: what they show, that they stay within the horizon, and what components cost.
-use Rattle.std.proofs.Common.{◌≡◌, ℕ, zero, suc, ◌+◌, ◌-◌, ◌*◌, ◌<◌, ◌≤◌, List, [], ◌∷◌, ◌++◌, length, get_or, map, take, drop, Option, Some, None, refl, sym, ap, subst, ◌∙◌, arith, inl, inr, mul-le-mul_left}
-use Rattle.std.specs.Prelude.{slice_get, slice_index, slice_index_or, All, Contains, sum_by}
+use Rattle.std.proofs.Common.{◌≡◌, ℕ, zero, suc, ◌+◌, ◌-◌, ◌*◌, ◌<◌, ◌≤◌, List, [], ◌∷◌, length, get_or, map, take, drop, Option, Some, refl, sym, ap, subst, ◌∙◌, arith, inl, inr, mul-le-mul_left}
+use Rattle.std.specs.Prelude.{slice_get, slice_index, All, Contains, sum_by}
 use Rattle.std.specs.Option.{option_map_or}
 use Rattle.std.specs.List.{AllByRecursion}
 use Rattle.std.proofs.lemmas.Bool.{cases_lt, le-leb, lt-leb}
@@ -14,14 +14,14 @@ use Rattle.disp_model.specs.declared.train.Operation.{Operation}
 use Rattle.disp_model.specs.declared.train.Component.{Component}
 use Rattle.disp_model.specs.declared.tree.ComponentWalk.{ComponentWalk}
 use Rattle.disp_model.specs.declared.problem.Problem.{Problem}
-use Rattle.disp_model.specs.declared.limits.TheConstants.{GREATEST_COST, GREATEST_NUMBER, MOST_TRAINS, MOST_OPERATIONS, MOST_COMPONENTS}
+use Rattle.disp_model.specs.declared.limits.TheConstants.{GREATEST_COST, MOST_COMPONENTS}
 use Rattle.disp_model.specs.WellFormed.{horizon, most_of, IsComponent}
 use Rattle.disp_model.specs.Plan.{start_of}
-use Rattle.disp_model.specs.Valid.{train_at, IsValid}
+use Rattle.disp_model.specs.Valid.{IsValid}
 use Rattle.disp_model.specs.Cost.{cost_at, cost_in, cost_of}
 use Rattle.disp_model.specs.Follows.{Follows}
 use Rattle.disp_model.specs.Replies.{IsEdition}
-use Rattle.disp_model.specs.Walks.{IsWalk, EndsIn, HasCycle}
+use Rattle.disp_model.specs.Walks.{IsWalk, EndsIn}
 use Rattle.disp_model.specs.Trees.{WalkCosts, WalksCost, HaveDistinct, FitsOp, FitsWalk}
 use Rattle.disp_model.proofs.Branching.{IsStartedAt}
 use Rattle.disp_model.proofs.WalksHold.{no_cycle}
@@ -31,11 +31,11 @@ use Rattle.single_routes.specs.declared.stop.Stop.{Stop}
 use Rattle.single_routes.specs.declared.run.Run.{Run}
 use Rattle.single_routes.specs.Choices.{HasChoices}
 use Rattle.single_routes.specs.Earliest.{IsInOrder}
-use Rattle.single_routes.specs.Stops.{ops_of, walk_between, IsRun, AreRuns, AreInTime, IsWalkTo, IsComponentWalk, AreWalksFrom, stop_in, cost_in_runs, event_at, events_of}
-use Rattle.single_routes.proofs.Claimed.{In, of_in}
-use Rattle.single_routes.proofs.Running.{ops_within}
+use Rattle.single_routes.specs.Stops.{ops_of, walk_between, IsRun, AreRuns, IsComponentWalk, AreWalksFrom, stop_in, cost_in_runs, event_at, events_of}
+use Rattle.single_routes.proofs.Claimed.{In, of_in, in_left, in_right}
+use Rattle.single_routes.proofs.Running.{ops_within, some_run}
 use Rattle.single_routes.proofs.Walked.{op, IsReached, stop_reached, walk_is_walk, walk_ends}
-use Rattle.single_routes.proofs.Planned.{plan_valid}
+use Rattle.single_routes.proofs.Planned.{all_append}
 
 -- ---- the run of a train, and its walks
 
@@ -51,30 +51,17 @@ reached problem runs t run k s single are found there =
 
 -- ---- the events of the runs
 
-all_append : {X : Type 0} (P : X → Type 0) (xs ys : List X) → AllByRecursion P xs → AllByRecursion P ys → AllByRecursion P (xs ++ ys)
-all_append P [] ys a b = b
-all_append P (x ∷ xs) ys a b = (a.0, all_append P xs ys a.1 b)
-
 all_stops : (P : Event → Type 0) (t : ℕ) (stops : List Stop) → ((k : ℕ) (s : Stop) → slice_get stops k ≡ Some s → P (event_at t s)) → AllByRecursion P (map (event_at t) stops)
 all_stops P t [] each = tt
 all_stops P t (s ∷ stops) each = (each 0 s refl, all_stops P t stops (λ k x found. each (suc k) x found))
 
-all_events : (P : Event → Type 0) (u : ℕ) (runs : List Run) → ((j : ℕ) (run : Run) (k : ℕ) (s : Stop) → slice_get runs j ≡ Some run → slice_get run.stops.items k ≡ Some s → P (event_at (u + j) s)) → AllByRecursion P (events_of u runs)
+pub all_events : (P : Event → Type 0) (u : ℕ) (runs : List Run) → ((j : ℕ) (run : Run) (k : ℕ) (s : Stop) → slice_get runs j ≡ Some run → slice_get run.stops.items k ≡ Some s → P (event_at (u + j) s)) → AllByRecursion P (events_of u runs)
 all_events P u [] each = tt
 all_events P u (run ∷ runs) each =
     let here : u + 0 ≡ u = omega arith in
     all_append P (map (event_at u) run.stops.items) (events_of (u + 1) runs)
     (all_stops P u run.stops.items (λ k s found. subst (λ (n : ℕ). P (event_at n s)) here (each 0 run k s refl found)))
     (all_events P (u + 1) runs (λ j r k s at found. let more : u + suc j ≡ (u + 1) + j = omega arith in subst (λ (n : ℕ). P (event_at n s)) more (each (suc j) r k s at found)))
-
-in_left : {X : Type 0} (x : X) (xs ys : List X) → In x xs → In x (xs ++ ys)
-in_left x [] ys h = absurd h
-in_left x (y ∷ xs) ys (inl e) = inl e
-in_left x (y ∷ xs) ys (inr h) = inr (in_left x xs ys h)
-
-in_right : {X : Type 0} (x : X) (xs ys : List X) → In x ys → In x (xs ++ ys)
-in_right x [] ys h = h
-in_right x (y ∷ xs) ys h = inr (in_right x xs ys h)
 
 stop_event : (t : ℕ) (stops : List Stop) (k : ℕ) (s : Stop) → slice_get stops k ≡ Some s → In (event_at t s) (map (event_at t) stops)
 stop_event t [] k s found = absurd (none-some s found)
@@ -104,7 +91,7 @@ started runs plan t run k s order at found =
 no_fixings : (problem : Problem) → IsEdition problem []
 no_fixings problem i fixing at = absurd (none-some fixing at)
 
-follows_none : (plan : List Event) → Follows plan []
+pub follows_none : (plan : List Event) → Follows plan []
 follows_none plan k d lt = absurd (omega (arith, lt))
 
 pub start_within : (problem : Problem) (runs : List Run) (plan : List Event) (t : ℕ) (run : Run) (k : ℕ) (s : Stop) → (HasChoices problem → ⊥) → AreRuns problem.trains runs → IsValid problem [] plan → slice_get runs t ≡ Some run → slice_get run.stops.items k ≡ Some s
@@ -129,11 +116,6 @@ pub record IsStopOf (problem : Problem) (runs : List Run) (c : Component) : Type
   pub stop : Stop
   pub stop_is : slice_get run.stops.items (slice_index run.places.items c.operation) ≡ Some stop
   pub names : stop.op ≡ c.operation
-
-some_run : (runs : List Run) (t : ℕ) → t < length runs → (run : Run) × (slice_get runs t ≡ Some run)
-some_run [] t lt = absurd (omega (arith, lt))
-some_run (r ∷ runs) zero lt = (r, refl)
-some_run (r ∷ runs) (suc t) lt = some_run runs t (omega (arith, lt))
 
 pub stop_of : (problem : Problem) (runs : List Run) (c : Component) → AreRuns problem.trains runs → IsComponent problem.trains c → IsStopOf problem runs c
 stop_of problem runs c are named =

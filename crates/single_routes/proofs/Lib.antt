@@ -11,5 +11,6 @@ pub mod Walked
 pub mod Running
 pub mod Planned
 pub mod Costed
+pub mod EarliestStarts
 pub mod Answered
 pub mod Small

@@ -1,6 +1,6 @@
 -- Stops and their places, as the code adds one after another.
-use Rattle.std.proofs.Common.{◌≡◌, ℕ, zero, suc, ◌+◌, ◌<◌, ◌≤◌, List, [], ◌∷◌, ◌++◌, length, get_or, take, drop, max, cond, Some, None, refl, sym, ap, subst, ◌∙◌, arith, inl, inr, set, append_assoc, drop-cons}
-use Rattle.std.specs.Prelude.{nat_eq, nat_le, slice_get, slice_index, ◌⊎◌}
+use Rattle.std.proofs.Common.{◌≡◌, ℕ, zero, suc, ◌+◌, ◌<◌, ◌≤◌, List, [], ◌∷◌, ◌++◌, length, get_or, take, drop, max, cond, Some, refl, sym, ap, subst, ◌∙◌, arith, inl, inr, set, append_assoc, drop-cons}
+use Rattle.std.specs.Prelude.{nat_eq, nat_le, slice_get, ◌⊎◌}
 use Rattle.std.proofs.lemmas.Bool.{cases_Bool, eqb-true, eqb-false}
 use Rattle.std.proofs.lemmas.Option.{slice_get-get_or, get_or_from_slice_get}
 use Rattle.std.proofs.lemmas.List.{get_or-set_other, get_or-set_same, get_or_default, take_more}

@@ -1,22 +1,20 @@
 -- The plan of runs that are in time is valid.
 use Rattle.std.proofs.Common.{◌≡◌, ◌≢◌, ℕ, zero, suc, ◌+◌, ◌<◌, ◌≤◌, List, [], ◌∷◌, ◌++◌, length, get_or, map, max, cond, Option, Some, None, refl, sym, ap, subst, ◌∙◌, arith, inl, inr}
-use Rattle.std.specs.Prelude.{nat_eq, nat_le, slice_get, slice_index_or, All, Contains, IsSome, IfSome}
-use Rattle.std.specs.List.{AllByRecursion, Any}
+use Rattle.std.specs.Prelude.{nat_eq, nat_le, slice_get, slice_index_or, All, IsSome, IfSome}
+use Rattle.std.specs.List.{AllByRecursion}
 use Rattle.std.specs.List.Sorted.{IsSortedBy}
-use Rattle.std.proofs.lemmas.Bool.{cases_lt, false≢true}
+use Rattle.std.proofs.lemmas.Bool.{cases_lt}
 use Rattle.std.proofs.lemmas.List.{length-map}
-use Rattle.std.proofs.lemmas.Option.{none-some, same_Some, get_or_from_slice_get, slice_get_within, slice_get-get_or}
 use Rattle.std.proofs.lemmas.List.Elements.{All-from_recursion, Contains-get_or}
 use Rattle.std.proofs.lemmas.List.Sorted.{All-permutation}
 use Rattle.disp_model.specs.declared.train.Op.{Op}
 use Rattle.disp_model.specs.declared.plan.Event.{Event}
-use Rattle.disp_model.specs.declared.train.Listing.{Listing}
 use Rattle.disp_model.specs.declared.train.Operation.{Operation}
 use Rattle.disp_model.specs.declared.problem.Problem.{Problem}
 use Rattle.disp_model.specs.Train.{duration_of, IsRoute}
 use Rattle.disp_model.specs.Plan.{run_of, end_of}
-use Rattle.disp_model.specs.Valid.{train_at, operation_of, MayStart, IsValid, IsReleased, KeepApart}
-use Rattle.disp_model.specs.Arcs.{Conflicts, listings_of}
+use Rattle.disp_model.specs.Valid.{train_at, operation_of, MayStart, IsValid, KeepApart}
+use Rattle.disp_model.specs.Arcs.{listings_of}
 use Rattle.disp_model.proofs.Runs.{Spaced, lasts_from_runs}
 use Rattle.single_routes.specs.declared.stop.Stop.{Stop}
 use Rattle.single_routes.specs.declared.run.Run.{Run}
@@ -26,8 +24,8 @@ use Rattle.single_routes.specs.Stops.{stops_along, ops_of, IsRun, AreRuns, upper
 use Rattle.single_routes.proofs.Sorting.{filter_of_sorted}
 use Rattle.single_routes.proofs.Ordered.{comes_before, event_order, times_rise}
 use Rattle.single_routes.proofs.Along.{run_there, along_sorted, along_spaced, along_operations, stops_run}
-use Rattle.single_routes.proofs.Claimed.{In, in_of, of_in, shared_there}
-use Rattle.single_routes.proofs.Running.{ops_within}
+use Rattle.single_routes.proofs.Claimed.{In, in_of, shared_there}
+use Rattle.single_routes.proofs.Running.{ops_within, some_run}
 
 -- ---- the routes of the runs
 
@@ -39,15 +37,11 @@ routes_at [] t d lt = absurd (omega (arith, lt))
 routes_at (r ∷ runs) zero d lt = refl
 routes_at (r ∷ runs) (suc t) d lt = routes_at runs t d (omega (arith, lt))
 
-some_run : (runs : List Run) (t : ℕ) → t < length runs → Run
-some_run [] t lt = absurd (omega (arith, lt))
-some_run (r ∷ runs) t lt = r
-
 pub are_routes : (trains : List (List Operation)) (runs : List Run) → AreRuns trains runs → AreRoutes trains (routes_of runs)
 are_routes trains runs are = record {
   count = length-map runs (λ run. ops_of run.stops.items) ∙ are.count;
   each = λ t lt.
-      let d = some_run runs t (omega (arith, lt, are.count)) in
+      let d = (some_run runs t (omega (arith, lt, are.count))).0 in
       subst (IsRoute (get_or trains t [])) (sym (routes_at runs t d (omega (arith, lt, are.count)))) (are.each t d lt).route;
 }
 
@@ -106,7 +100,7 @@ each_good trains t (s ∷ stops) within lower in_time = (
   each_good trains t stops (λ k d lt. within (suc k) d (omega (arith, lt))) lower.1 (λ k d lt. in_time (suc k) d (omega (arith, lt))),
 )
 
-all_append : {X : Type 0} (P : X → Type 0) (xs ys : List X) → AllByRecursion P xs → AllByRecursion P ys → AllByRecursion P (xs ++ ys)
+pub all_append : {X : Type 0} (P : X → Type 0) (xs ys : List X) → AllByRecursion P xs → AllByRecursion P ys → AllByRecursion P (xs ++ ys)
 all_append P [] ys a b = b
 all_append P (x ∷ xs) ys a b = (a.0, all_append P xs ys a.1 b)
 

@@ -1,11 +1,10 @@
 -- The runs of the trains: what stands in them.
-use Rattle.std.proofs.Common.{◌≡◌, ℕ, zero, suc, ◌+◌, ◌<◌, ◌≤◌, List, [], ◌∷◌, ◌++◌, length, get_or, map, take, drop, max, cond, Some, None, refl, sym, ap, subst, ◌∙◌, arith, inl, inr, length-append}
-use Rattle.std.specs.Prelude.{nat_le, slice_get, slice_index, Contains, All, IfSome}
-use Rattle.std.specs.List.{AllByRecursion}
+use Rattle.std.proofs.Common.{◌≡◌, ℕ, zero, suc, ◌+◌, ◌<◌, ◌≤◌, List, [], ◌∷◌, ◌++◌, length, get_or, max, cond, Some, refl, sym, ap, subst, ◌∙◌, arith, inl, inr}
+use Rattle.std.specs.Prelude.{nat_le, slice_get, slice_index, All}
 use Rattle.std.proofs.lemmas.Bool.{cases_lt, le-leb, lt-leb}
 use Rattle.std.proofs.lemmas.Option.{none-some, same_Some, slice_get_within, slice_get-get_or, get_or_from_slice_get}
 use Rattle.std.proofs.lemmas.List.{get_or_default, get_or_append_left}
-use Rattle.std.proofs.lemmas.List.Elements.{All-from_recursion, Contains-get_or}
+use Rattle.std.proofs.lemmas.List.Elements.{Contains-get_or}
 use Rattle.disp_model.specs.declared.train.Op.{Op}
 use Rattle.disp_model.specs.declared.train.Operation.{Operation}
 use Rattle.disp_model.specs.declared.train.Component.{Component}
@@ -45,7 +44,7 @@ ops_count : (stops : List Stop) → length (ops_of stops) ≡ length stops
 ops_count [] = refl
 ops_count (s ∷ stops) = ap suc (ops_count stops)
 
-op_at : (stops : List Stop) (k : ℕ) (d : Stop) → k < length stops → IsIn (get_or stops k d).op (ops_of stops)
+pub op_at : (stops : List Stop) (k : ℕ) (d : Stop) → k < length stops → IsIn (get_or stops k d).op (ops_of stops)
 op_at [] k d lt = absurd (omega (arith, lt))
 op_at (s ∷ stops) zero d lt = inl refl
 op_at (s ∷ stops) (suc k) d lt = inr (op_at stops k d (omega (arith, lt)))
@@ -146,21 +145,18 @@ in_time_more trains runs i e within before here t d low =
           subst (λ (n : ℕ). IsInTime (get_or trains n []) (get_or runs n d).stops.items) (sym at) (subst (λ (r : Run). IsInTime (get_or trains i []) r.stops.items) (get_or_default runs i e d within) here)
     ]
 
+pub some_run : (runs : List Run) (t : ℕ) → t < length runs → (run : Run) × (slice_get runs t ≡ Some run)
+some_run [] t lt = absurd (omega (arith, lt))
+some_run (r ∷ runs) zero lt = (r, refl)
+some_run (r ∷ runs) (suc t) lt = some_run runs t (omega (arith, lt))
+
 -- the stop of each operation that a component names
 pub has_stop : (problem : Problem) (runs : List Run) → AreRuns problem.trains runs → All (HasStop runs) problem.components
 has_stop problem runs are k e lt = one (get_or problem.components k e) (problem.well_formed.named k e lt)
   where
-    some_run : (c : Component) → c.train < length runs → (run : Run) × (slice_get runs c.train ≡ Some run)
-    some_run c lt = there runs c.train lt
-      where
-        there : (runs : List Run) (t : ℕ) → t < length runs → (run : Run) × (slice_get runs t ≡ Some run)
-        there [] t lt = absurd (omega (arith, lt))
-        there (r ∷ runs) zero lt = (r, refl)
-        there (r ∷ runs) (suc t) lt = there runs t (omega (arith, lt))
-
     one : (c : Component) → IsComponent problem.trains c → HasStop runs c
     one c named =
-        let found = some_run c (omega (arith, named.train, are.count)) in
+        let found = some_run runs c.train (omega (arith, named.train, are.count)) in
         let run = found.0 in
         let train = get_or problem.trains c.train [] in
         let is : IsRun train run = subst (IsRun train) (get_or_from_slice_get runs c.train run run found.1) (are.each c.train run named.train) in

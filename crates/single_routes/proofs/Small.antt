@@ -1,5 +1,5 @@
 -- Small problems are well formed, for the tests.
-use Rattle.std.proofs.Common.{◌≡◌, ◌≢◌, ℕ, zero, suc, ◌+◌, ◌<◌, ◌≤◌, List, [], ◌∷◌, length, Option, Some, None, refl, sym, ap, subst, ◌∙◌, arith, rules, inl, inr}
+use Rattle.std.proofs.Common.{◌≡◌, ◌≢◌, ℕ, zero, suc, ◌<◌, ◌≤◌, List, [], ◌∷◌, length, Option, Some, None, refl, sym, subst, ◌∙◌, arith, rules, inl, inr}
 use Rattle.std.specs.Prelude.{Contains, All, slice_get, IfSome, ◌⊎◌}
 use Rattle.std.specs.Option.{ForSome}
 use Rattle.std.proofs.lemmas.Option.{same_Some}
@@ -9,7 +9,7 @@ use Rattle.disp_model.specs.declared.train.Listing.{Listing}
 use Rattle.disp_model.specs.declared.train.Component.{Component}
 use Rattle.disp_model.specs.declared.limits.TheConstants.{GREATEST_NUMBER}
 use Rattle.disp_model.specs.Train.{IsSuccessor, IsEntry, IsExit}
-use Rattle.disp_model.specs.WellFormed.{IsWellFormed, IsAcyclic, LeadsTo, HasFitNumbers, RefersInside, IsComponent}
+use Rattle.disp_model.specs.WellFormed.{IsWellFormed, IsAcyclic, LeadsTo, HasFitNumbers, IsComponent}
 
 none_in : (s : ℕ) → Contains [] s → ⊥
 none_in s (k, lt, e) = omega (arith, lt)

@@ -1,5 +1,5 @@
 -- What the code keeps of each train: its stops along its route, and where its operations stand. For private clauses.
-use Rattle.std.specs.Prelude.{◌≡◌, ◌≢◌, ◌⊎◌, ℕ, ◌+◌, ◌<◌, ◌≤◌, List, [], ◌∷◌, ◌++◌, length, max, map, take, drop, All, Contains, Option, Some, None, IfSome, slice_get, slice_index, slice_index_or, nat_le, if◌then◌else◌, sum_by, Bool, true, set}
+use Rattle.std.specs.Prelude.{◌≡◌, ◌≢◌, ℕ, ◌+◌, ◌<◌, ◌≤◌, List, [], ◌∷◌, ◌++◌, length, max, map, take, drop, All, Contains, Option, Some, None, slice_get, slice_index, slice_index_or, nat_le, if◌then◌else◌, Bool, true, set}
 use Rattle.std.specs.List.{flat_map}
 use Rattle.std.specs.Option.{option_map_or}
 use Rattle.disp_model.specs.declared.train.Op.{Op}

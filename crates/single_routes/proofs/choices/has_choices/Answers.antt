@@ -1,4 +1,4 @@
-use Rattle.std.proofs.Common.{◌≡◌, ◌∙◌, sym, ap, subst, refl, rules, inl, inr}
+use Rattle.std.proofs.Common.{◌≡◌, ◌∙◌, sym, ap, subst, refl, inl, inr}
 use Rattle.std.proofs.lemmas.Bool.{false≢true}
 use Rattle.single_routes.specs.Stops.{claims_from, HasClash}
 use Rattle.single_routes.proofs.Claimed.{fork_there, no_fork, meeting_of_clash, clash_of_meeting, claims_within}

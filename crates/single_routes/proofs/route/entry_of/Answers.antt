@@ -1,4 +1,4 @@
-use Rattle.std.proofs.Common.{arith, rules}
+use Rattle.std.proofs.Common.{arith}
 use Rattle.single_routes.proofs.Ways.{some_entry}
 use Rattle.single_routes.proofs.route.entry_of.Goals as goal
 

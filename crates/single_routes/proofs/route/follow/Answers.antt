@@ -1,5 +1,5 @@
-use Rattle.std.proofs.Common.{◌≡◌, ◌+◌, ◌<◌, ◌≤◌, List, [], ◌∷◌, ◌++◌, ℕ, Some, None, length, sym, ap, subst, ◌∙◌, arith, rules, length-append}
-use Rattle.disp_model.specs.Train.{IsSuccessor, IsExit, IsRoute}
+use Rattle.std.proofs.Common.{◌<◌, ◌≤◌, List, [], ◌∷◌, ◌++◌, ℕ, length, sym, ap, ◌∙◌, arith}
+use Rattle.disp_model.specs.Train.{IsSuccessor}
 use Rattle.single_routes.proofs.Listed.{next_at, empty_at_first}
 use Rattle.single_routes.proofs.Marks.{first_contained}
 use Rattle.single_routes.proofs.Ways.{goes_more, goes_on, last_within, way_fits}

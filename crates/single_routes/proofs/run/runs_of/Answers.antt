@@ -1,7 +1,6 @@
-use Rattle.std.proofs.Common.{◌≡◌, ◌∙◌, List, [], ◌∷◌, ◌++◌, ◌+◌, ◌<◌, ℕ, length, get_or, sym, ap, subst, arith, rules, length-append}
+use Rattle.std.proofs.Common.{◌≡◌, ◌∙◌, List, [], ◌∷◌, ◌<◌, length, get_or, ap, subst, arith, length-append}
 use Rattle.std.proofs.lemmas.List.{get_or_default}
 use Rattle.disp_model.specs.declared.train.Operation.{Operation}
-use Rattle.single_routes.specs.declared.run.Run.{Run}
 use Rattle.single_routes.specs.Stops.{IsRun}
 use Rattle.single_routes.proofs.Running.{runs_more, inside_at}
 use Rattle.single_routes.proofs.run.runs_of.Goals as goal

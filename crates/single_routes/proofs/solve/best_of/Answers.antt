@@ -1,4 +1,4 @@
-use Rattle.std.proofs.Common.{◌≡◌, ◌∙◌, List, ap, subst}
+use Rattle.std.proofs.Common.{◌∙◌, List, ap, subst}
 use Rattle.std.specs.Prelude.{sum_by}
 use Rattle.disp_model.specs.declared.train.Component.{Component}
 use Rattle.single_routes.specs.Stops.{AreWalksFrom, cost_in_runs}

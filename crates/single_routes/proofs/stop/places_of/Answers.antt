@@ -1,4 +1,4 @@
-use Rattle.std.proofs.Common.{◌<◌, length, arith, length-set}
+use Rattle.std.proofs.Common.{arith, length-set}
 use Rattle.single_routes.specs.declared.stop.Stop.{Stop}
 use Rattle.single_routes.proofs.Placed.{places_more}
 use Rattle.single_routes.proofs.stop.places_of.Goals as goal

@@ -1,6 +1,5 @@
-use Rattle.std.proofs.Common.{◌≡◌, ◌∙◌, ℕ, ap, sym, subst, max, cond, arith, rules}
+use Rattle.std.proofs.Common.{◌≡◌, ◌∙◌, ℕ, ap, sym, subst, max, cond, arith}
 use Rattle.std.specs.Prelude.{nat_le}
-use Rattle.disp_model.specs.declared.train.Operation.{Operation}
 use Rattle.disp_model.specs.WellFormed.{HasFitNumbers}
 use Rattle.single_routes.proofs.Listed.{stands_at}
 use Rattle.single_routes.proofs.Placed.{stops_more}
