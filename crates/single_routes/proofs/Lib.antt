@@ -1,0 +1,16 @@
+pub mod Listed
+pub mod Ways
+pub mod Marks
+pub mod Owners
+pub mod Placed
+pub mod Claimed
+pub mod Sorting
+pub mod Ordered
+pub mod Along
+pub mod Walked
+pub mod Running
+pub mod Planned
+pub mod Costed
+pub mod EarliestStarts
+pub mod Answered
+pub mod Small

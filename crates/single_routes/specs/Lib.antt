@@ -1,0 +1,4 @@
+pub mod Choices
+pub mod Earliest
+pub mod Solution
+pub mod Stops
