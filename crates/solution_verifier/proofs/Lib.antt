@@ -9,3 +9,4 @@ pub mod Agreed
 pub mod SoundIsValid
 pub mod ValidIsSound
 pub mod Firsts
+pub mod Chained

@@ -1,19 +1,19 @@
 // Each fault comes first where it should, and a valid plan is answered with its cost.
+ghost use Rattle.std.specs.Prelude.{◌≡◌, ◌<◌, ◌≤◌, [], ◌∷◌, IfOk};
+ghost use Rattle.std.specs.Option.{ForSome};
+ghost use Rattle.disp_model.specs.declared.limits.TheConstants.{GREATEST_NUMBER};
+
 use crate::{Fault, verify};
 use disp_model::{
     Component, Event, Fixing, List, Listing, Memory, Operation, Plan, Problem, Text, Train,
 };
 use std::alloc::Global;
-use std::process::Abort;
 use std::test::Fail;
 
 /// An operation that lasts so long, with what it lists and what may come next.
-fn lasting(
-    alloc: Global,
-    min: u32,
-    listings: &[Listing],
-    next: &[u32],
-) -> Result<Operation, Memory> {
+fn lasting(alloc: Global, min: u32, listings: &[Listing], next: &[u32]) -> Result<Operation, Memory>
+    ensures { IfOk result (λ o. o ≡ record { lower = 0; upper = None; min = min; listings = listings.now; next = next.now }) }
+{
     Ok(Operation {
         lower: 0,
         upper: None,
@@ -24,7 +24,9 @@ fn lasting(
 }
 
 /// What an operation costs for each unit of time before it starts.
-fn each_unit(train: u32, operation: u32, coeff: u32) -> Component {
+fn each_unit(train: u32, operation: u32, coeff: u32) -> Component
+    ensures { result ≡ record { train = train; operation = operation; threshold = 0; increment = 0; coeff = coeff } }
+{
     Component {
         train,
         operation,
@@ -34,62 +36,76 @@ fn each_unit(train: u32, operation: u32, coeff: u32) -> Component {
     }
 }
 
-fn name(alloc: Global, text: &str) -> Result<Text, Memory> {
+fn name(alloc: Global, text: &str) -> Result<Text, Memory>
+    ensures { IfOk result (λ t. t ≡ text.now) }
+{
     Ok(Text::from_string(String::from_str(alloc, text)?))
 }
 
 /// A train that holds a resource for so long, then reaches its exit.
-fn holding(alloc: Global, min: u32, release: u32) -> Result<Train, Memory> {
+fn holding(alloc: Global, min: u32, release: u32) -> Result<Train, Memory>
+    ensures { IfOk result (λ t. t ≡ record { lower = 0; upper = None; min = min; listings = record { resource = 0; release = release } ∷ []; next = 1 ∷ [] } ∷ record { lower = 0; upper = None; min = 0; listings = []; next = [] } ∷ []) }
+{
     let listing = Listing {
         resource: 0,
         release,
     };
-    Ok(List::from_vec(vec![in alloc;
-        lasting(alloc, min, &[listing], &[1])?,
-        lasting(alloc, 0, &[], &[])?,
-    ]?))
+    let first = lasting(alloc, min, &[listing], &[1])?;
+    let exit = lasting(alloc, 0, &[], &[])?;
+    Ok(List::from_vec(vec![in alloc; first, exit]?))
 }
 
 /// Two trains on one resource, of the durations 10 and 4.
-fn two_trains(alloc: Global, release: u32) -> Result<Problem, Memory> {
+fn two_trains(alloc: Global, release: u32) -> Result<Problem, Memory>
+    requires { release < 4 }
+{
+    let first = holding(alloc, 10, release)?;
+    let second = holding(alloc, 4, release)?;
+    let resource = name(alloc, "r")?;
     Ok(Problem {
-        trains: List::from_vec(vec![in alloc;
-            holding(alloc, 10, release)?,
-            holding(alloc, 4, release)?,
-        ]?),
+        trains: List::from_vec(vec![in alloc; first, second]?),
         components: List::from_vec(vec![in alloc; each_unit(0, 1, 1), each_unit(1, 1, 1)]?),
-        names: List::from_vec(vec![in alloc; name(alloc, "r")?]?),
+        names: List::from_vec(vec![in alloc; resource]?),
     })
 }
 
 /// A train that holds one resource, then another, then reaches its exit.
-fn swapping(alloc: Global, first: u32, then: u32) -> Result<Train, Memory> {
+fn swapping(alloc: Global, first: u32, second: u32) -> Result<Train, Memory>
+    ensures { IfOk result (λ t. t ≡ record { lower = 0; upper = None; min = 10; listings = record { resource = first; release = 0 } ∷ []; next = 1 ∷ [] } ∷ record { lower = 0; upper = None; min = 0; listings = record { resource = second; release = 0 } ∷ []; next = 2 ∷ [] } ∷ record { lower = 0; upper = None; min = 0; listings = []; next = [] } ∷ []) }
+{
     let first = Listing {
         resource: first,
         release: 0,
     };
-    let then = Listing {
-        resource: then,
+    let second = Listing {
+        resource: second,
         release: 0,
     };
-    Ok(List::from_vec(vec![in alloc;
-        lasting(alloc, 10, &[first], &[1])?,
-        lasting(alloc, 0, &[then], &[2])?,
-        lasting(alloc, 0, &[], &[])?,
-    ]?))
+    let start = lasting(alloc, 10, &[first], &[1])?;
+    let middle = lasting(alloc, 0, &[second], &[2])?;
+    let exit = lasting(alloc, 0, &[], &[])?;
+    Ok(List::from_vec(vec![in alloc; start, middle, exit]?))
 }
 
 /// Two trains that swap two resources.
 fn swap(alloc: Global) -> Result<Problem, Memory> {
+    let first = swapping(alloc, 0, 1)?;
+    let second = swapping(alloc, 1, 0)?;
+    let resource = name(alloc, "r1")?;
+    let other = name(alloc, "r2")?;
     Ok(Problem {
-        trains: List::from_vec(vec![in alloc; swapping(alloc, 0, 1)?, swapping(alloc, 1, 0)?]?),
+        trains: List::from_vec(vec![in alloc; first, second]?),
         components: List::new(alloc),
-        names: List::from_vec(vec![in alloc; name(alloc, "r1")?, name(alloc, "r2")?]?),
+        names: List::from_vec(vec![in alloc; resource, other]?),
     })
 }
 
 /// One train of one operation, with its window.
-fn windowed(alloc: Global, lower: u32, upper: Option<u32>, coeff: u32) -> Result<Problem, Memory> {
+fn windowed(alloc: Global, lower: u32, upper: Option<u32>, coeff: u32) -> Result<Problem, Memory>
+    requires lower { lower ≤ GREATEST_NUMBER }
+    requires upper { ForSome upper (λ u. u ≤ GREATEST_NUMBER) }
+    requires coeff { coeff ≤ GREATEST_NUMBER }
+{
     let operation = Operation {
         lower,
         upper,
@@ -97,8 +113,9 @@ fn windowed(alloc: Global, lower: u32, upper: Option<u32>, coeff: u32) -> Result
         listings: List::new(alloc),
         next: List::new(alloc),
     };
+    let train = List::from_vec(vec![in alloc; operation]?);
     Ok(Problem {
-        trains: List::from_vec(vec![in alloc; List::from_vec(vec![in alloc; operation]?)]?),
+        trains: List::from_vec(vec![in alloc; train]?),
         components: List::from_vec(vec![in alloc; each_unit(0, 0, coeff)]?),
         names: List::new(alloc),
     })
