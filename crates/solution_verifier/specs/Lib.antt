@@ -5,3 +5,4 @@ pub mod First
 pub mod Answered
 pub mod Unmet
 pub mod Stated
+pub mod FaultText

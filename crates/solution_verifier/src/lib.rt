@@ -10,6 +10,7 @@ mod fault;
 mod fixings;
 mod held;
 mod runs;
+mod text;
 mod verdict;
 
 pub use fault::Fault;

@@ -318,3 +318,37 @@ fn a_cost_may_pass_64_bits(rt: HostRuntime) -> Result<(), Fail> {
     );
     Ok(())
 }
+
+/// The text of a fault, behind what stands there.
+fn written(alloc: Global, problem: &Problem, fault: Fault) -> Result<String, Memory> {
+    let mut text = String::from_str(alloc, "- ")?;
+    fault.write(problem, &mut text)?;
+    Ok(text)
+}
+
+#[test]
+fn a_fault_is_written_with_its_numbers(rt: HostRuntime) -> Result<(), Fail> {
+    let alloc = rt.alloc();
+    let two = two_trains(alloc, 0)?;
+    assert_eq!(rt;
+        written(alloc, &two, Fault::UnknownTrain(0))?.as_str(),
+        "- UnknownTrain 0"
+    );
+    assert_eq!(rt;
+        written(alloc, &two, Fault::Held(0, 1, 0))?.as_str(),
+        "- Held 0 1 \"r\""
+    );
+    assert_eq!(rt;
+        written(alloc, &two, Fault::Incomplete(1))?.as_str(),
+        "- Incomplete 1"
+    );
+    assert_eq!(rt;
+        written(alloc, &two, Fault::FixingUnmet(1))?.as_str(),
+        "- FixingUnmet 1"
+    );
+    assert_eq!(rt;
+        written(alloc, &two, Fault::WrongCost(17, 18))?.as_str(),
+        "- WrongCost 17 18"
+    );
+    Ok(())
+}
