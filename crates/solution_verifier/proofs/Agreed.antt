@@ -1,18 +1,17 @@
 -- In a plan whose runs are routes, an event has ended among the events before another exactly where it ends before it.
-use Rattle.std.proofs.Common.{◌≡◌, ℕ, suc, ◌+◌, ◌<◌, ◌≤◌, List, [], ◌∷◌, ◌++◌, length, take, drop, map, Option, Some, None, refl, sym, ap, subst, ◌∙◌, arith, inl, inr, ◌⊎◌}
-use Rattle.std.specs.Prelude.{slice_get, slice_index_or}
-use Rattle.std.proofs.lemmas.Option.{none-some, same_Some}
+use Rattle.std.proofs.Common.{◌≡◌, ℕ, ◌+◌, ◌<◌, ◌≤◌, List, [], ◌∷◌, ◌++◌, length, take, drop, map, Option, Some, None, refl, sym, ap, subst, ◌∙◌, arith, inl, inr}
+use Rattle.std.specs.Prelude.{slice_get}
+use Rattle.std.proofs.lemmas.Option.{none-some}
 use Rattle.disp_model.specs.declared.plan.Event.{Event}
 use Rattle.disp_model.specs.declared.train.Operation.{Operation}
-use Rattle.disp_model.specs.declared.train.Listing.{Listing}
 use Rattle.disp_model.specs.declared.problem.Problem.{Problem}
 use Rattle.disp_model.specs.Plan.{run_of, operations_of, first_of, ending, end_of, Ending}
 use Rattle.disp_model.specs.Train.{next_of, duration_of, IsRoute, GoesOn, IsSuccessor}
-use Rattle.disp_model.specs.Valid.{train_at, IsReleased}
+use Rattle.disp_model.specs.Valid.{train_at}
 use Rattle.disp_model.proofs.Branching.{route_from, own_operations, operations_append}
 use Rattle.disp_model.proofs.Runs.{split_at}
 use Rattle.solution_verifier.specs.Held.{ended, ended_in, HasPassed}
-use Rattle.solution_verifier.proofs.Nexts.{IsIn, IsPast, IsFound, in_or_past, found_or_none, behind_parts, between_length}
+use Rattle.solution_verifier.proofs.Nexts.{IsIn, IsPast, in_or_past, found_or_none, behind_parts, between_length}
 
 -- the operations of a train around one of its events
 pub operations_split : (t : ℕ) (plan : List Event) (i : ℕ) (e : Event) → slice_get plan i ≡ Some e → e.train ≡ t

@@ -1,6 +1,6 @@
 -- For tests: a train whose operations come one behind the other is acyclic, and a problem of few such trains is well formed.
-use Rattle.std.proofs.Common.{◌≡◌, ◌≢◌, ℕ, zero, suc, ◌+◌, ◌*◌, ◌<◌, ◌≤◌, List, [], ◌∷◌, length, get_or, Option, Some, None, refl, sym, subst, ◌∙◌, arith, rules, inl, inr}
-use Rattle.std.specs.Prelude.{slice_get, Contains, All, nat_lt, if◌then◌else◌}
+use Rattle.std.proofs.Common.{◌≡◌, ◌≢◌, ℕ, zero, suc, ◌+◌, ◌<◌, ◌≤◌, List, [], ◌∷◌, length, get_or, Option, Some, None, refl, sym, subst, ◌∙◌, arith, rules, inl, inr}
+use Rattle.std.specs.Prelude.{slice_get, Contains, nat_lt, if◌then◌else◌}
 use Rattle.std.specs.Option.{ForSome}
 use Rattle.std.proofs.lemmas.Option.{slice_get_within, slice_get-get_or, none-some, same_Some}
 use Rattle.std.proofs.lemmas.Bool.{cases_lt, le-ltb, lt-ltb}
@@ -9,8 +9,8 @@ use Rattle.disp_model.specs.declared.train.Operation.{Operation}
 use Rattle.disp_model.specs.declared.train.Listing.{Listing}
 use Rattle.disp_model.specs.declared.train.Component.{Component}
 use Rattle.disp_model.specs.declared.limits.TheConstants.{GREATEST_NUMBER}
-use Rattle.disp_model.specs.Train.{next_of, IsSuccessor, IsEntry, IsExit}
-use Rattle.disp_model.specs.WellFormed.{LeadsTo, IsAcyclic, RefersInside, IsWellFormed, HasFitNumbers, IsComponent}
+use Rattle.disp_model.specs.Train.{IsSuccessor, IsEntry, IsExit}
+use Rattle.disp_model.specs.WellFormed.{LeadsTo, IsAcyclic, IsWellFormed}
 
 -- the next place of n, if there is one
 abbrev pub next_place : ℕ → ℕ → List ℕ

@@ -1,8 +1,8 @@
 -- A plan has at most one first fault, and none where it is right.
-use Rattle.std.proofs.Common.{◌≡◌, ℕ, ◌+◌, ◌<◌, ◌≤◌, List, [], length, take, Option, Some, None, Ok, Err, Result, refl, sym, ap, subst, ◌∙◌, arith, inl, inr, ◌⊎◌, ◌↔◌}
-use Rattle.std.specs.Prelude.{slice_get, All, ◌≢◌, IfSome, MatchResult}
+use Rattle.std.proofs.Common.{◌≡◌, ℕ, ◌+◌, ◌<◌, List, [], take, Option, Some, Ok, Err, Result, refl, sym, ap, subst, ◌∙◌, inl, inr, ◌⊎◌, ◌↔◌}
+use Rattle.std.specs.Prelude.{slice_get, All, IfSome}
 use Rattle.std.proofs.lemmas.Bool.{cases_order}
-use Rattle.std.proofs.lemmas.Option.{same_Some, slice_get-get_or, slice_get_within, get_or_from_slice_get}
+use Rattle.std.proofs.lemmas.Option.{same_Some, slice_get_within, get_or_from_slice_get}
 use Rattle.disp_model.specs.declared.plan.Event.{Event}
 use Rattle.disp_model.specs.declared.train.Listing.{Listing}
 use Rattle.disp_model.specs.declared.fixing.Fixing.{Fixing}
@@ -14,13 +14,13 @@ use Rattle.solution_verifier.specs.declared.fault.Fault.{Fault}
 use Rattle.solution_verifier.specs.declared.fault.Fault.TheVariants.{UnknownTrain, UnknownOperation, TimeBackwards, NotEntry, NotSuccessor, TooEarly, TooLate, TooShort, Held, Incomplete, FixingUnmet, WrongCost}
 use Rattle.solution_verifier.specs.Rules.{Rule, rank, Keeps, IsFirstBroken, train_there, operation_there, time_rises, first_is_entry, next_is_successor, from_lower, until_upper, lasts_its_duration}
 use Rattle.solution_verifier.specs.Judged.{fault_of}
-use Rattle.solution_verifier.specs.Held.{LetsBy, LetsPass, IsHeldBy, IsSound, IsSoundAt, listings_at}
-use Rattle.solution_verifier.specs.First.{Breaks, IsHeld, IsComplete, IsFirstOpen, IsFirstUnmet, IsWrongCost, IsFirstFault, IsRight}
+use Rattle.solution_verifier.specs.Held.{LetsBy, LetsPass, IsHeldBy, IsSound, listings_at}
+use Rattle.solution_verifier.specs.First.{Breaks, IsHeld, IsComplete, IsFirstFault, IsRight}
 use Rattle.solution_verifier.specs.Answered.{IsEventFault, IsOpenFault}
 use Rattle.solution_verifier.specs.Unmet.{IsUnmetFault}
 use Rattle.solution_verifier.specs.Stated.{IsStatedOtherwise, IsStated}
 use Rattle.solution_verifier.proofs.Ranks.{same_rank}
-use Rattle.solution_verifier.proofs.SoundIsValid.{AllSound, AllComplete, sound_is_valid, valid_with, valid_without}
+use Rattle.solution_verifier.proofs.SoundIsValid.{AllSound, AllComplete, sound_is_valid, valid_with}
 use Rattle.solution_verifier.proofs.ValidIsSound.{valid_is_sound, valid_is_complete}
 
 -- two numbers that are each the first at which something fails are one

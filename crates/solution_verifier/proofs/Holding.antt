@@ -1,11 +1,11 @@
 -- When an event has ended, as more events come; and that events let each other pass, one after another.
-use Rattle.std.proofs.Common.{◌≡◌, ℕ, ◌+◌, ◌<◌, ◌≤◌, List, [], ◌∷◌, ◌++◌, length, take, drop, cond, Option, Some, None, Bool, true, false, refl, sym, ap, subst, ◌∙◌, arith, append-nil, inl, inr}
-use Rattle.std.specs.Prelude.{nat_eq, slice_get, slice_index_or, ◌≢◌, All}
+use Rattle.std.proofs.Common.{◌≡◌, ℕ, ◌+◌, ◌<◌, ◌≤◌, List, [], ◌∷◌, ◌++◌, length, take, drop, cond, Option, Some, Bool, refl, sym, ap, subst, ◌∙◌, arith, append-nil, inl, inr}
+use Rattle.std.specs.Prelude.{nat_eq, slice_get, ◌≢◌, All}
 use Rattle.std.specs.List.{Any}
 use Rattle.std.specs.Option.{option_or}
 use Rattle.std.proofs.lemmas.Bool.{cases_lt, eq-eqb, ne_eqb}
 use Rattle.std.proofs.lemmas.Option.{same_Some, slice_get_within, get_or_from_slice_get}
-use Rattle.std.proofs.lemmas.List.{take_more, drop_all, drop-append-le, length-take-le}
+use Rattle.std.proofs.lemmas.List.{take_more, drop-append-le, length-take-le}
 use Rattle.std.proofs.lemmas.List.Elements.{filter-append}
 use Rattle.disp_model.specs.declared.plan.Event.{Event}
 use Rattle.disp_model.specs.declared.train.Listing.{Listing}
@@ -13,7 +13,7 @@ use Rattle.disp_model.specs.declared.problem.Problem.{Problem}
 use Rattle.disp_model.specs.Plan.{run_of}
 use Rattle.disp_model.specs.Train.{next_of, duration_of}
 use Rattle.disp_model.specs.Valid.{train_at}
-use Rattle.solution_verifier.specs.Held.{ended, ended_in, LetsPass, LetsBy, HasPassed, IsHeldBy, listings_at}
+use Rattle.solution_verifier.specs.Held.{ended, ended_in, LetsPass, HasPassed, IsHeldBy, listings_at}
 use Rattle.solution_verifier.specs.Answered.{Passes, IsFirstListing}
 
 pub take_one_more : (plan : List Event) (j : ℕ) (e : Event) → slice_get plan j ≡ Some e → take (j + 1) plan ≡ take j plan ++ e ∷ []

@@ -1,15 +1,15 @@
 -- From what the tests of an event answer to the rules.
-use Rattle.std.proofs.Common.{◌≡◌, ℕ, ◌+◌, ◌<◌, ◌≤◌, ◌↔◌, List, [], ◌∷◌, length, Option, Some, None, Bool, true, false, refl, sym, subst, ◌∙◌, arith, IsTrue}
-use Rattle.std.specs.Prelude.{slice_get, slice_index_or, IfSome, MatchOption, Contains}
+use Rattle.std.proofs.Common.{◌≡◌, ℕ, ◌<◌, ◌↔◌, List, [], length, Option, Some, None, Bool, false, refl, sym, subst, ◌∙◌, arith, IsTrue}
+use Rattle.std.specs.Prelude.{slice_get, MatchOption, Contains}
 use Rattle.std.specs.List.{Any}
 use Rattle.std.proofs.lemmas.Bool.{false≢true}
 use Rattle.std.proofs.lemmas.Option.{same_Some, slice_get-get_or, slice_get_within, get_or_from_slice_get}
 use Rattle.disp_model.specs.declared.plan.Event.{Event}
 use Rattle.disp_model.specs.declared.train.Operation.{Operation}
 use Rattle.disp_model.specs.declared.problem.Problem.{Problem}
-use Rattle.disp_model.specs.Train.{IsEntry, IsSuccessor, next_of}
-use Rattle.disp_model.specs.Valid.{operation_of, train_at}
-use Rattle.solution_verifier.specs.Rules.{EndsWith, Rule, rank, Keeps, IsFirstBroken}
+use Rattle.disp_model.specs.Train.{IsEntry, next_of}
+use Rattle.disp_model.specs.Valid.{operation_of}
+use Rattle.solution_verifier.specs.Rules.{Rule, rank, Keeps}
 use Rattle.solution_verifier.specs.Judged.{IsLast, fault_of, IsFaultOf}
 use Rattle.solution_verifier.proofs.Ranks.{KeptBelow}
 use Rattle.solution_verifier.proofs.Ends.{none_ends}

@@ -1,5 +1,5 @@
 -- Where each event is sound and each train reaches its exit, the plan is valid but for its fixings.
-use Rattle.std.proofs.Common.{◌≡◌, ℕ, suc, ◌+◌, ◌<◌, ◌≤◌, List, [], ◌∷◌, ◌++◌, length, take, drop, map, get_or, Option, Some, None, refl, sym, ap, subst, ◌∙◌, arith, inl, inr, ◌⊎◌}
+use Rattle.std.proofs.Common.{◌≡◌, ℕ, ◌+◌, ◌<◌, ◌≤◌, List, [], ◌∷◌, ◌++◌, length, take, map, get_or, Option, Some, None, refl, sym, subst, ◌∙◌, arith, inl, inr}
 use Rattle.std.specs.Prelude.{slice_get, slice_index_or, All, IsSome, IfSome, ◌≢◌}
 use Rattle.std.specs.List.{Any}
 use Rattle.std.specs.List.Sorted.{IsNonDecreasingBy}
@@ -11,12 +11,12 @@ use Rattle.disp_model.specs.declared.train.Listing.{Listing}
 use Rattle.disp_model.specs.declared.fixing.Fixing.{Fixing}
 use Rattle.disp_model.specs.declared.problem.Problem.{Problem}
 use Rattle.disp_model.specs.Plan.{run_of, operations_of, end_of}
-use Rattle.disp_model.specs.Train.{duration_of, IsRoute, IsExit, IsEntry, IsSuccessor}
-use Rattle.disp_model.specs.Valid.{train_at, operation_of, IsValid, MayStart, KeepApart, IsReleased}
+use Rattle.disp_model.specs.Train.{duration_of, IsRoute, IsEntry, IsSuccessor}
+use Rattle.disp_model.specs.Valid.{train_at, operation_of, IsValid, MayStart, KeepApart}
 use Rattle.disp_model.specs.Fixing.{IsMet}
-use Rattle.disp_model.proofs.Runs.{Spaced, Lasts, lasts_from_runs}
+use Rattle.disp_model.proofs.Runs.{Spaced, lasts_from_runs}
 use Rattle.solution_verifier.specs.Rules.{EndsWith, Rule, Keeps, train_there, operation_there, time_rises, first_is_entry, next_is_successor, from_lower, until_upper, lasts_its_duration}
-use Rattle.solution_verifier.specs.Held.{IsSound, IsSoundAt, LetsBy, listings_at, HasPassed, ended_in}
+use Rattle.solution_verifier.specs.Held.{IsSound, LetsBy, listings_at, HasPassed, ended_in}
 use Rattle.solution_verifier.specs.First.{IsComplete}
 use Rattle.solution_verifier.proofs.Holding.{take_one_more}
 use Rattle.solution_verifier.proofs.Ways.{IsWay, run_induction, way_step, way_out, spaced_step}

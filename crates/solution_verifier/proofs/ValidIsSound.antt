@@ -1,23 +1,23 @@
 -- In a valid plan each event is sound, and each train reaches its exit.
-use Rattle.std.proofs.Common.{◌≡◌, ℕ, suc, ◌+◌, ◌<◌, ◌≤◌, List, [], ◌∷◌, ◌++◌, length, take, drop, map, get_or, Option, Some, None, refl, sym, ap, subst, ◌∙◌, arith, inl, inr, ◌⊎◌}
-use Rattle.std.specs.Prelude.{slice_get, slice_index_or, All, IsSome, IfSome, ◌≢◌}
+use Rattle.std.proofs.Common.{◌≡◌, ℕ, ◌+◌, ◌<◌, ◌≤◌, List, [], ◌∷◌, ◌++◌, length, take, drop, map, get_or, Option, Some, None, refl, sym, ap, subst, ◌∙◌, arith, inl, inr}
+use Rattle.std.specs.Prelude.{slice_get, slice_index_or, All, IsSome, IfSome}
 use Rattle.std.specs.List.{Any}
 use Rattle.std.proofs.lemmas.Bool.{false≢true}
-use Rattle.std.proofs.lemmas.Option.{slice_get-get_or, slice_get_within, get_or_from_slice_get, same_Some}
+use Rattle.std.proofs.lemmas.Option.{slice_get-get_or, slice_get_within, get_or_from_slice_get}
 use Rattle.std.proofs.lemmas.List.{map-append, length_push, length-take-le, get_or-take}
 use Rattle.disp_model.specs.declared.plan.Event.{Event}
 use Rattle.disp_model.specs.declared.train.Operation.{Operation}
 use Rattle.disp_model.specs.declared.train.Listing.{Listing}
 use Rattle.disp_model.specs.declared.fixing.Fixing.{Fixing}
 use Rattle.disp_model.specs.declared.problem.Problem.{Problem}
-use Rattle.disp_model.specs.Plan.{run_of, operations_of, end_of}
-use Rattle.disp_model.specs.Train.{duration_of, IsRoute, IsExit, IsEntry, IsSuccessor, GoesOn}
-use Rattle.disp_model.specs.Valid.{train_at, operation_of, IsValid, MayStart, KeepApart, IsReleased}
+use Rattle.disp_model.specs.Plan.{run_of, operations_of}
+use Rattle.disp_model.specs.Train.{duration_of, IsRoute, IsEntry, IsSuccessor, GoesOn}
+use Rattle.disp_model.specs.Valid.{train_at, operation_of, IsValid, MayStart, KeepApart}
 use Rattle.disp_model.proofs.Branching.{named_train, route_from}
-use Rattle.disp_model.proofs.Runs.{Spaced, Spaced-suffix}
+use Rattle.disp_model.proofs.Runs.{Spaced}
 use Rattle.disp_model.proofs.Positions.{named_at, valid_spaced}
 use Rattle.solution_verifier.specs.Rules.{EndsWith, Rule, Keeps, train_there, operation_there, time_rises, first_is_entry, next_is_successor, from_lower, until_upper, lasts_its_duration}
-use Rattle.solution_verifier.specs.Held.{IsSound, IsSoundAt, LetsBy, LetsPass, listings_at, HasPassed, ended_in}
+use Rattle.solution_verifier.specs.Held.{IsSound, LetsBy, listings_at}
 use Rattle.solution_verifier.specs.First.{IsComplete}
 use Rattle.solution_verifier.proofs.Ends.{run_split}
 use Rattle.solution_verifier.proofs.Ways.{end_or_none}

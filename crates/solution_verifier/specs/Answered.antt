@@ -8,7 +8,7 @@ use Rattle.solution_verifier.specs.declared.fault.Fault.TheVariants.{Held, Incom
 use Rattle.solution_verifier.specs.declared.clash.Clash.{Clash}
 use Rattle.solution_verifier.specs.Judged.{fault_of}
 use Rattle.solution_verifier.specs.Rules.{Rule, Keeps}
-use Rattle.solution_verifier.specs.Held.{LetsPass, IsHeldBy, IsSound}
+use Rattle.solution_verifier.specs.Held.{LetsPass, IsHeldBy}
 use Rattle.solution_verifier.specs.First.{Breaks, IsHeld, IsComplete}
 
 -- the event at position i lets the event at j pass, where both are there

@@ -1,4 +1,4 @@
-use Rattle.std.proofs.Common.{rules, ◌≡◌, ℕ, ◌+◌, ◌<◌, ◌≤◌, length, get_or, [], Some, arith, refl}
+use Rattle.std.proofs.Common.{rules, ◌≡◌, ◌+◌, ◌<◌, ◌≤◌, length, get_or, Some, arith, refl}
 use Rattle.std.specs.Prelude.{IfSome}
 use Rattle.std.proofs.lemmas.Option.{slice_get_read}
 use Rattle.disp_model.specs.declared.train.Operation.{Operation}
@@ -6,7 +6,7 @@ use Rattle.disp_model.specs.declared.plan.Event.{Event}
 use Rattle.disp_model.specs.Train.{IsSuccessor, duration_of}
 use Rattle.disp_model.specs.Plan.{run_of}
 use Rattle.disp_model.specs.Valid.{operation_of, train_at}
-use Rattle.solution_verifier.specs.Rules.{Rule, Keeps, train_there, operation_there, time_rises, first_is_entry, next_is_successor, from_lower, until_upper, lasts_its_duration}
+use Rattle.solution_verifier.specs.Rules.{Keeps, train_there, operation_there, time_rises, first_is_entry, next_is_successor, from_lower, until_upper, lasts_its_duration}
 use Rattle.solution_verifier.proofs.Ends.{of_each_end, of_the_end}
 use Rattle.solution_verifier.proofs.Ranks.{none_below, one_more, all_kept}
 use Rattle.solution_verifier.proofs.Judging.{broken_at, refuted, entry_kept, entry_broken, of_operation}

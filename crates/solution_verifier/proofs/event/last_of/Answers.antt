@@ -1,7 +1,5 @@
-use Rattle.std.proofs.Common.{◌≡◌, ◌+◌, ◌-◌, [], drop, Some, subst, ap, ◌∙◌, arith, rules, ℕ}
-use Rattle.std.specs.Prelude.{slice_get}
+use Rattle.std.proofs.Common.{◌≡◌, ◌+◌, ◌-◌, [], drop, ap, ◌∙◌, arith, rules, ℕ}
 use Rattle.std.proofs.lemmas.Option.{slice_get-get_or}
-use Rattle.disp_model.specs.declared.plan.Event.{Event}
 use Rattle.disp_model.specs.Plan.{run_of}
 use Rattle.solution_verifier.proofs.Ends.{run_ends_at}
 use Rattle.solution_verifier.proofs.event.last_of.Goals as goal

@@ -1,4 +1,4 @@
-use Rattle.std.proofs.Common.{◌≡◌, ℕ, ◌+◌, ◌≤◌, Option, Some, sym, subst, ap, ◌∙◌, arith}
+use Rattle.std.proofs.Common.{◌≡◌, ℕ, ◌+◌, ◌≤◌, Option, Some, arith}
 use Rattle.std.specs.Prelude.{MatchOption}
 use Rattle.solution_verifier.specs.declared.clash.Clash.{Clash}
 use Rattle.solution_verifier.specs.Answered.{IsLeastClash}

@@ -1,4 +1,4 @@
-use Rattle.std.proofs.Common.{rules, ◌≡◌, ℕ, ◌<◌, Some, take, arith, refl, sym, subst, ap, ◌+◌, ◌∙◌, get_or, Option}
+use Rattle.std.proofs.Common.{rules, ◌≡◌, ℕ, ◌<◌, Some, take, arith, refl, sym, ap, ◌+◌, ◌∙◌, get_or, Option}
 use Rattle.std.specs.Prelude.{slice_get, ◌≢◌}
 use Rattle.std.specs.Option.{option_or}
 use Rattle.std.proofs.lemmas.Option.{slice_get-get_or}

@@ -1,4 +1,4 @@
-use Rattle.std.proofs.Common.{◌≡◌, ℕ, ◌<◌, ◌≤◌, take, Some}
+use Rattle.std.proofs.Common.{◌≡◌, ℕ, ◌<◌, take}
 use Rattle.solution_verifier.specs.Held.{ended_in}
 use Rattle.solution_verifier.specs.Answered.{Passes}
 use Rattle.solution_verifier.proofs.held.first_held.Given as goal

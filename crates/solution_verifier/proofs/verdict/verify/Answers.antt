@@ -1,4 +1,4 @@
-use Rattle.std.proofs.Common.{rules, ◌≡◌, ℕ, List, Result, Err, subst, sym, ◌∙◌}
+use Rattle.std.proofs.Common.{rules, ◌≡◌, ℕ, List, Result, Err, subst, sym}
 use Rattle.disp_model.specs.declared.plan.Event.{Event}
 use Rattle.solution_verifier.specs.declared.fault.Fault.{Fault}
 use Rattle.solution_verifier.proofs.Firsts.{IsRightAnswer, IsFirstAnswer, event_first, open_first, unmet_first, fault_right, fault_first, last_right, last_first}
