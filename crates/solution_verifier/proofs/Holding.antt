@@ -1,0 +1,91 @@
+-- When an event has ended, as more events come; and that events let each other pass, one after another.
+use Rattle.std.proofs.Common.{◌≡◌, ℕ, ◌+◌, ◌<◌, ◌≤◌, List, [], ◌∷◌, ◌++◌, length, take, drop, cond, Option, Some, Bool, refl, sym, ap, subst, ◌∙◌, arith, append-nil, inl, inr}
+use Rattle.std.specs.Prelude.{nat_eq, slice_get, ◌≢◌, All}
+use Rattle.std.specs.List.{Any}
+use Rattle.std.specs.Option.{option_or}
+use Rattle.std.proofs.lemmas.Bool.{cases_lt, eq-eqb, ne_eqb}
+use Rattle.std.proofs.lemmas.Option.{same_Some, slice_get_within, get_or_from_slice_get}
+use Rattle.std.proofs.lemmas.List.{take_more, drop-append-le, length-take-le}
+use Rattle.std.proofs.lemmas.List.Elements.{filter-append}
+use Rattle.disp_model.specs.declared.plan.Event.{Event}
+use Rattle.disp_model.specs.declared.train.Listing.{Listing}
+use Rattle.disp_model.specs.declared.problem.Problem.{Problem}
+use Rattle.disp_model.specs.Plan.{run_of}
+use Rattle.disp_model.specs.Train.{next_of, duration_of}
+use Rattle.disp_model.specs.Valid.{train_at}
+use Rattle.solution_verifier.specs.Held.{ended, ended_in, LetsPass, HasPassed, IsHeldBy, listings_at}
+use Rattle.solution_verifier.specs.Answered.{Passes, IsFirstListing}
+
+pub take_one_more : (plan : List Event) (j : ℕ) (e : Event) → slice_get plan j ≡ Some e → take (j + 1) plan ≡ take j plan ++ e ∷ []
+take_one_more plan j e at =
+    take_more plan j e (slice_get_within plan j e at) ∙ ap (λ (x : Event). take j plan ++ x ∷ []) (get_or_from_slice_get plan j e e at)
+
+between_more : (plan : List Event) (i j : ℕ) (e : Event) → i < j → slice_get plan j ≡ Some e → drop (i + 1) (take (j + 1) plan) ≡ drop (i + 1) (take j plan) ++ e ∷ []
+between_more plan i j e lt at =
+    let within : j < length plan = slice_get_within plan j e at in
+    let long : i + 1 ≤ length (take j plan) = rw (length-take-le j plan (omega arith)) (omega arith) in
+    ap (drop (i + 1)) (take_one_more plan j e at) ∙ drop-append-le (i + 1) (take j plan) (e ∷ []) long
+
+-- the run of a train with one more event
+pub run_push : (t : ℕ) (xs : List Event) (e : Event) → run_of t (xs ++ e ∷ []) ≡ run_of t xs ++ cond (nat_eq e.train t) (e ∷ []) []
+run_push t xs e = filter-append (λ g. nat_eq g.train t) xs (e ∷ [])
+
+pub run_own : (t : ℕ) (xs : List Event) (e : Event) → e.train ≡ t → run_of t (xs ++ e ∷ []) ≡ run_of t xs ++ e ∷ []
+run_own t xs e same = run_push t xs e ∙ ap (λ (b : Bool). run_of t xs ++ cond b (e ∷ []) []) (eq-eqb e.train t same)
+
+pub run_other : (t : ℕ) (xs : List Event) (e : Event) → (e.train ≡ t → ⊥) → run_of t (xs ++ e ∷ []) ≡ run_of t xs
+run_other t xs e other = run_push t xs e ∙ ap (λ (b : Bool). run_of t xs ++ cond b (e ∷ []) []) (ne_eqb e.train t other) ∙ append-nil (run_of t xs)
+
+ended_more : (next : List ℕ) (own : ℕ) (run : List Event) (e : Event) → ended next own (run ++ e ∷ []) ≡ option_or (ended next own run) (Some e.time)
+ended_more [] own run e = refl
+ended_more (s ∷ next) own [] e = refl
+ended_more (s ∷ next) own (f ∷ run) e = refl
+
+pub ended_own : (problem : Problem) (plan : List Event) (i j : ℕ) (d e : Event) → i < j → slice_get plan j ≡ Some e → e.train ≡ d.train
+    → ended_in problem (take (j + 1) plan) i d ≡ option_or (ended_in problem (take j plan) i d) (Some e.time)
+ended_own problem plan i j d e lt at same =
+    let next = next_of (train_at problem d.train) d.operation in
+    let own = d.time + duration_of (train_at problem d.train) d.operation in
+    let run = run_of d.train (drop (i + 1) (take j plan)) in
+    ap (λ (l : List Event). ended next own (run_of d.train l)) (between_more plan i j e lt at)
+    ∙ ap (ended next own) (run_own d.train (drop (i + 1) (take j plan)) e same) ∙ ended_more next own run e
+
+pub ended_other : (problem : Problem) (plan : List Event) (i j : ℕ) (d e : Event) → i < j → slice_get plan j ≡ Some e → (e.train ≡ d.train → ⊥)
+    → ended_in problem (take (j + 1) plan) i d ≡ ended_in problem (take j plan) i d
+ended_other problem plan i j d e lt at other =
+    let next = next_of (train_at problem d.train) d.operation in
+    let own = d.time + duration_of (train_at problem d.train) d.operation in
+    ap (λ (l : List Event). ended next own (run_of d.train l)) (between_more plan i j e lt at)
+    ∙ ap (ended next own) (run_other d.train (drop (i + 1) (take j plan)) e other)
+
+pub passes_from : (problem : Problem) (plan : List Event) (i j : ℕ) (d e : Event) → slice_get plan i ≡ Some d → slice_get plan j ≡ Some e → LetsPass problem (take j plan) i d e → Passes problem plan i j
+passes_from problem plan i j d e at_i at_j h c f there_i there_j =
+    subst (λ (x : Event). LetsPass problem (take j plan) i x f) (same_Some d c (sym at_i ∙ there_i))
+    (subst (λ (x : Event). LetsPass problem (take j plan) i d x) (same_Some e f (sym at_j ∙ there_j)) h)
+
+pub passes_more : (problem : Problem) (plan : List Event) (i j : ℕ) → ((k : ℕ) → i < k → k < j → Passes problem plan i k) → Passes problem plan i j → (k : ℕ) → i < k → k < j + 1 → Passes problem plan i k
+passes_more problem plan i j below here k lo hi =
+    elim (cases_lt k j) [
+      | inl lt ↦ below k lo lt
+      | inr le ↦ let same : j ≡ k = omega (arith, le, hi) in subst (λ (m : ℕ). Passes problem plan i m) same here
+    ]
+
+-- what a test of listings tells, said of the events that list them
+listed_so : (F : List Listing → List Listing → Option ℕ → Type 0) (problem : Problem) (stood : List Event) (i : ℕ) (d e : Event) (listings others : List Listing) (end : Option ℕ)
+    → listings ≡ listings_at problem d → others ≡ listings_at problem e → end ≡ ended_in problem stood i d → F listings others end → F (listings_at problem d) (listings_at problem e) (ended_in problem stood i d)
+listed_so F problem stood i d e listings others end a b x h =
+    subst (λ (y : Option ℕ). F (listings_at problem d) (listings_at problem e) y) x
+    (subst (λ (y : List Listing). F (listings_at problem d) y end) b (subst (λ (y : List Listing). F y others end) a h))
+
+pub lets_pass : (problem : Problem) (stood : List Event) (i : ℕ) (d e : Event) (listings others : List Listing) (end : Option ℕ)
+    → listings ≡ listings_at problem d → others ≡ listings_at problem e → end ≡ ended_in problem stood i d
+    → All (λ l. Any (λ k. k.resource ≡ l.resource) others → HasPassed end l.release e.time) listings → LetsPass problem stood i d e
+lets_pass problem stood i d e listings others end a b x h trains =
+    listed_so (λ (p q : List Listing) (y : Option ℕ). All (λ l. Any (λ k. k.resource ≡ l.resource) q → HasPassed y l.release e.time) p) problem stood i d e listings others end a b x h
+
+pub held_by : (problem : Problem) (stood : List Event) (i : ℕ) (d e : Event) (listings others : List Listing) (end : Option ℕ) (resource : ℕ)
+    → listings ≡ listings_at problem d → others ≡ listings_at problem e → end ≡ ended_in problem stood i d → d.train ≢ e.train
+    → IsFirstListing listings (λ l. Any (λ k. k.resource ≡ l.resource) others → HasPassed end l.release e.time) resource → IsHeldBy problem stood i d e resource
+held_by problem stood i d e listings others end resource a b x trains h =
+    let first = listed_so (λ (p q : List Listing) (y : Option ℕ). IsFirstListing p (λ l. Any (λ k. k.resource ≡ l.resource) q → HasPassed y l.release e.time) resource) problem stood i d e listings others end a b x h in
+    record { trains = trains; place = first.place; listing = first.listing; listed = first.listed; held = first.bad; earlier = first.earlier; names = first.names }

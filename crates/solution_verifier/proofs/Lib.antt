@@ -1,0 +1,12 @@
+pub mod Ends
+pub mod Ranks
+pub mod Judging
+pub mod Holding
+pub mod Clashes
+pub mod Ways
+pub mod Nexts
+pub mod Agreed
+pub mod SoundIsValid
+pub mod ValidIsSound
+pub mod Firsts
+pub mod Chained
