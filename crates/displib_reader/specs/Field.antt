@@ -38,6 +38,15 @@ abbrev pub values_of : Items → List Data
 values_of no_items = []
 values_of (item d ds) = d ∷ values_of ds
 
+-- the members of a list, none where there is no list
+abbrev pub members_in : Option Data → List Data
+members_in None = []
+members_in (Some d) = option_map_or values_of (as_array d) []
+
+-- the members of the list at a key
+abbrev pub members_at : List ℕ → Data → List Data
+members_at key d = members_in (field key d)
+
 -- the values of the array at a key
 abbrev pub array_at : List ℕ → Data → Option (List Data)
 array_at key d = option_and_then (λ v. option_map values_of (as_array v)) (field key d)

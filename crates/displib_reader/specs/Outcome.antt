@@ -1,69 +1,186 @@
 -- What `read_problem` answers, beside the bytes.
-use Rattle.std.specs.Prelude.{◌≡◌, ◌≤◌, ℕ, List, [], length, All, sum_by, Result, Ok, Err}
+use Rattle.std.specs.Prelude.{◌≡◌, ◌≤◌, ◌<◌, ℕ, List, length, All, sum_by, Option, Some, None, codes, Result, Ok, Err}
 use Rattle.serde_json.specs.Data.{Data}
+use Rattle.displib_reader.specs.declared.place.Place.{Place}
+use Rattle.displib_reader.specs.declared.fault.Kind.{Kind}
 use Rattle.displib_reader.specs.declared.fault.ProblemNo.{ProblemNo}
-use Rattle.displib_reader.specs.declared.fault.ProblemNo.TheVariants.{NotJson, NotPlain, Memory}
+use Rattle.displib_reader.specs.declared.fault.ProblemNo.TheVariants.{NotJson, Shape, NotWhole, TooLarge, TooMany, BadIndex, NotOneEntry, NotOneExit, Loop, UnknownObjective, TooCostly, Memory}
+use Rattle.displib_reader.specs.declared.rule.Rule.{Rule}
+use Rattle.displib_reader.specs.declared.rule.Rule.TheVariants as rule
 use Rattle.disp_model.specs.declared.problem.Problem.{Problem}
 use Rattle.disp_model.specs.declared.train.Operation.{Operation}
 use Rattle.disp_model.specs.declared.train.Component.{Component}
-use Rattle.disp_model.specs.WellFormed.{IsWellFormed, IsComponent, operation_count, most_of, horizon}
-use Rattle.disp_model.specs.declared.limits.TheConstants.{MOST_TRAINS, MOST_COMPONENTS, MOST_OPERATIONS, GREATEST_COST}
+use Rattle.disp_model.specs.WellFormed.{most_of, horizon}
+use Rattle.disp_model.specs.declared.limits.TheConstants.{GREATEST_COST, GREATEST_NUMBER}
 use Rattle.displib_reader.specs.Json.{IsJson}
-use Rattle.displib_reader.specs.ProblemOf.{IsProblemOf}
-use Rattle.displib_reader.specs.Plain.{IsPlain}
+use Rattle.displib_reader.specs.Field.{members_at}
+use Rattle.displib_reader.specs.Claims.{problem_claims, first_broken}
+use Rattle.displib_reader.specs.Counts.{too_many}
+use Rattle.displib_reader.specs.Graphs.{entry_count, exit_count, first_not_one, HasNoCycle, IsFirstLoop}
+use Rattle.displib_reader.specs.Types.{first_unknown}
+use Rattle.displib_reader.specs.ProblemOf.{trains_of, components_of, IsProblemOf}
 
--- the problem is that of the value, and it is plain
-pub record IsPlainProblemOf (d : Data) (problem : Problem) : Type 0 where
-  pub problem_of : IsProblemOf d problem
-  pub plain : IsPlain problem.trains
+-- ---- the rules, each with those before it
 
--- there is no plain problem for the value
-abbrev pub HasNoPlain : Data → Type 0
-HasNoPlain d = (problem : Problem) → IsPlainProblemOf d problem → ⊥
+-- the first place of the value that breaks the rule
+abbrev pub broken_at : Rule → Data → Option Place
+broken_at rule d = first_broken rule (problem_claims d)
 
--- the bytes are JSON, the problem is that of their value, and it is plain
+-- each value is of its kind, needed ones are there, and numbers are whole and within the limit
+pub record IsPlain (d : Data) : Type 0 where
+  pub shape : broken_at rule.Shape d ≡ None
+  pub whole : broken_at rule.Whole d ≡ None
+  pub limit : broken_at rule.Limit d ≡ None
+
+-- there are few enough trains, operations and components, and each index names something that is there
+pub record IsLinked (d : Data) : Type 0 where
+  pub plain : IsPlain d
+  pub few : too_many d ≡ None
+  pub index : broken_at rule.Index d ≡ None
+
+-- the value keeps these rules, and these are its trains
+pub record HasTrains (d : Data) (trains : List (List Operation)) : Type 0 where
+  pub linked : IsLinked d
+  pub trains_are : trains_of d ≡ Some trains
+
+-- each train has one entry, one exit and no cycle
+pub record HaveGraphs (trains : List (List Operation)) : Type 0 where
+  pub entries : first_not_one entry_count 0 trains ≡ None
+  pub exits : first_not_one exit_count 0 trains ≡ None
+  pub no_cycle : All HasNoCycle trains
+
+-- each component is of the one type that there is, and these are the value's components
+pub record HasComponents (d : Data) (components : List Component) : Type 0 where
+  pub types : first_unknown 0 (members_at (codes "objective") d) ≡ None
+  pub components_are : components_of d ≡ Some components
+
+-- what the components cost at most, at the horizon
+abbrev pub greatest_sum : List (List Operation) → List Component → ℕ
+greatest_sum trains components = sum_by (most_of (horizon trains)) components
+
+-- no rule is broken
+pub record KeepsRules (d : Data) (trains : List (List Operation)) (components : List Component) : Type 0 where
+  pub has_trains : HasTrains d trains
+  pub graphs : HaveGraphs trains
+  pub has_components : HasComponents d components
+  pub cheap : greatest_sum trains components ≤ GREATEST_COST
+
+-- ---- the answers
+
+-- the bytes are JSON, no rule is broken, and the problem is that of their value
 pub record IsReadAs (bytes : List ℕ) (problem : Problem) : Type 0 where
   pub value : Data
   pub json : IsJson bytes value
-  pub problem_is : IsPlainProblemOf value problem
+  pub keeps : KeepsRules value problem.trains problem.components
+  pub problem_is : IsProblemOf value problem
 
 -- the bytes are not UTF-8, or serde_json refuses them
 abbrev pub IsNoJson : List ℕ → Type 0
 IsNoJson bytes = (d : Data) → IsJson bytes d → ⊥
 
--- the bytes are JSON, and there is no plain problem for their value
-pub record IsNotPlain (bytes : List ℕ) : Type 0 where
+-- the trains break a rule on their graphs first: all are judged for entries before any is for exits
+abbrev pub BreaksGraphs : List (List Operation) → ProblemNo → Type 0
+BreaksGraphs trains NotJson = ⊥
+BreaksGraphs trains (Shape place) = ⊥
+BreaksGraphs trains (NotWhole place) = ⊥
+BreaksGraphs trains (TooLarge place) = ⊥
+BreaksGraphs trains (TooMany kind count) = ⊥
+BreaksGraphs trains (BadIndex place) = ⊥
+BreaksGraphs trains (NotOneEntry t count) = first_not_one entry_count 0 trains ≡ Some (t, count)
+BreaksGraphs trains (NotOneExit t count) = (first_not_one entry_count 0 trains ≡ None) × (first_not_one exit_count 0 trains ≡ Some (t, count))
+BreaksGraphs trains (Loop t o) = (first_not_one entry_count 0 trains ≡ None) × (first_not_one exit_count 0 trains ≡ None) × IsFirstLoop trains t o
+BreaksGraphs trains (UnknownObjective c) = ⊥
+BreaksGraphs trains (TooCostly sum) = ⊥
+BreaksGraphs trains Memory = Unit {0}
+
+-- the value has trains, and they break a rule on their graphs first
+pub record HasBrokenGraphs (d : Data) (why : ProblemNo) : Type 0 where
+  pub trains : List (List Operation)
+  pub has_trains : HasTrains d trains
+  pub broken : BreaksGraphs trains why
+
+-- the graphs are in order, and a component, the first, is of an unknown type
+pub record HasUnknown (d : Data) (c : ℕ) : Type 0 where
+  pub trains : List (List Operation)
+  pub has_trains : HasTrains d trains
+  pub graphs : HaveGraphs trains
+  pub unknown : first_unknown 0 (members_at (codes "objective") d) ≡ Some c
+
+-- the components may cost too much, and all other rules are kept
+pub record CostsTooMuch (d : Data) (sum : ℕ) : Type 0 where
+  pub trains : List (List Operation)
+  pub components : List Component
+  pub has_trains : HasTrains d trains
+  pub graphs : HaveGraphs trains
+  pub has_components : HasComponents d components
+  pub sum_is : greatest_sum trains components ≡ sum
+  pub above : GREATEST_COST < sum
+
+-- the value breaks the rule of the refusal, there, and none before it
+abbrev pub Breaks : Data → ProblemNo → Type 0
+Breaks d NotJson = ⊥
+Breaks d (Shape place) = broken_at rule.Shape d ≡ Some place
+Breaks d (NotWhole place) = (broken_at rule.Shape d ≡ None) × (broken_at rule.Whole d ≡ Some place)
+Breaks d (TooLarge place) = (broken_at rule.Shape d ≡ None) × (broken_at rule.Whole d ≡ None) × (broken_at rule.Limit d ≡ Some place)
+Breaks d (TooMany kind count) = IsPlain d × (too_many d ≡ Some (kind, count))
+Breaks d (BadIndex place) = IsPlain d × (too_many d ≡ None) × (broken_at rule.Index d ≡ Some place)
+Breaks d (NotOneEntry t count) = HasBrokenGraphs d (NotOneEntry t count)
+Breaks d (NotOneExit t count) = HasBrokenGraphs d (NotOneExit t count)
+Breaks d (Loop t o) = HasBrokenGraphs d (Loop t o)
+Breaks d (UnknownObjective c) = HasUnknown d c
+Breaks d (TooCostly sum) = CostsTooMuch d sum
+Breaks d Memory = Unit {0}
+
+-- the bytes are JSON, and their value breaks the rule of the refusal and none before it
+pub record BreaksFirst (bytes : List ℕ) (why : ProblemNo) : Type 0 where
   pub value : Data
   pub json : IsJson bytes value
-  pub none : HasNoPlain value
+  pub breaks : Breaks value why
+
+-- why there is no problem of the bytes; want of memory may come whatever they are
+abbrev pub IsRefused : List ℕ → ProblemNo → Type 0
+IsRefused bytes NotJson = IsNoJson bytes
+IsRefused bytes (Shape place) = BreaksFirst bytes (Shape place)
+IsRefused bytes (NotWhole place) = BreaksFirst bytes (NotWhole place)
+IsRefused bytes (TooLarge place) = BreaksFirst bytes (TooLarge place)
+IsRefused bytes (TooMany kind count) = BreaksFirst bytes (TooMany kind count)
+IsRefused bytes (BadIndex place) = BreaksFirst bytes (BadIndex place)
+IsRefused bytes (NotOneEntry t count) = BreaksFirst bytes (NotOneEntry t count)
+IsRefused bytes (NotOneExit t count) = BreaksFirst bytes (NotOneExit t count)
+IsRefused bytes (Loop t o) = BreaksFirst bytes (Loop t o)
+IsRefused bytes (UnknownObjective c) = BreaksFirst bytes (UnknownObjective c)
+IsRefused bytes (TooCostly sum) = BreaksFirst bytes (TooCostly sum)
+IsRefused bytes Memory = Unit {0}
 
 -- ---- for private clauses
 
--- counts and costs are within the limits, and components name operations
-pub record AreWithinLimits (trains : List (List Operation)) (components : List Component) : Type 0 where
-  pub trains_fit : length trains ≤ MOST_TRAINS
-  pub components_fit : length components ≤ MOST_COMPONENTS
-  pub operations_fit : operation_count trains ≤ MOST_OPERATIONS
-  pub named : All (IsComponent trains) components
-  pub costs_fit : sum_by (most_of (horizon trains)) components ≤ GREATEST_COST
+-- a component's costs are within the limit
+pub record HasFitCosts (c : Component) : Type 0 where
+  pub threshold : c.threshold ≤ GREATEST_NUMBER
+  pub increment : c.increment ≤ GREATEST_NUMBER
+  pub coeff : c.coeff ≤ GREATEST_NUMBER
 
--- the trains and components are no parts of a plain problem
-abbrev pub AreNoParts : List (List Operation) → List Component → Type 0
-AreNoParts trains components = IsPlain trains → IsWellFormed trains components [] → ⊥
-
--- the problem has these trains and components, and no names
-pub record IsMadeOf (trains : List (List Operation)) (components : List Component) (problem : Problem) : Type 0 where
-  pub trains_are : problem.trains ≡ trains
-  pub components_are : problem.components ≡ components
-  pub names_are : problem.names ≡ []
-  pub plain : IsPlain trains
-
-abbrev pub Refused : ProblemNo → Data → Type 0
-Refused NotJson d = ⊥
-Refused NotPlain d = HasNoPlain d
-Refused Memory d = Unit {0}
-
--- the plain problem of a value, or that there is none
+-- the problem of a value, or the rule that it breaks first
 abbrev pub Answers : Result Problem ProblemNo → Data → Type 0
-Answers (Ok problem) d = IsPlainProblemOf d problem
-Answers (Err e) d = Refused e d
+Answers (Ok problem) d = KeepsRules d problem.trains problem.components × IsProblemOf d problem
+Answers (Err why) d = Breaks d why
+
+-- the first component of an unknown type
+abbrev pub BreaksTypes : Data → ProblemNo → Type 0
+BreaksTypes d NotJson = ⊥
+BreaksTypes d (Shape place) = ⊥
+BreaksTypes d (NotWhole place) = ⊥
+BreaksTypes d (TooLarge place) = ⊥
+BreaksTypes d (TooMany kind count) = ⊥
+BreaksTypes d (BadIndex place) = ⊥
+BreaksTypes d (NotOneEntry t count) = ⊥
+BreaksTypes d (NotOneExit t count) = ⊥
+BreaksTypes d (Loop t o) = ⊥
+BreaksTypes d (UnknownObjective c) = first_unknown 0 (members_at (codes "objective") d) ≡ Some c
+BreaksTypes d (TooCostly sum) = ⊥
+BreaksTypes d Memory = Unit {0}
+
+-- the components of a value, or the first that is of an unknown type
+abbrev pub FindsComponents : Result (List Component) ProblemNo → Data → Type 0
+FindsComponents (Ok components) d = HasComponents d components
+FindsComponents (Err why) d = BreaksTypes d why

@@ -8,28 +8,23 @@ use Rattle.disp_model.specs.declared.train.Listing.{Listing}
 use Rattle.disp_model.specs.declared.train.Operation.{Operation}
 use Rattle.disp_model.specs.declared.train.Component.{Component}
 use Rattle.disp_model.specs.declared.problem.Problem.{Problem}
-use Rattle.displib_reader.specs.Field.{◌>>=◌, number_at, number_or, optional_number, whole_of, values_of, array_at, array_or_empty, text_at, each}
+use Rattle.displib_reader.specs.Field.{◌>>=◌, number_at, number_or, optional_number, whole_of, values_of, members_in, members_at, array_at, array_or_empty, text_at, each}
 
 -- each member once, where it first stands
 abbrev pub once : {A : Type 0} → (A → A → Bool) → List A → List A
 once same [] = []
 once same (x ∷ xs) = x ∷ filter (λ y. not (same x y)) (once same xs)
 
--- the values of an array, none where it is no array
-abbrev pub members_of : Option (List Data) → List Data
-members_of None = []
-members_of (Some ds) = ds
-
 -- the names of resources that an operation lists, in the order of the text
 abbrev pub names_of_operation : Data → List (List ℕ)
-names_of_operation d = filter_map (text_at (codes "resource")) (members_of (array_or_empty (codes "resources") d))
+names_of_operation d = filter_map (text_at (codes "resource")) (members_at (codes "resources") d)
 
 abbrev pub names_of_train : Data → List (List ℕ)
-names_of_train d = flat_map names_of_operation (members_of (option_map values_of (as_array d)))
+names_of_train d = flat_map names_of_operation (members_in (Some d))
 
 -- the names of resources, numbered by first appearance in the text
 abbrev pub names_in : Data → List (List ℕ)
-names_in d = once bytes_eq (flat_map names_of_train (members_of (array_at (codes "trains") d)))
+names_in d = once bytes_eq (flat_map names_of_train (members_at (codes "trains") d))
 
 -- a listing: a resource, and a release time that is 0 where it is absent
 abbrev pub listing_of : List (List ℕ) → Data → Option Listing
@@ -68,8 +63,12 @@ component_of d = do
   coeff ← number_or (codes "coeff") 0 d
   if is_delay kind then Some (record { train = train; operation = operation; threshold = threshold; increment = increment; coeff = coeff }) else None
 
+-- the trains, where the resources have these names
+abbrev pub trains_with : List (List ℕ) → Data → Option (List (List Operation))
+trains_with names d = array_at (codes "trains") d >>= each (train_of names)
+
 abbrev pub trains_of : Data → Option (List (List Operation))
-trains_of d = array_at (codes "trains") d >>= each (train_of (names_in d))
+trains_of d = trains_with (names_in d) d
 
 abbrev pub components_of : Data → Option (List Component)
 components_of d = array_at (codes "objective") d >>= each component_of

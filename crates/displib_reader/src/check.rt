@@ -1,58 +1,61 @@
-ghost use Rattle.std.specs.Prelude.{◌≡◌, ◌+◌, ◌*◌, ◌^◌, ◌<◌, ◌≤◌, ◌↔◌, All, IsTrue, length, sum_by};
-ghost use Rattle.disp_model.specs.WellFormed.{IsComponent, HasFitNumbers, most_of, horizon, operation_count, span_of, greatest_release};
-ghost use Rattle.displib_reader.specs.Plain.{IsPlain, IsPlainTrain, IsPlainOperation, HasFitCosts};
+ghost use Rattle.std.specs.Prelude.{◌≡◌, ◌+◌, ◌*◌, ◌^◌, ◌<◌, ◌≤◌, All, IfOk, IfSome, IfNone, length, sum_by};
+ghost use Rattle.disp_model.specs.WellFormed.{HasFitNumbers, most_of, horizon, operation_count, span_of, greatest_release};
+ghost use Rattle.displib_reader.specs.Graphs.{entry_count, exit_count, first_not_one, HasNoCycle, IsFirstLoop, AreInside};
+ghost use Rattle.displib_reader.specs.Outcome.{greatest_sum, HasFitCosts};
 
+use crate::cycle::first_on_cycle;
+use crate::graph::{entry_count, exit_count};
 use disp_model::{
-    Component, GREATEST_COST, GREATEST_NUMBER, Listing, MOST_OPERATIONS, Operation, Train,
+    Component, GREATEST_NUMBER, Listing, MOST_COMPONENTS, MOST_OPERATIONS, Memory, Operation, Train,
 };
+use std::alloc::Global;
 
-/// Whether the operation at a place of a train of so many lists nothing, has no latest start, and
-/// goes on to the next one.
-fn is_plain_operation(count: usize, place: usize, operation: &Operation) -> bool
-    requires { place < count }
-    ensures { IsTrue result ↔ IsPlainOperation count place operation.now }
+/// The first train with another count of entries than one, and that count.
+pub(crate) fn first_not_entered(
+    alloc: Global,
+    trains: &[Train],
+) -> Result<Option<(usize, u64)>, Memory>
+    requires inside { All AreInside trains.now }
+    ensures first { IfOk result (λ found. found ≡ first_not_one entry_count 0 trains.now) }
+    ensures there { IfOk result (λ found. IfSome found (λ p. p.0 < length trains.now)) }
 {
-    if !operation.listings.as_slice().is_empty() || operation.upper.is_some() {
-        return false;
-    }
-    match operation.next.as_slice() {
-        [] => place + 1 == count,
-        [next] => place + 1 < count && *next as usize == place + 1,
-        _ => false,
-    }
-}
-
-/// Whether a train is plain.
-fn is_plain_train(train: &[Operation]) -> bool
-    ensures { IsTrue result ↔ IsPlainTrain train.now }
-{
-    for (place, operation) in train.iter().enumerate() {
-        if !is_plain_operation(train.len(), place, operation) {
-            return false;
+    for (t, train) in trains.iter().enumerate() {
+        let count = entry_count(alloc, train.as_slice())?;
+        if count != 1 {
+            return Ok(Some((t, count)));
         }
     }
-    !train.is_empty()
+    Ok(None)
 }
 
-/// Whether each train is plain.
-pub(crate) fn are_plain(trains: &[Train]) -> bool
-    ensures { IsTrue result ↔ IsPlain trains.now }
+/// The first train with another count of exits than one, and that count.
+pub(crate) fn first_not_left(trains: &[Train]) -> Option<(usize, u64)>
+    ensures first { result ≡ first_not_one exit_count 0 trains.now }
+    ensures there { IfSome result (λ p. p.0 < length trains.now) }
 {
-    trains.iter().all(|train| is_plain_train(train.as_slice()))
-}
-
-/// Whether the trains have few enough operations.
-pub(crate) fn operations_fit(trains: &[Train]) -> bool
-    ensures { IsTrue result ↔ (operation_count trains.now ≤ MOST_OPERATIONS) }
-{
-    let mut room = MOST_OPERATIONS;
-    for train in trains {
-        if train.len() > room {
-            return false;
+    for (t, train) in trains.iter().enumerate() {
+        let count = exit_count(train.as_slice());
+        if count != 1 {
+            return Some((t, count));
         }
-        room -= train.len();
     }
-    true
+    None
+}
+
+/// The first train with a cycle, and the least operation that lies on one.
+pub(crate) fn first_loop(alloc: Global, trains: &[Train]) -> Result<Option<(usize, u32)>, Memory>
+    requires inside { All AreInside trains.now }
+    requires small { All (λ train. length train ≤ MOST_OPERATIONS) trains.now }
+    ensures found { IfOk result (λ found. IfSome found (λ p. IsFirstLoop trains.now p.0 p.1)) }
+    ensures none { IfOk result (λ found. IfNone found (All HasNoCycle trains.now)) }
+    ensures there { IfOk result (λ found. IfSome found (λ p. p.0 < length trains.now)) }
+{
+    for (t, train) in trains.iter().enumerate() {
+        if let Some(o) = first_on_cycle(alloc, train.as_slice())? {
+            return Ok(Some((t, o)));
+        }
+    }
+    Ok(None)
 }
 
 /// The greatest release time of the resources listed, or 0.
@@ -81,7 +84,7 @@ fn span_of_train(train: &[Operation]) -> u64
 }
 
 /// The time that no earliest start passes.
-pub(crate) fn horizon(trains: &[Train]) -> u64
+fn horizon(trains: &[Train]) -> u64
     requires fits { operation_count trains.now ≤ MOST_OPERATIONS }
     ensures value { result ≡ horizon trains.now }
     ensures small { result < 2 ^ 54 }
@@ -93,41 +96,31 @@ pub(crate) fn horizon(trains: &[Train]) -> u64
     last
 }
 
-/// Whether a component, whose numbers are within the limit, names an operation.
-fn names_operation(trains: &[Train], component: &Component) -> bool
-    requires fits { HasFitCosts component.now }
-    ensures { IsTrue result ↔ IsComponent trains.now component.now }
+/// What a component costs at most, at the horizon.
+fn most_of(last: u64, component: &Component) -> u128
+    ensures value { result ≡ most_of last component.now }
+    ensures small { result ≤ 2 ^ 96 }
 {
-    match trains.get(component.train as usize) {
-        Some(train) => (component.operation as usize) < train.len(),
-        None => false,
-    }
+    u128::from(component.coeff) * u128::from(last) + u128::from(component.increment)
 }
 
-/// Whether each component names an operation.
-pub(crate) fn name_operations(trains: &[Train], components: &[Component]) -> bool
-    requires fits { All HasFitCosts components.now }
-    ensures { IsTrue result ↔ All (IsComponent trains.now) components.now }
+/// What the components cost at most, at the horizon of the trains.
+pub(crate) fn greatest_sum(trains: &[Train], components: &[Component]) -> u128
+    requires fits { operation_count trains.now ≤ MOST_OPERATIONS }
+    requires few { length components.now ≤ MOST_COMPONENTS }
+    ensures { result ≡ greatest_sum trains.now components.now }
 {
-    components
-        .iter()
-        .all(|component| names_operation(trains, component))
+    sum_at(horizon(trains), components)
 }
 
-/// Whether the components cost little enough at the horizon.
-pub(crate) fn costs_fit(last: u64, components: &[Component]) -> bool
-    ensures { IsTrue result ↔ (sum_by (most_of last) components.now ≤ GREATEST_COST) }
+/// What the components cost at most, at a horizon.
+fn sum_at(last: u64, components: &[Component]) -> u128
+    requires few { length components.now ≤ MOST_COMPONENTS }
+    ensures { result ≡ sum_by (most_of last) components.now }
 {
-    let mut room = GREATEST_COST;
+    let mut sum: u128 = 0;
     for component in components {
-        let most = match u64::from(component.coeff).checked_mul(last) {
-            Some(most) => most.checked_add(u64::from(component.increment)),
-            None => None,
-        };
-        match most {
-            Some(most) if most <= room => room -= most,
-            _ => return false,
-        }
+        sum += most_of(last, component);
     }
-    true
+    sum
 }

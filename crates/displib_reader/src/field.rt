@@ -1,7 +1,7 @@
 ghost use Rattle.std.specs.Prelude.{◌≡◌, option_map, map, Some, None};
 ghost use Rattle.serde_json.specs.View.{view};
 ghost use Rattle.serde_json.specs.Find.{as_array};
-ghost use Rattle.displib_reader.specs.Field.{field, whole_of, values_of, number_at, number_or, optional_number, array_at, array_or_empty, text_at};
+ghost use Rattle.displib_reader.specs.Field.{field, whole_of, values_of, members_in, members_at, number_at, number_or, optional_number, array_at, array_or_empty, text_at};
 
 use disp_model::GREATEST_NUMBER;
 use serde_json::Value;
@@ -68,6 +68,23 @@ pub(crate) fn elements(value: &Value) -> Option<&[Value]>
     match value.as_array() {
         Some(values) => Some(values.as_slice()),
         None => None,
+    }
+}
+
+/// The members of a list, none where it is no list.
+pub(crate) fn members(value: &Value) -> &[Value]
+    ensures { map view result.now ≡ members_in (Some (view value.now)) }
+{
+    elements(value).unwrap_or(&[])
+}
+
+/// The members of the list at a key, none where there is no list.
+pub(crate) fn members_at<'a>(value: &'a Value, key: &str) -> &'a [Value]
+    ensures { map view result.now ≡ members_at key.now (view value.now) }
+{
+    match field(value, key) {
+        Some(found) => members(found),
+        None => &[],
     }
 }
 

@@ -1,18 +1,31 @@
 // Reads problems in the DISPLIB 2025 JSON format. The problem of a text is stated in `specs/` over
 // the JSON value that `serde_json` reads: its keys and their defaults, what counts as absent, which
-// numbers are taken. `read_problem` answers that problem exactly where there is one that the
-// dispatcher can run so far, and otherwise names what the text is: no JSON, or no plain problem.
+// numbers are taken. `read_problem` answers that problem exactly where no rule is broken, and
+// otherwise names the first rule that is broken and the place; `ProblemNo::write` gives the text that
+// is printed for it.
 #![tactic(auto)]
 
 mod check;
+mod claims;
 mod component;
+mod counts;
+mod cycle;
 mod fault;
 mod field;
+mod graph;
+mod judge;
+mod names;
+mod objective;
 mod operation;
+mod place;
 mod problem;
+mod rule;
 mod train;
+mod unread;
+mod why;
 
-pub use fault::ProblemNo;
+pub use fault::{Kind, ProblemNo};
+pub use place::{ComponentKey, ListingKey, OperationKey, Place};
 pub use problem::read_problem;
 
 #[cfg(test)]

@@ -1,91 +1,111 @@
-ghost use Rattle.std.specs.Prelude.{◌≡◌, map};
-ghost use Rattle.std.specs.List.{list_all};
+ghost use Rattle.std.specs.Prelude.{◌≡◌, map, nat_eq, IfOk, string_bytes, ◌<◌, length};
+ghost use Rattle.std.specs.List.{position_or_len};
+ghost use Rattle.std.specs.Str.{bytes_eq};
 ghost use Rattle.serde_json.specs.View.{view};
 ghost use Rattle.displib_reader.specs.Gives.{Gives};
-ghost use Rattle.displib_reader.specs.Plain.{only_successor, lists_nothing, open_ended, is_number, plain_operation};
+ghost use Rattle.displib_reader.specs.Field.{each, whole_of};
+ghost use Rattle.displib_reader.specs.ProblemOf.{once, listing_of, operation_of};
 
-use crate::fault::ProblemNo;
-use crate::field::{array_or_empty, number_or, optional_number, whole};
-use disp_model::{List, Operation};
+use crate::field::{array_or_empty, number_or, optional_number, text_at, whole};
+use crate::unread::Unread;
+use disp_model::{List, Listing, Memory, Operation};
+use indexmap::IndexSet;
 use serde_json::Value;
 use std::alloc::Global;
 
-/// Whether the value is this number.
-fn is_number(number: u32, value: &Value) -> bool
-    ensures { result ≡ is_number number (view value.now) }
+/// The place of a name among the names, or how many there are. Places past 32 bits want more memory
+/// than there is.
+#[tactic(auto, using(crate::proofs::Once::name_place))]
+fn place_of(names: &IndexSet<String>, name: &str) -> Result<u32, Memory>
+    ensures { IfOk result (λ place. place ≡ position_or_len (bytes_eq name.now) (map string_bytes names.now.keys)) }
 {
-    match whole(value) {
-        Some(n) => n == number,
-        None => false,
+    let place = names.get_index_of(name).unwrap_or(names.len());
+    match u32::try_from(place) {
+        Ok(place) => Ok(place),
+        Err(_) => Err(Memory),
     }
 }
 
-/// Whether all values are this number.
-fn all_are(number: u32, values: &[Value]) -> bool
-    ensures { result ≡ list_all (is_number number) (map view values.now) }
+/// A resource that an operation lists.
+fn read_listing(names: &IndexSet<String>, value: &Value) -> Result<Listing, Unread>
+    ensures { Gives result (listing_of (map string_bytes names.now.keys) (view value.now)) }
 {
+    let name = text_at(value, "resource").ok_or(Unread::Nothing)?;
+    let release = number_or(value, "release_time", 0).ok_or(Unread::Nothing)?;
+    let resource = place_of(names, name)?;
+    Ok(Listing { resource, release })
+}
+
+/// The resources that an operation lists.
+fn read_listings(
+    alloc: Global,
+    names: &IndexSet<String>,
+    values: &[Value],
+) -> Result<List<Listing>, Unread>
+    ensures { Gives result (each (listing_of (map string_bytes names.now.keys)) (map view values.now)) }
+{
+    let mut listings = Vec::new(alloc);
     for value in values {
-        if !is_number(number, value) {
-            return false;
-        }
+        listings.push(read_listing(names, value)?)?;
     }
-    true
+    Ok(List::from_vec(listings))
 }
 
-/// The one operation that comes next, if one does.
-fn successor(alloc: Global, value: &Value) -> Result<List<u32>, ProblemNo>
-    ensures { Gives result (only_successor (view value.now)) }
+/// The numbers of a list.
+fn read_numbers(alloc: Global, values: &[Value]) -> Result<List<u32>, Unread>
+    ensures { Gives result (each whole_of (map view values.now)) }
 {
-    let values = array_or_empty(value, "successors").ok_or(ProblemNo::NotPlain)?;
-    let mut next = List::new(alloc);
-    if let Some((first, others)) = values.split_first() {
-        let first = whole(first).ok_or(ProblemNo::NotPlain)?;
-        if !all_are(first, others) {
-            return Err(ProblemNo::NotPlain);
-        }
-        next.push(first)?;
+    let mut numbers = Vec::new(alloc);
+    for value in values {
+        numbers.push(whole(value).ok_or(Unread::Nothing)?)?;
     }
-    Ok(next)
+    Ok(List::from_vec(numbers))
 }
 
-/// Tests that no resource is listed.
-fn lists_nothing(value: &Value) -> Result<(), ProblemNo>
-    ensures { Gives result (lists_nothing (view value.now)) }
+/// The numbers as a set, in order of first appearance.
+fn set_of(alloc: Global, numbers: &[u32]) -> Result<IndexSet<u32>, Memory>
+    ensures { IfOk result (λ set. set.keys ≡ once nat_eq numbers.now) }
 {
-    match array_or_empty(value, "resources") {
-        Some([]) => Ok(()),
-        _ => Err(ProblemNo::NotPlain),
+    let mut set = IndexSet::new(alloc);
+    for number in numbers {
+        set.insert(*number)?;
     }
+    Ok(set)
 }
 
-/// Tests that there is no latest start.
-fn is_open_ended(value: &Value) -> Result<(), ProblemNo>
-    ensures { Gives result (open_ended (view value.now)) }
+/// Each number once, where it first stands.
+fn once(alloc: Global, numbers: &[u32]) -> Result<List<u32>, Memory>
+    ensures { IfOk result (λ kept. kept ≡ once nat_eq numbers.now) }
 {
-    match optional_number(value, "start_ub") {
-        Some(None) => Ok(()),
-        _ => Err(ProblemNo::NotPlain),
-    }
+    let set = set_of(alloc, numbers)?;
+    Ok(List::from_vec(Vec::from_slice(alloc, set.as_slice())?))
 }
 
-/// An operation that lists no resource, has no latest start, and goes on to one operation at most.
-#[tactic(auto, unfolding(crate::specs::Plain::plain_operation))]
-pub(crate) fn read_operation(alloc: Global, value: &Value) -> Result<Operation, ProblemNo>
-    ensures { Gives result (plain_operation (view value.now)) }
+/// An operation of a train.
+#[tactic(auto, unfolding(crate::specs::ProblemOf::operation_of))]
+pub(crate) fn read_operation(
+    alloc: Global,
+    names: &IndexSet<String>,
+    value: &Value,
+) -> Result<Operation, Unread>
+    ensures { Gives result (operation_of (map string_bytes names.now.keys) (view value.now)) }
 {
     if !value.is_object() {
-        return Err(ProblemNo::NotPlain);
+        return Err(Unread::Nothing);
     }
-    let lower = number_or(value, "start_lb", 0).ok_or(ProblemNo::NotPlain)?;
-    is_open_ended(value)?;
-    let min = number_or(value, "min_duration", 0).ok_or(ProblemNo::NotPlain)?;
-    lists_nothing(value)?;
-    let next = successor(alloc, value)?;
+    let lower = number_or(value, "start_lb", 0).ok_or(Unread::Nothing)?;
+    let upper = optional_number(value, "start_ub").ok_or(Unread::Nothing)?;
+    let min = number_or(value, "min_duration", 0).ok_or(Unread::Nothing)?;
+    let resources = array_or_empty(value, "resources").ok_or(Unread::Nothing)?;
+    let listings = read_listings(alloc, names, resources)?;
+    let successors = array_or_empty(value, "successors").ok_or(Unread::Nothing)?;
+    let numbers = read_numbers(alloc, successors)?;
+    let next = once(alloc, numbers.as_slice())?;
     Ok(Operation {
         lower,
-        upper: None,
+        upper,
         min,
-        listings: List::new(alloc),
+        listings,
         next,
     })
 }

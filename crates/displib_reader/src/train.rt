@@ -1,35 +1,40 @@
-ghost use Rattle.std.specs.Prelude.{◌≡◌};
+ghost use Rattle.std.specs.Prelude.{◌≡◌, map, string_bytes};
 ghost use Rattle.serde_json.specs.View.{view};
 ghost use Rattle.displib_reader.specs.Gives.{Gives};
-ghost use Rattle.displib_reader.specs.Plain.{plain_train, plain_trains};
+ghost use Rattle.displib_reader.specs.ProblemOf.{train_of, trains_with};
 
-use crate::fault::ProblemNo;
 use crate::field::{array_at, elements};
 use crate::operation::read_operation;
+use crate::unread::Unread;
 use disp_model::{List, Train};
+use indexmap::IndexSet;
 use serde_json::Value;
 use std::alloc::Global;
 
-/// A train of plain operations.
-fn read_train(alloc: Global, value: &Value) -> Result<Train, ProblemNo>
-    ensures { Gives result (plain_train (view value.now)) }
+/// A train.
+fn read_train(alloc: Global, names: &IndexSet<String>, value: &Value) -> Result<Train, Unread>
+    ensures { Gives result (train_of (map string_bytes names.now.keys) (view value.now)) }
 {
-    let values = elements(value).ok_or(ProblemNo::NotPlain)?;
+    let values = elements(value).ok_or(Unread::Nothing)?;
     let mut operations = Vec::new(alloc);
     for item in values {
-        operations.push(read_operation(alloc, item)?)?;
+        operations.push(read_operation(alloc, names, item)?)?;
     }
     Ok(List::from_vec(operations))
 }
 
-/// The trains, each of plain operations.
-pub(crate) fn read_trains(alloc: Global, value: &Value) -> Result<List<Train>, ProblemNo>
-    ensures { Gives result (plain_trains (view value.now)) }
+/// The trains.
+pub(crate) fn read_trains(
+    alloc: Global,
+    names: &IndexSet<String>,
+    value: &Value,
+) -> Result<List<Train>, Unread>
+    ensures { Gives result (trains_with (map string_bytes names.now.keys) (view value.now)) }
 {
-    let values = array_at(value, "trains").ok_or(ProblemNo::NotPlain)?;
+    let values = array_at(value, "trains").ok_or(Unread::Nothing)?;
     let mut trains = Vec::new(alloc);
     for item in values {
-        trains.push(read_train(alloc, item)?)?;
+        trains.push(read_train(alloc, names, item)?)?;
     }
     Ok(List::from_vec(trains))
 }

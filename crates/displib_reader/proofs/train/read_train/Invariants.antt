@@ -1,10 +1,10 @@
 -- the operations read so far, before those that are left, are those of the train
-use Rattle.std.proofs.Common.{◌≡◌, map, drop}
+use Rattle.std.proofs.Common.{◌≡◌, map, drop, string_bytes}
 use Rattle.serde_json.specs.View.{view}
 use Rattle.displib_reader.specs.Field.{each}
-use Rattle.displib_reader.specs.Plain.{plain_operation, plain_train}
+use Rattle.displib_reader.specs.ProblemOf.{operation_of, train_of}
 use Rattle.displib_reader.proofs.Each.{with_front}
 use Rattle.displib_reader.proofs.train.read_train.Given as goal
 
 abbrev pub invariant-loop-item : goal.invariant-loop-item
-invariant-loop-item l = with_front l.operations.items (each plain_operation (map view (drop l.item-index l.values))) ≡ plain_train (view l.value)
+invariant-loop-item l = with_front l.operations.items (each (operation_of (map string_bytes l.names.keys)) (map view (drop l.item-index l.values))) ≡ train_of (map string_bytes l.names.keys) (view l.value)

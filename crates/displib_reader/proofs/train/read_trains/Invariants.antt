@@ -1,10 +1,10 @@
 -- the trains read so far, before those that are left, are those of the value
-use Rattle.std.proofs.Common.{◌≡◌, map, drop}
+use Rattle.std.proofs.Common.{◌≡◌, map, drop, string_bytes}
 use Rattle.serde_json.specs.View.{view}
 use Rattle.displib_reader.specs.Field.{each}
-use Rattle.displib_reader.specs.Plain.{plain_train, plain_trains}
+use Rattle.displib_reader.specs.ProblemOf.{train_of, trains_with}
 use Rattle.displib_reader.proofs.Each.{with_front}
 use Rattle.displib_reader.proofs.train.read_trains.Given as goal
 
 abbrev pub invariant-loop-item : goal.invariant-loop-item
-invariant-loop-item l = with_front l.trains.items (each plain_train (map view (drop l.item-index l.values))) ≡ plain_trains (view l.value)
+invariant-loop-item l = with_front l.trains.items (each (train_of (map string_bytes l.names.keys)) (map view (drop l.item-index l.values))) ≡ trains_with (map string_bytes l.names.keys) (view l.value)

@@ -1,0 +1,11 @@
+-- Ranks of operations that rise along successors, for private clauses.
+use Rattle.std.specs.Prelude.{◌≡◌, ℕ, ◌<◌, List, Some, All, slice_index, slice_get}
+use Rattle.disp_model.specs.declared.train.Operation.{Operation}
+
+-- the operation has a rank above this one
+abbrev pub IsAbove : List ℕ → ℕ → ℕ → Type 0
+IsAbove ranks rank s = rank < slice_index ranks s
+
+-- each successor has a higher rank
+abbrev pub Rises : List Operation → List ℕ → Type 0
+Rises train ranks = (o : ℕ) (p : Operation) → slice_get train o ≡ Some p → All (IsAbove ranks (slice_index ranks o)) p.next
