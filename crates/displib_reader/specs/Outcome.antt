@@ -1,8 +1,7 @@
 -- What `read_problem` answers, beside the bytes.
-use Rattle.std.specs.Prelude.{◌≡◌, ◌≤◌, ◌<◌, ℕ, List, length, All, sum_by, Option, Some, None, codes, Result, Ok, Err}
+use Rattle.std.specs.Prelude.{◌≡◌, ◌≤◌, ◌<◌, ℕ, List, All, sum_by, Option, Some, None, codes, Result, Ok, Err}
 use Rattle.serde_json.specs.Data.{Data}
 use Rattle.displib_reader.specs.declared.place.Place.{Place}
-use Rattle.displib_reader.specs.declared.fault.Kind.{Kind}
 use Rattle.displib_reader.specs.declared.fault.ProblemNo.{ProblemNo}
 use Rattle.displib_reader.specs.declared.fault.ProblemNo.TheVariants.{NotJson, Shape, NotWhole, TooLarge, TooMany, BadIndex, NotOneEntry, NotOneExit, Loop, UnknownObjective, TooCostly, Memory}
 use Rattle.displib_reader.specs.declared.rule.Rule.{Rule}
