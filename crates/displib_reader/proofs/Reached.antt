@@ -58,21 +58,7 @@ visits_new marks ahead n lt clear = record {
     from x (inl h) = inl h
     from x (inr e) = inr (subst (λ i. Contains (n ∷ []) i) e (contains_itself n))
 
-pub visits_seen : (marks : List Bool) (ahead : List ℕ) (n : ℕ) → get_or marks n false ≡ true → Visits (n ∷ []) marks marks ahead ahead
-visits_seen marks ahead n seen = record {
-  long = refl;
-  marks = λ s h. record { is = subst (λ i. get_or marks i false ≡ true) (sym (contains_one n s h)) seen };
-  kept = λ s m. m;
-  found = λ s m. inl m;
-  waiting = λ x h. h;
-  ahead = λ x h. inl h;
-  work = refl;
-}
-
 -- ---- visits one after another
-
-pub visits_none : (marks : List Bool) (ahead : List ℕ) → Visits [] marks marks ahead ahead
-visits_none marks ahead = record { long = refl; marks = λ s h. absurd (contains_none s h); kept = λ s m. m; found = λ s m. inl m; waiting = λ x h. h; ahead = λ x h. inl h; work = refl }
 
 pub visits_then : {ns ms : List ℕ} {a b c : List Bool} {x y z : List ℕ} → Visits ns a b x y → Visits ms b c y z → Visits (ns ++ ms) a c x z
 visits_then {ns} {ms} {a} {b} {c} {x} {y} {z} first second = record {

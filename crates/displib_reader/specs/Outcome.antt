@@ -10,7 +10,7 @@ use Rattle.disp_model.specs.declared.problem.Problem.{Problem}
 use Rattle.disp_model.specs.declared.train.Operation.{Operation}
 use Rattle.disp_model.specs.declared.train.Component.{Component}
 use Rattle.disp_model.specs.WellFormed.{most_of, horizon}
-use Rattle.disp_model.specs.declared.limits.TheConstants.{GREATEST_COST, GREATEST_NUMBER}
+use Rattle.disp_model.specs.declared.limits.TheConstants.{GREATEST_COST}
 use Rattle.displib_reader.specs.Json.{IsJson}
 use Rattle.displib_reader.specs.Field.{members_at}
 use Rattle.displib_reader.specs.Claims.{problem_claims, first_broken}
@@ -152,12 +152,6 @@ IsRefused bytes (TooCostly sum) = BreaksFirst bytes (TooCostly sum)
 IsRefused bytes Memory = Unit {0}
 
 -- ---- for private clauses
-
--- a component's costs are within the limit
-pub record HasFitCosts (c : Component) : Type 0 where
-  pub threshold : c.threshold ≤ GREATEST_NUMBER
-  pub increment : c.increment ≤ GREATEST_NUMBER
-  pub coeff : c.coeff ≤ GREATEST_NUMBER
 
 -- the problem of a value, or the rule that it breaks first
 abbrev pub Answers : Result Problem ProblemNo → Data → Type 0
