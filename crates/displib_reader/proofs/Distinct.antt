@@ -1,6 +1,6 @@
 -- Lists that have no member twice.
-use Rattle.std.proofs.Common.{◌≡◌, ◌≢◌, ℕ, zero, suc, ◌+◌, ◌<◌, List, [], ◌∷◌, length, Option, Some, None, Bool, true, false, not, cond, filter, refl, sym, ap, ◌∙◌, subst, arith}
-use Rattle.std.specs.Prelude.{slice_get, ◌||◌}
+use Rattle.std.proofs.Common.{◌≡◌, ◌≢◌, ℕ, zero, suc, ◌<◌, List, [], ◌∷◌, length, Some, Bool, true, false, not, cond, filter, refl, sym, ◌∙◌, subst, arith}
+use Rattle.std.specs.Prelude.{slice_get}
 use Rattle.std.specs.List.{AllByRecursion, list_any, position_or_len}
 use Rattle.std.specs.Cmp.{IsEquivalence}
 use Rattle.std.proofs.lemmas.Option.{same_Some, none-some}
@@ -43,7 +43,7 @@ pub once_all : {A : Type 0} (P : A → Type 0) (same : A → A → Bool) (xs : L
 once_all P same [] all = tt
 once_all P same (x ∷ xs) all = (all.0, all_filter P (λ y. not (same x y)) (once same xs) (once_all P same xs all.1))
 
-at_all : {A : Type 0} (P : A → Type 0) (xs : List A) (i : ℕ) (x : A) → AllByRecursion P xs → slice_get xs i ≡ Some x → P x
+pub at_all : {A : Type 0} (P : A → Type 0) (xs : List A) (i : ℕ) (x : A) → AllByRecursion P xs → slice_get xs i ≡ Some x → P x
 at_all P [] i x all e = absurd (none-some x e)
 at_all P (y ∷ ys) zero x all e = subst P (same_Some y x e) all.0
 at_all P (y ∷ ys) (suc i) x all e = at_all P ys i x all.1 e

@@ -1,5 +1,5 @@
 -- Texts that were added one after another.
-use Rattle.std.proofs.Common.{◌≡◌, ℕ, List, ◌++◌, ap, ◌∙◌, append_assoc}
+use Rattle.std.proofs.Common.{ℕ, List, ◌++◌, ap, ◌∙◌, append_assoc}
 use Rattle.displib_reader.specs.Why.{Adds}
 
 -- one more text behind those that were added

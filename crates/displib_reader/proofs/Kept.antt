@@ -1,5 +1,5 @@
 -- Claims that break no rule, and what then stands at their places.
-use Rattle.std.proofs.Common.{◌≡◌, ℕ, zero, suc, ◌+◌, ◌<◌, ◌≤◌, List, [], ◌∷◌, ◌++◌, length, map, Option, Some, None, Bool, true, false, not, cond, option_map, is_some, refl, sym, ap, ◌∙◌, arith}
+use Rattle.std.proofs.Common.{◌≡◌, ℕ, ◌+◌, ◌<◌, List, [], ◌∷◌, ◌++◌, Option, Some, None, Bool, true, false, not, cond, option_map, is_some, refl, ap}
 use Rattle.std.specs.Prelude.{option_and_then, find, nat_lt, nat_le}
 use Rattle.std.specs.List.{AllByRecursion}
 use Rattle.std.specs.Option.{option_map_or}
@@ -10,10 +10,9 @@ use Rattle.disp_model.specs.declared.limits.TheConstants.{GREATEST_NUMBER}
 use Rattle.displib_reader.specs.declared.place.Place.{Place}
 use Rattle.displib_reader.specs.declared.rule.Rule.{Rule}
 use Rattle.displib_reader.specs.declared.rule.Rule.TheVariants as rule
-use Rattle.displib_reader.specs.declared.rule.Want.{Want}
 use Rattle.displib_reader.specs.declared.rule.Want.TheVariants as want
 use Rattle.displib_reader.specs.Field.{fit, whole_of, values_of, members_in, each}
-use Rattle.displib_reader.specs.Claims.{Claim, claim, needed, optional, breaks, first_broken, claims_from, whole_in, is_misshapen, is_not_whole, is_too_large, is_bad_index}
+use Rattle.displib_reader.specs.Claims.{Claim, needed, optional, breaks, first_broken, claims_from, whole_in, is_misshapen, is_not_whole, is_too_large, is_bad_index}
 use Rattle.displib_reader.proofs.Steps.{each_cons}
 
 -- the claim breaks no rule

@@ -6,6 +6,7 @@ pub mod Kept
 pub mod Marks
 pub mod Numbers
 pub mod Once
+pub mod OneAnswer
 pub mod Parts
 pub mod Reached
 pub mod Steps

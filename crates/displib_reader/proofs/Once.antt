@@ -1,5 +1,5 @@
 -- Members that are gathered one after another, each once.
-use Rattle.std.proofs.Common.{◌≡◌, ℕ, zero, suc, ◌+◌, ◌<◌, List, [], ◌∷◌, ◌++◌, ◌||◌, ◌&&◌, not, length, get_or, map, fold, filter, Bool, true, false, cond, refl, sym, ap, ◌∙◌, append-nil, append_assoc, String, Global, string_bytes, ◌≤◌, Option, Some, None, take, inl, inr, arith}
+use Rattle.std.proofs.Common.{◌≡◌, ℕ, zero, suc, ◌+◌, ◌<◌, List, [], ◌∷◌, ◌++◌, ◌||◌, not, length, get_or, map, fold, filter, Bool, true, false, cond, refl, sym, ap, ◌∙◌, append-nil, append_assoc, String, Global, string_bytes, ◌≤◌, Option, Some, None, take, inl, inr, arith}
 use Rattle.std.specs.Prelude.{if◌then◌else◌, nat_eq, nat_lt, position, unwrap_or}
 use Rattle.std.specs.List.{list_any, position_or_len, flat_map, filter_map, cons_option}
 use Rattle.serde_json.specs.Data.{Data}

@@ -1,31 +1,25 @@
 -- The parts of a value that keeps the rules on single places are read, and what is read is well formed.
-use Rattle.std.proofs.Common.{◌≡◌, ℕ, zero, suc, ◌+◌, ◌<◌, ◌≤◌, List, [], ◌∷◌, ◌++◌, length, map, Option, Some, None, Bool, true, false, not, cond, option_map, refl, sym, ap, subst, ◌∙◌, arith}
-use Rattle.std.specs.Prelude.{All, codes, nat_eq, slice_get, option_and_then}
-use Rattle.std.specs.List.{AllByRecursion, list_any, filter_map, flat_map, position_or_len}
-use Rattle.std.specs.Option.{option_map_or, ForSome}
+use Rattle.std.proofs.Common.{◌≡◌, ℕ, ◌<◌, ◌≤◌, List, [], ◌∷◌, length, Option, Some, true, refl}
+use Rattle.std.specs.Prelude.{codes, nat_eq}
+use Rattle.std.specs.List.{AllByRecursion, list_any, position_or_len}
 use Rattle.std.specs.Str.{bytes_eq}
 use Rattle.std.specs.Cmp.{nat_eq_equiv}
 use Rattle.std.proofs.lemmas.List.Elements.{All-from_recursion}
 use Rattle.serde_json.specs.Data.{Data}
-use Rattle.serde_json.specs.Find.{as_array, as_object}
+use Rattle.serde_json.specs.Find.{as_object}
 use Rattle.disp_model.specs.declared.train.Listing.{Listing}
 use Rattle.disp_model.specs.declared.train.Operation.{Operation}
-use Rattle.disp_model.specs.declared.train.Component.{Component}
 use Rattle.disp_model.specs.declared.limits.TheConstants.{GREATEST_NUMBER}
 use Rattle.disp_model.specs.WellFormed.{HasFitNumbers, RefersInside}
 use Rattle.displib_reader.specs.declared.place.Place.TheVariants as place
 use Rattle.displib_reader.specs.declared.place.OperationKey.TheVariants.{StartLb, StartUb, MinDuration, Resources, Successors}
 use Rattle.displib_reader.specs.declared.place.ListingKey.TheVariants.{Resource, ReleaseTime}
-use Rattle.displib_reader.specs.declared.place.ComponentKey.TheVariants as key
-use Rattle.displib_reader.specs.declared.rule.Want.TheVariants as want
-use Rattle.displib_reader.specs.Field.{field, whole_of, values_of, members_in, members_at, text_at, number_or, number_at, optional_number, array_or_empty, array_at, each}
-use Rattle.displib_reader.specs.ProblemOf.{once, names_of_operation, names_of_train, listing_of, operation_of, train_of, component_of, is_delay}
-use Rattle.displib_reader.specs.Claims.{Claim, needed, optional, claims_from, listing_claims, successor_claims, operation_claims, train_claims, component_claims, cost_claims, count_at, whole_in}
-use Rattle.displib_reader.specs.Types.{is_known}
-use Rattle.displib_reader.specs.Outcome.{HasFitCosts}
-use Rattle.displib_reader.proofs.Kept.{IsKept, AreKept, kept_head, kept_both, default_there, optional_there, index_there, text_there, object_there, list_there, needed_list_there, each_kept}
+use Rattle.displib_reader.specs.Field.{field, whole_of, members_at, text_at, number_or, optional_number, array_or_empty, each}
+use Rattle.displib_reader.specs.ProblemOf.{once, listing_of, operation_of}
+use Rattle.displib_reader.specs.Claims.{claims_from, listing_claims, successor_claims, operation_claims}
+use Rattle.displib_reader.proofs.Kept.{AreKept, kept_head, kept_both, default_there, optional_there, index_there, text_there, object_there, list_there, each_kept}
 use Rattle.displib_reader.proofs.Numbers.{default_fits, optional_fits}
-use Rattle.displib_reader.proofs.Distinct.{IsDistinct, once_distinct, once_all, distinct_places, any_position}
+use Rattle.displib_reader.proofs.Distinct.{once_distinct, once_all, distinct_places, any_position}
 
 -- ---- listings
 

@@ -1,8 +1,8 @@
 -- What is marked on the way from an operation, and what ranks that rise say of cycles.
-use Rattle.std.proofs.Common.{◌≡◌, ◌≢◌, ℕ, zero, suc, ◌+◌, ◌<◌, ◌≤◌, ◌⊎◌, List, [], ◌∷◌, ◌++◌, length, get_or, set, replicate, Option, Some, None, Bool, true, false, not, cond, refl, sym, ap, subst, ◌∙◌, inl, inr, arith}
-use Rattle.std.specs.Prelude.{◌↔◌, nat_eq, slice_get, slice_index, count_by, Contains, All}
+use Rattle.std.proofs.Common.{◌≡◌, ℕ, zero, suc, ◌+◌, ◌<◌, ◌⊎◌, List, [], ◌∷◌, ◌++◌, length, get_or, set, replicate, Option, Some, None, Bool, true, false, not, cond, refl, sym, ap, subst, ◌∙◌, inl, inr, arith}
+use Rattle.std.specs.Prelude.{◌↔◌, nat_eq, slice_get, slice_index, Contains, All}
 use Rattle.std.proofs.lemmas.Bool.{eq-eqb, eqb-true, false≢true, cases_lt}
-use Rattle.std.proofs.lemmas.Option.{same_Some, none-some, slice_get_within, slice_get-get_or}
+use Rattle.std.proofs.lemmas.Option.{same_Some, slice_get_within, slice_get-get_or}
 use Rattle.std.proofs.lemmas.List.{length-set, length-replicate, get_or-set_same, get_or-set_other, get_or-replicate, get_or_past}
 use Rattle.std.proofs.lemmas.List.Elements.{Contains-append_left, Contains-append_right, Contains-push, Contains-push_cases, Contains-append_cases, All-contains}
 use Rattle.disp_model.specs.declared.train.Operation.{Operation}
@@ -58,21 +58,7 @@ visits_new marks ahead n lt clear = record {
     from x (inl h) = inl h
     from x (inr e) = inr (subst (λ i. Contains (n ∷ []) i) e (contains_itself n))
 
-pub visits_seen : (marks : List Bool) (ahead : List ℕ) (n : ℕ) → get_or marks n false ≡ true → Visits (n ∷ []) marks marks ahead ahead
-visits_seen marks ahead n seen = record {
-  long = refl;
-  marks = λ s h. record { is = subst (λ i. get_or marks i false ≡ true) (sym (contains_one n s h)) seen };
-  kept = λ s m. m;
-  found = λ s m. inl m;
-  waiting = λ x h. h;
-  ahead = λ x h. inl h;
-  work = refl;
-}
-
 -- ---- visits one after another
-
-pub visits_none : (marks : List Bool) (ahead : List ℕ) → Visits [] marks marks ahead ahead
-visits_none marks ahead = record { long = refl; marks = λ s h. absurd (contains_none s h); kept = λ s m. m; found = λ s m. inl m; waiting = λ x h. h; ahead = λ x h. inl h; work = refl }
 
 pub visits_then : {ns ms : List ℕ} {a b c : List Bool} {x y z : List ℕ} → Visits ns a b x y → Visits ms b c y z → Visits (ns ++ ms) a c x z
 visits_then {ns} {ms} {a} {b} {c} {x} {y} {z} first second = record {

@@ -1,6 +1,6 @@
 -- The trains of a value that keeps the rules on single places and on counts.
-use Rattle.std.proofs.Common.{◌≡◌, ℕ, zero, suc, ◌+◌, ◌<◌, ◌≤◌, List, [], ◌∷◌, ◌++◌, length, map, Option, Some, None, Bool, true, false, not, cond, option_map, refl, sym, ap, subst, ◌∙◌, arith}
-use Rattle.std.specs.Prelude.{All, codes, slice_get, sum_by, nat_lt, ◌||◌}
+use Rattle.std.proofs.Common.{◌≡◌, ℕ, zero, suc, ◌+◌, ◌≤◌, List, [], ◌∷◌, ◌++◌, length, Option, Some, None, Bool, true, false, cond, option_map, refl, sym, ap, subst, ◌∙◌, arith}
+use Rattle.std.specs.Prelude.{codes, slice_get, sum_by, nat_lt, ◌||◌}
 use Rattle.std.specs.List.{AllByRecursion, list_any, filter_map, flat_map, cons_option}
 use Rattle.std.specs.Option.{option_map_or}
 use Rattle.std.specs.Str.{bytes_eq}
@@ -13,11 +13,10 @@ use Rattle.serde_json.specs.Find.{as_array}
 use Rattle.disp_model.specs.declared.train.Operation.{Operation}
 use Rattle.disp_model.specs.declared.limits.TheConstants.{MOST_TRAINS, MOST_OPERATIONS, MOST_COMPONENTS}
 use Rattle.disp_model.specs.WellFormed.{operation_count}
-use Rattle.displib_reader.specs.declared.fault.Kind.{Kind}
 use Rattle.displib_reader.specs.declared.place.Place.TheVariants as place
 use Rattle.displib_reader.specs.Field.{field, values_of, members_in, members_at, text_at, array_at, each}
 use Rattle.displib_reader.specs.ProblemOf.{once, names_of_operation, names_of_train, names_in, operation_of, train_of, trains_with, trains_of}
-use Rattle.displib_reader.specs.Claims.{claims_from, operation_claims, train_claims, problem_claims, component_claims}
+use Rattle.displib_reader.specs.Claims.{claims_from, operation_claims, train_claims, problem_claims}
 use Rattle.displib_reader.specs.Counts.{too_many, trains_given, operations_given, components_given}
 use Rattle.displib_reader.specs.Outcome.{IsLinked}
 use Rattle.displib_reader.proofs.Steps.{bind_some, each_some}

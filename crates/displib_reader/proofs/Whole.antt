@@ -1,5 +1,5 @@
 -- A problem that breaks no rule is well formed.
-use Rattle.std.proofs.Common.{◌≡◌, ◌≢◌, ℕ, ◌+◌, ◌<◌, ◌≤◌, List, [], ◌∷◌, length, get_or, Option, Some, None, Bool, true, false, cond, refl, sym, ap, subst, ◌∙◌, arith}
+use Rattle.std.proofs.Common.{◌≡◌, ◌≢◌, ℕ, ◌+◌, ◌<◌, ◌≤◌, List, [], ◌∷◌, length, Option, Some, None, Bool, true, false, cond, refl, ap, subst}
 use Rattle.std.specs.Prelude.{All, codes, slice_get, ◌==◌}
 use Rattle.std.specs.List.{AllByRecursion}
 use Rattle.std.specs.Str.{bytes_eq}
@@ -12,15 +12,15 @@ use Rattle.disp_model.specs.declared.train.Component.{Component}
 use Rattle.disp_model.specs.declared.limits.TheConstants.{MOST_OPERATIONS}
 use Rattle.disp_model.specs.WellFormed.{HasFitNumbers, RefersInside, IsAcyclic, IsWellFormed}
 use Rattle.displib_reader.specs.Field.{members_at}
-use Rattle.displib_reader.specs.ProblemOf.{once, names_of_train, names_in, trains_of}
+use Rattle.displib_reader.specs.ProblemOf.{names_of_train, names_in, trains_of}
 use Rattle.displib_reader.specs.Graphs.{entry_count, exit_count, first_not_one, HasNoCycle, AreInside}
-use Rattle.displib_reader.specs.Outcome.{IsLinked, HasTrains, HaveGraphs, HasComponents, KeepsRules}
+use Rattle.displib_reader.specs.Outcome.{IsLinked, HaveGraphs, KeepsRules}
 use Rattle.std.specs.List.{flat_map}
 use Rattle.displib_reader.proofs.Distinct.{distinct_places, once_distinct}
 use Rattle.displib_reader.proofs.Marks.{one_entry, one_exit, entered}
 use Rattle.displib_reader.proofs.Parts.{IsGoodOperation}
 use Rattle.displib_reader.proofs.Trains.{IsGoodTrain, all_weaker, good_trains, few_trains, few_operations, short_trains}
-use Rattle.displib_reader.proofs.Components.{AreGoodComponents, good_components, components_named}
+use Rattle.displib_reader.proofs.Components.{good_components, components_named}
 
 all_numbers : (n r : ℕ) (train : List Operation) → AllByRecursion (IsGoodOperation n r) train → All HasFitNumbers train
 all_numbers n r train all = All-from_recursion HasFitNumbers train (all_weaker (IsGoodOperation n r) HasFitNumbers (λ o h. h.numbers) train all)

@@ -1,5 +1,5 @@
 -- How many trains, operations and components a JSON value gives, and which of these are too many.
-use Rattle.std.specs.Prelude.{ℕ, List, length, sum_by, Option, Some, None, nat_lt, codes, if◌then◌else◌}
+use Rattle.std.specs.Prelude.{ℕ, length, sum_by, Option, Some, None, nat_lt, codes, if◌then◌else◌}
 use Rattle.serde_json.specs.Data.{Data}
 use Rattle.disp_model.specs.declared.limits.TheConstants.{MOST_TRAINS, MOST_OPERATIONS, MOST_COMPONENTS}
 use Rattle.displib_reader.specs.declared.fault.Kind.{Kind}

@@ -1,8 +1,7 @@
 -- What `read_problem` answers, beside the bytes.
-use Rattle.std.specs.Prelude.{◌≡◌, ◌≤◌, ◌<◌, ℕ, List, length, All, sum_by, Option, Some, None, codes, Result, Ok, Err}
+use Rattle.std.specs.Prelude.{◌≡◌, ◌≤◌, ◌<◌, ℕ, List, All, sum_by, Option, Some, None, codes, Result, Ok, Err}
 use Rattle.serde_json.specs.Data.{Data}
 use Rattle.displib_reader.specs.declared.place.Place.{Place}
-use Rattle.displib_reader.specs.declared.fault.Kind.{Kind}
 use Rattle.displib_reader.specs.declared.fault.ProblemNo.{ProblemNo}
 use Rattle.displib_reader.specs.declared.fault.ProblemNo.TheVariants.{NotJson, Shape, NotWhole, TooLarge, TooMany, BadIndex, NotOneEntry, NotOneExit, Loop, UnknownObjective, TooCostly, Memory}
 use Rattle.displib_reader.specs.declared.rule.Rule.{Rule}
@@ -11,7 +10,7 @@ use Rattle.disp_model.specs.declared.problem.Problem.{Problem}
 use Rattle.disp_model.specs.declared.train.Operation.{Operation}
 use Rattle.disp_model.specs.declared.train.Component.{Component}
 use Rattle.disp_model.specs.WellFormed.{most_of, horizon}
-use Rattle.disp_model.specs.declared.limits.TheConstants.{GREATEST_COST, GREATEST_NUMBER}
+use Rattle.disp_model.specs.declared.limits.TheConstants.{GREATEST_COST}
 use Rattle.displib_reader.specs.Json.{IsJson}
 use Rattle.displib_reader.specs.Field.{members_at}
 use Rattle.displib_reader.specs.Claims.{problem_claims, first_broken}
@@ -153,12 +152,6 @@ IsRefused bytes (TooCostly sum) = BreaksFirst bytes (TooCostly sum)
 IsRefused bytes Memory = Unit {0}
 
 -- ---- for private clauses
-
--- a component's costs are within the limit
-pub record HasFitCosts (c : Component) : Type 0 where
-  pub threshold : c.threshold ≤ GREATEST_NUMBER
-  pub increment : c.increment ≤ GREATEST_NUMBER
-  pub coeff : c.coeff ≤ GREATEST_NUMBER
 
 -- the problem of a value, or the rule that it breaks first
 abbrev pub Answers : Result Problem ProblemNo → Data → Type 0

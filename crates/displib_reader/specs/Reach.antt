@@ -1,9 +1,8 @@
 -- Operations that are reached from one, for private clauses.
-use Rattle.std.specs.Prelude.{◌≡◌, ◌⊎◌, ℕ, ◌+◌, ◌<◌, List, Bool, true, false, not, length, count_by, Contains, slice_index_or}
+use Rattle.std.specs.Prelude.{◌≡◌, ◌⊎◌, ℕ, ◌+◌, List, Bool, true, false, not, length, count_by, Contains, slice_index_or}
 use Rattle.disp_model.specs.declared.train.Operation.{Operation}
-use Rattle.disp_model.specs.Train.{IsSuccessor, next_of}
+use Rattle.disp_model.specs.Train.{IsSuccessor}
 use Rattle.disp_model.specs.WellFormed.{LeadsTo}
-use Rattle.displib_reader.specs.Graphs.{marked}
 
 -- some way leads from the one to the other
 abbrev pub IsReached : List Operation → ℕ → ℕ → Type 0

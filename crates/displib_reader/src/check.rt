@@ -1,7 +1,7 @@
 ghost use Rattle.std.specs.Prelude.{◌≡◌, ◌+◌, ◌*◌, ◌^◌, ◌<◌, ◌≤◌, All, IfOk, IfSome, IfNone, length, sum_by};
-ghost use Rattle.disp_model.specs.WellFormed.{HasFitNumbers, most_of, horizon, operation_count, span_of, greatest_release};
+ghost use Rattle.disp_model.specs.WellFormed.{most_of, horizon, operation_count, span_of, greatest_release};
 ghost use Rattle.displib_reader.specs.Graphs.{entry_count, exit_count, first_not_one, HasNoCycle, IsFirstLoop, AreInside};
-ghost use Rattle.displib_reader.specs.Outcome.{greatest_sum, HasFitCosts};
+ghost use Rattle.displib_reader.specs.Outcome.{greatest_sum};
 
 use crate::cycle::first_on_cycle;
 use crate::graph::{entry_count, exit_count};

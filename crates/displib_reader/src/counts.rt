@@ -1,4 +1,4 @@
-ghost use Rattle.std.specs.Prelude.{◌≡◌, IfOk, map, sum_by, length, option_map, Some};
+ghost use Rattle.std.specs.Prelude.{◌≡◌, IfOk, map, sum_by, length, Some};
 ghost use Rattle.serde_json.specs.View.{view};
 ghost use Rattle.displib_reader.specs.Field.{members_in};
 ghost use Rattle.displib_reader.specs.Counts.{too_many};

@@ -1,6 +1,6 @@
 ghost use Rattle.std.specs.Prelude.{◌≡◌, option_map};
 ghost use Rattle.serde_json.specs.View.{view};
-ghost use Rattle.displib_reader.specs.Claims.{judged, needed as needed_claim, optional, claim, is_of, is_misshapen, is_not_whole, is_too_large, is_past, is_bad_index, breaks};
+ghost use Rattle.displib_reader.specs.Claims.{judged, needed as needed_claim, optional, claim, is_of, is_misshapen, is_not_whole, is_too_large, is_bad_index, breaks};
 
 use crate::place::Place;
 use crate::rule::{Rule, Want};

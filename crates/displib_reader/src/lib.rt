@@ -14,6 +14,7 @@ mod fault;
 mod field;
 mod graph;
 mod judge;
+mod laws;
 mod names;
 mod objective;
 mod operation;
@@ -25,6 +26,7 @@ mod unread;
 mod why;
 
 pub use fault::{Kind, ProblemNo};
+pub use laws::answers_exclude_each_other;
 pub use place::{ComponentKey, ListingKey, OperationKey, Place};
 pub use problem::read_problem;
 

@@ -1,5 +1,4 @@
 ghost use Rattle.std.specs.Prelude.{◌≡◌, IfOk, OnOk, map, string_bytes, codes};
-ghost use Rattle.std.specs.List.{flat_map, filter_map};
 ghost use Rattle.serde_json.specs.View.{view};
 ghost use Rattle.displib_reader.specs.Field.{text_at, members_at};
 ghost use Rattle.displib_reader.specs.ProblemOf.{names_of_operation, names_of_train, names_in};

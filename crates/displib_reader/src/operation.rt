@@ -1,4 +1,4 @@
-ghost use Rattle.std.specs.Prelude.{◌≡◌, map, nat_eq, IfOk, string_bytes, ◌<◌, length};
+ghost use Rattle.std.specs.Prelude.{◌≡◌, map, nat_eq, IfOk, string_bytes, ◌<◌};
 ghost use Rattle.std.specs.List.{position_or_len};
 ghost use Rattle.std.specs.Str.{bytes_eq};
 ghost use Rattle.serde_json.specs.View.{view};

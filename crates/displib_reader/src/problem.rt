@@ -5,7 +5,7 @@ ghost use Rattle.displib_reader.specs.ProblemOf.{names_in};
 ghost use Rattle.displib_reader.specs.Graphs.{AreInside};
 ghost use Rattle.displib_reader.specs.Field.{members_at};
 ghost use Rattle.displib_reader.specs.Types.{first_unknown};
-ghost use Rattle.displib_reader.specs.Outcome.{IsReadAs, IsNoJson, IsRefused, IsPlain, IsLinked, HasTrains, HaveGraphs, BreaksGraphs, FindsComponents, HasComponents, Breaks, Answers};
+ghost use Rattle.displib_reader.specs.Outcome.{IsReadAs, IsRefused, IsPlain, IsLinked, HasTrains, HaveGraphs, BreaksGraphs, FindsComponents, HasComponents, Breaks, Answers};
 
 use crate::check::{first_loop, first_not_entered, first_not_left, greatest_sum};
 use crate::component::{first_unknown, read_components};

@@ -1,4 +1,4 @@
-ghost use Rattle.std.specs.Prelude.{◌≡◌, map, string_bytes};
+ghost use Rattle.std.specs.Prelude.{map, string_bytes};
 ghost use Rattle.serde_json.specs.View.{view};
 ghost use Rattle.displib_reader.specs.Gives.{Gives};
 ghost use Rattle.displib_reader.specs.ProblemOf.{train_of, trains_with};

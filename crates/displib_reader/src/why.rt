@@ -1,6 +1,6 @@
 ghost use Rattle.std.specs.Prelude.{◌≡◌, ◌++◌, OnOk, OnErr, codes, string_bytes};
 ghost use Rattle.std.specs.Fmt.{decimal};
-ghost use Rattle.displib_reader.specs.Why.{Adds, step_text, train_text, operation_text, listing_text, component_text, operation_key_text, listing_key_text, component_key_text, place_text, kind_text, why_text};
+ghost use Rattle.displib_reader.specs.Why.{Adds, operation_text, listing_text, operation_key_text, listing_key_text, component_key_text, place_text, kind_text, why_text};
 
 use crate::fault::{Kind, ProblemNo};
 use crate::place::{ComponentKey, ListingKey, OperationKey, Place};

@@ -68,3 +68,15 @@ fn there_are_at_most_1048575_operations(rt: HostRuntime) -> Result<(), Fail> {
     expect(&rt, alloc, text.as_str(), "TooMany operations 1048576")?;
     Ok(())
 }
+
+#[test]
+fn a_train_of_a_million_operations_is_read(rt: HostRuntime) -> Result<(), Fail> {
+    let alloc = rt.alloc();
+    let mut text = String::from_str(alloc, r#"{"trains":[["#)?;
+    for next in 1..1000000u32 {
+        write!(text, "{{\"successors\":[{next}]}},")?;
+    }
+    text.push_str(r#"{}]],"objective":[]}"#)?;
+    expect(&rt, alloc, text.as_str(), "accepted")?;
+    Ok(())
+}

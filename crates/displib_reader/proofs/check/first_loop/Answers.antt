@@ -1,4 +1,4 @@
-use Rattle.std.proofs.Common.{◌≡◌, ◌∙◌, sym, subst, get_or, length, None, arith, rules}
+use Rattle.std.proofs.Common.{◌≡◌, subst, get_or, length, None, arith, rules}
 use Rattle.std.proofs.lemmas.Option.{slice_get-get_or}
 use Rattle.displib_reader.specs.Graphs.{HasNoCycle}
 use Rattle.displib_reader.proofs.Reached.{no_cycle_more}

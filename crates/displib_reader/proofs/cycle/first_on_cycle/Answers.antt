@@ -1,4 +1,4 @@
-use Rattle.std.proofs.Common.{◌≡◌, ◌∙◌, sym, arith, below_more}
+use Rattle.std.proofs.Common.{◌∙◌, sym, arith, below_more}
 use Rattle.std.proofs.lemmas.Bool.{false≢true}
 use Rattle.displib_reader.specs.Graphs.{IsOnCycle}
 use Rattle.displib_reader.proofs.Reached.{rises_has_no_cycle, none_below}

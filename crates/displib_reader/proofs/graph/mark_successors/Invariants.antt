@@ -1,5 +1,5 @@
 -- the successors of the operations so far are marked
-use Rattle.std.proofs.Common.{◌≡◌, take, length}
+use Rattle.std.proofs.Common.{◌≡◌, take}
 use Rattle.std.specs.List.{flat_map}
 use Rattle.displib_reader.specs.Graphs.{marked}
 use Rattle.displib_reader.proofs.graph.mark_successors.Given as goal

@@ -1,7 +1,5 @@
-use Rattle.std.proofs.Common.{subst}
 use Rattle.serde_json.specs.View.{view}
-use Rattle.displib_reader.specs.Claims.{problem_claims, IsFirst}
-use Rattle.displib_reader.specs.Outcome.{broken_at}
+use Rattle.displib_reader.specs.Claims.{problem_claims}
 use Rattle.displib_reader.proofs.Verdicts.{verdict_is_first}
 use Rattle.displib_reader.proofs.objective.check.Goals as goal
 

@@ -1,0 +1,210 @@
+-- Each text has one answer, beside want of memory.
+use Rattle.std.proofs.Common.{◌≡◌, ◌⊎◌, ℕ, ◌<◌, ◌≤◌, List, Option, Some, None, refl, sym, ap, subst, ◌∙◌, inl, inr, arith}
+use Rattle.std.specs.Prelude.{All, codes, slice_get}
+use Rattle.std.proofs.lemmas.Bool.{cases_lt}
+use Rattle.std.proofs.lemmas.List.Elements.{recursion_from_All}
+use Rattle.std.proofs.lemmas.Option.{same_Some}
+use Rattle.serde_json.specs.Data.{Data}
+use Rattle.displib_reader.specs.declared.fault.ProblemNo.{ProblemNo}
+use Rattle.displib_reader.specs.declared.fault.ProblemNo.TheVariants.{NotJson, Shape, NotWhole, TooLarge, TooMany, BadIndex, NotOneEntry, NotOneExit, Loop, UnknownObjective, TooCostly, Memory}
+use Rattle.displib_reader.specs.declared.rule.Rule.TheVariants as rule
+use Rattle.disp_model.specs.declared.problem.Problem.{Problem}
+use Rattle.disp_model.specs.declared.train.Operation.{Operation}
+use Rattle.disp_model.specs.declared.train.Component.{Component}
+use Rattle.disp_model.specs.declared.limits.TheConstants.{GREATEST_COST}
+use Rattle.displib_reader.specs.Json.{IsJson}
+use Rattle.displib_reader.specs.Field.{members_at}
+use Rattle.displib_reader.specs.Counts.{too_many}
+use Rattle.displib_reader.specs.Graphs.{entry_count, exit_count, first_not_one, HasNoCycle, IsOnCycle, IsFirstLoop}
+use Rattle.displib_reader.specs.Types.{first_unknown}
+use Rattle.displib_reader.specs.ProblemOf.{trains_of, components_of}
+use Rattle.displib_reader.specs.Outcome.{broken_at, IsLinked, greatest_sum, KeepsRules, Breaks, BreaksFirst, IsNoJson, IsReadAs, IsRefused}
+use Rattle.displib_reader.proofs.Distinct.{at_all}
+
+-- ---- the rules in their order, as one chain
+
+-- the rule is broken by this, and that is the answer; or the rules behind it give the answer
+abbrev At : {X : Type 0} → Option X → (X → ProblemNo) → Type 0 → Option ProblemNo → Type 0
+At (Some x) refusal behind answer = answer ≡ Some (refusal x)
+At None refusal behind answer = behind
+
+same_at : {X : Type 0} (found : Option X) (refusal : X → ProblemNo) (P Q : Type 0) (a b : Option ProblemNo) → At found refusal P a → At found refusal Q b → (P → Q → a ≡ b) → a ≡ b
+same_at (Some x) refusal P Q a b p q same = p ∙ sym q
+same_at None refusal P Q a b p q same = same p q
+
+abbrev Cheap : List (List Operation) → List Component → Option ProblemNo → Type 0
+Cheap trains components answer =
+    ((GREATEST_COST < greatest_sum trains components) × (answer ≡ Some (TooCostly (greatest_sum trains components)))) ⊎ ((greatest_sum trains components ≤ GREATEST_COST) × (answer ≡ None))
+
+abbrev Priced : Data → List (List Operation) → Option ProblemNo → Type 0
+Priced d trains answer = (components : List Component) × (components_of d ≡ Some components) × Cheap trains components answer
+
+abbrev Typed : Data → List (List Operation) → Option ProblemNo → Type 0
+Typed d trains answer = At (first_unknown 0 (members_at (codes "objective") d)) UnknownObjective (Priced d trains answer) answer
+
+abbrev Looped : List (List Operation) → Option ProblemNo → Type 0
+Looped trains answer = (t : ℕ) × (o : ℕ) × IsFirstLoop trains t o × (answer ≡ Some (Loop t o))
+
+abbrev Straight : Data → List (List Operation) → Option ProblemNo → Type 0
+Straight d trains answer = Looped trains answer ⊎ (All HasNoCycle trains × Typed d trains answer)
+
+abbrev Linked : Data → List (List Operation) → Option ProblemNo → Type 0
+Linked d trains answer =
+    At (first_not_one entry_count 0 trains) (λ p. NotOneEntry p.0 p.1) (At (first_not_one exit_count 0 trains) (λ p. NotOneExit p.0 p.1) (Straight d trains answer) answer) answer
+
+abbrev Graphed : Data → Option ProblemNo → Type 0
+Graphed d answer = (trains : List (List Operation)) × (trains_of d ≡ Some trains) × Linked d trains answer
+
+abbrev Counted : Data → Option ProblemNo → Type 0
+Counted d answer = At (too_many d) (λ p. TooMany p.0 p.1) (At (broken_at rule.Index d) BadIndex (Graphed d answer) answer) answer
+
+abbrev Chain : Data → Option ProblemNo → Type 0
+Chain d answer = At (broken_at rule.Shape d) Shape (At (broken_at rule.Whole d) NotWhole (At (broken_at rule.Limit d) TooLarge (Counted d answer) answer) answer) answer
+
+-- ---- one answer
+
+first_loops_agree : (trains : List (List Operation)) (t o t' o' : ℕ) → IsFirstLoop trains t o → IsFirstLoop trains t' o' → (t ≡ t') × (o ≡ o')
+first_loops_agree trains t o t' o' a b = (same-t, same-o)
+  where
+    same-t : t ≡ t'
+    same-t = elim (cases_lt t t') [
+      | inl lt ↦ absurd (b.before t a.train lt a.at o a.least.on)
+      | inr le ↦ elim (cases_lt t' t) [
+        | inl lt ↦ absurd (a.before t' b.train lt b.at o' b.least.on)
+        | inr ge ↦ omega (arith, le, ge)
+      ]
+    ]
+
+    same-train : a.train ≡ b.train
+    same-train = same_Some a.train b.train (sym a.at ∙ subst (λ k. slice_get trains k ≡ Some b.train) (sym same-t) b.at)
+
+    same-o : o ≡ o'
+    same-o = elim (cases_lt o o') [
+      | inl lt ↦ absurd (b.least.least o lt (subst (λ l. IsOnCycle l o) same-train a.least.on))
+      | inr le ↦ elim (cases_lt o' o) [
+        | inl lt ↦ absurd (a.least.least o' lt (subst (λ l. IsOnCycle l o') (sym same-train) b.least.on))
+        | inr ge ↦ omega (arith, le, ge)
+      ]
+    ]
+
+loop_is_cycle : (trains : List (List Operation)) (t o : ℕ) → IsFirstLoop trains t o → All HasNoCycle trains → ⊥
+loop_is_cycle trains t o loop none = at_all HasNoCycle trains t loop.train (recursion_from_All HasNoCycle trains none) loop.at o loop.least.on
+
+same_cheap : (trains : List (List Operation)) (components : List Component) (a b : Option ProblemNo) → Cheap trains components a → Cheap trains components b → a ≡ b
+same_cheap trains components a b (inl (x, p)) (inl (y, q)) = p ∙ sym q
+same_cheap trains components a b (inl (x, p)) (inr (y, q)) = absurd (omega (arith, x, y))
+same_cheap trains components a b (inr (x, p)) (inl (y, q)) = absurd (omega (arith, x, y))
+same_cheap trains components a b (inr (x, p)) (inr (y, q)) = p ∙ sym q
+
+same_priced : (d : Data) (trains : List (List Operation)) (a b : Option ProblemNo) → Priced d trains a → Priced d trains b → a ≡ b
+same_priced d trains a b (cs, e, p) (ds, f, q) = same_cheap trains ds a b (subst (λ l. Cheap trains l a) (same_Some cs ds (sym e ∙ f)) p) q
+
+same_straight : (d : Data) (trains : List (List Operation)) (a b : Option ProblemNo) → Straight d trains a → Straight d trains b → a ≡ b
+same_straight d trains a b (inl (t, o, x, p)) (inl (t', o', y, q)) =
+    let same = first_loops_agree trains t o t' o' x y in
+    p ∙ ap (λ n. Some (Loop n o)) same.0 ∙ ap (λ n. Some (Loop t' n)) same.1 ∙ sym q
+same_straight d trains a b (inl (t, o, x, p)) (inr (none, q)) = absurd (loop_is_cycle trains t o x none)
+same_straight d trains a b (inr (none, p)) (inl (t, o, y, q)) = absurd (loop_is_cycle trains t o y none)
+same_straight d trains a b (inr (none, p)) (inr (none', q)) =
+    same_at (first_unknown 0 (members_at (codes "objective") d)) UnknownObjective (Priced d trains a) (Priced d trains b) a b p q (same_priced d trains a b)
+
+same_linked : (d : Data) (trains : List (List Operation)) (a b : Option ProblemNo) → Linked d trains a → Linked d trains b → a ≡ b
+same_linked d trains a b p q =
+    same_at (first_not_one entry_count 0 trains) (λ x. NotOneEntry x.0 x.1) _ _ a b p q
+    (λ p' q'. same_at (first_not_one exit_count 0 trains) (λ x. NotOneExit x.0 x.1) (Straight d trains a) (Straight d trains b) a b p' q' (same_straight d trains a b))
+
+same_graphed : (d : Data) (a b : Option ProblemNo) → Graphed d a → Graphed d b → a ≡ b
+same_graphed d a b (ts, e, p) (us, f, q) = same_linked d us a b (subst (λ l. Linked d l a) (same_Some ts us (sym e ∙ f)) p) q
+
+same_counted : (d : Data) (a b : Option ProblemNo) → Counted d a → Counted d b → a ≡ b
+same_counted d a b p q =
+    same_at (too_many d) (λ x. TooMany x.0 x.1) _ _ a b p q (λ p' q'. same_at (broken_at rule.Index d) BadIndex (Graphed d a) (Graphed d b) a b p' q' (same_graphed d a b))
+
+same_chain : (d : Data) (a b : Option ProblemNo) → Chain d a → Chain d b → a ≡ b
+same_chain d a b p q =
+    same_at (broken_at rule.Shape d) Shape _ _ a b p q
+    (λ p1 q1. same_at (broken_at rule.Whole d) NotWhole _ _ a b p1 q1
+    (λ p2 q2. same_at (broken_at rule.Limit d) TooLarge (Counted d a) (Counted d b) a b p2 q2 (same_counted d a b)))
+
+-- ---- each answer is that of the chain
+
+linked_chain : (d : Data) (answer : Option ProblemNo) → IsLinked d → Graphed d answer → Chain d answer
+linked_chain d answer linked graphed = rw (linked.plain.shape, linked.plain.whole, linked.plain.limit, linked.few, linked.index) graphed
+
+breaks_chain : (d : Data) (why : ProblemNo) → Breaks d why → (why ≡ Memory) ⊎ Chain d (Some why)
+breaks_chain d NotJson h = absurd h
+breaks_chain d (Shape place) h = inr (rw h refl)
+breaks_chain d (NotWhole place) h = inr (rw (h.0, h.1) refl)
+breaks_chain d (TooLarge place) h = inr (rw (h.0, h.1, h.2) refl)
+breaks_chain d (TooMany kind count) h = inr (rw (h.0.shape, h.0.whole, h.0.limit, h.1) refl)
+breaks_chain d (BadIndex place) h = inr (rw (h.0.shape, h.0.whole, h.0.limit, h.1, h.2) refl)
+breaks_chain d (NotOneEntry t count) h = inr (linked_chain d (Some (NotOneEntry t count)) h.has_trains.linked (h.trains, h.has_trains.trains_are, rw h.broken refl))
+breaks_chain d (NotOneExit t count) h = inr (linked_chain d (Some (NotOneExit t count)) h.has_trains.linked (h.trains, h.has_trains.trains_are, rw (h.broken.0, h.broken.1) refl))
+breaks_chain d (Loop t o) h = inr (linked_chain d (Some (Loop t o)) h.has_trains.linked (h.trains, h.has_trains.trains_are, rw (h.broken.0, h.broken.1) (inl (t, o, h.broken.2, refl))))
+breaks_chain d (UnknownObjective c) h =
+    inr (linked_chain d (Some (UnknownObjective c)) h.has_trains.linked (h.trains, h.has_trains.trains_are, rw (h.graphs.entries, h.graphs.exits) (inr (h.graphs.no_cycle, rw h.unknown refl))))
+breaks_chain d (TooCostly sum) h =
+    let cheap : Cheap h.trains h.components (Some (TooCostly sum)) = inl (omega (arith, h.sum_is, h.above), ap (λ n. Some (TooCostly n)) (sym h.sum_is)) in
+    inr (linked_chain d (Some (TooCostly sum)) h.has_trains.linked
+    (h.trains, h.has_trains.trains_are, rw (h.graphs.entries, h.graphs.exits) (inr (h.graphs.no_cycle, rw h.has_components.types (h.components, h.has_components.components_are, cheap)))))
+breaks_chain d Memory h = inl refl
+
+keeps_chain : (d : Data) (trains : List (List Operation)) (components : List Component) → KeepsRules d trains components → Chain d None
+keeps_chain d trains components h =
+    linked_chain d None h.has_trains.linked
+    (trains, h.has_trains.trains_are, rw (h.graphs.entries, h.graphs.exits) (inr (h.graphs.no_cycle, rw h.has_components.types (components, h.has_components.components_are, inr (h.cheap, refl)))))
+
+same_value : (bytes : List ℕ) (d e : Data) → IsJson bytes d → IsJson bytes e → d ≡ e
+same_value bytes d e a b = same_Some d e (sym a.value ∙ b.value)
+
+-- ---- the answers exclude each other
+
+refused_cases : (bytes : List ℕ) (why : ProblemNo) → IsRefused bytes why → ((why ≡ NotJson) × IsNoJson bytes) ⊎ ((why ≡ Memory) ⊎ BreaksFirst bytes why)
+refused_cases bytes NotJson h = inl (refl, h)
+refused_cases bytes (Shape place) h = inr (inr h)
+refused_cases bytes (NotWhole place) h = inr (inr h)
+refused_cases bytes (TooLarge place) h = inr (inr h)
+refused_cases bytes (TooMany kind count) h = inr (inr h)
+refused_cases bytes (BadIndex place) h = inr (inr h)
+refused_cases bytes (NotOneEntry t count) h = inr (inr h)
+refused_cases bytes (NotOneExit t count) h = inr (inr h)
+refused_cases bytes (Loop t o) h = inr (inr h)
+refused_cases bytes (UnknownObjective c) h = inr (inr h)
+refused_cases bytes (TooCostly sum) h = inr (inr h)
+refused_cases bytes Memory h = inr (inl refl)
+
+first_agree : (bytes : List ℕ) (why other : ProblemNo) → BreaksFirst bytes why → BreaksFirst bytes other → (why ≡ Memory) ⊎ ((other ≡ Memory) ⊎ (why ≡ other))
+first_agree bytes why other a b =
+    let same = same_value bytes a.value b.value a.json b.json in
+    by (breaks_chain b.value why (subst (λ d. Breaks d why) same a.breaks)) (breaks_chain b.value other b.breaks)
+  where
+    by : (why ≡ Memory) ⊎ Chain b.value (Some why) → (other ≡ Memory) ⊎ Chain b.value (Some other) → (why ≡ Memory) ⊎ ((other ≡ Memory) ⊎ (why ≡ other))
+    by (inl e) q = inl e
+    by (inr p) (inl e) = inr (inl e)
+    by (inr p) (inr q) = inr (inr (same_Some why other (same_chain b.value (Some why) (Some other) p q)))
+
+-- two refusals of a text are one, but for want of memory
+pub refusals_agree : (bytes : List ℕ) (why other : ProblemNo) → IsRefused bytes why → IsRefused bytes other → (why ≡ Memory) ⊎ ((other ≡ Memory) ⊎ (why ≡ other))
+refusals_agree bytes why other a b = by (refused_cases bytes why a) (refused_cases bytes other b)
+  where
+    by : ((why ≡ NotJson) × IsNoJson bytes) ⊎ ((why ≡ Memory) ⊎ BreaksFirst bytes why) → ((other ≡ NotJson) × IsNoJson bytes) ⊎ ((other ≡ Memory) ⊎ BreaksFirst bytes other) → (why ≡ Memory) ⊎ ((other ≡ Memory) ⊎ (why ≡ other))
+    by (inl (e, none)) (inl (f, none')) = inr (inr (e ∙ sym f))
+    by (inl (e, none)) (inr (inl f)) = inr (inl f)
+    by (inl (e, none)) (inr (inr q)) = absurd (none q.value q.json)
+    by (inr (inl e)) q = inl e
+    by (inr (inr p)) (inl (f, none)) = absurd (none p.value p.json)
+    by (inr (inr p)) (inr (inl f)) = inr (inl f)
+    by (inr (inr p)) (inr (inr q)) = first_agree bytes why other p q
+
+-- a text of which a problem was read is not refused, but for want of memory
+pub read_is_not_refused : (bytes : List ℕ) (problem : Problem) (why : ProblemNo) → IsReadAs bytes problem → IsRefused bytes why → why ≡ Memory
+read_is_not_refused bytes problem why a b = by (refused_cases bytes why b)
+  where
+    refuse : (q : BreaksFirst bytes why) → (why ≡ Memory) ⊎ Chain a.value (Some why) → why ≡ Memory
+    refuse q (inl e) = e
+    refuse q (inr p) = let f : Some why ≡ None = same_chain a.value (Some why) None p (keeps_chain a.value problem.trains problem.components a.keeps) in absurd cc
+
+    by : ((why ≡ NotJson) × IsNoJson bytes) ⊎ ((why ≡ Memory) ⊎ BreaksFirst bytes why) → why ≡ Memory
+    by (inl (e, none)) = absurd (none a.value a.json)
+    by (inr (inl e)) = e
+    by (inr (inr q)) = refuse q (breaks_chain a.value why (subst (λ d. Breaks d why) (same_value bytes q.value a.value q.json a.json) q.breaks))
