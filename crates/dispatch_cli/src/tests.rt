@@ -1,3 +1,4 @@
 mod answers;
 mod doubles;
 mod faults;
+mod judged;
