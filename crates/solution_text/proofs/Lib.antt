@@ -1,1 +1,6 @@
 mod Joined
+pub mod Each
+pub mod Kept
+pub mod Unreadable
+pub mod Values
+pub mod Verdicts

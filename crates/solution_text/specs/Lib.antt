@@ -1,1 +1,9 @@
 pub mod Texts
+pub mod Json
+pub mod Field
+pub mod Gives
+pub mod Claims
+pub mod PlanOf
+pub mod Reading
+pub mod Why
+pub mod Limits

@@ -1,9 +1,24 @@
 // The text of solutions in the DISPLIB 2025 JSON format: a list of events and the value that is
 // stated for them. What `write_solution` writes is stated in `specs/Texts.antt`, byte for byte.
+// `read_solution` answers the plan and the stated value of the JSON value that `serde_json` reads
+// (`specs/PlanOf.antt`) exactly where no rule is broken, and otherwise names the first rule that is
+// broken and the place; `SolutionNo::write` gives the text that is printed for it.
 #![tactic(auto)]
 
+mod claims;
+mod fault;
+mod field;
+mod judge;
+mod place;
+mod read;
+mod rule;
+mod unread;
+mod why;
 mod write;
 
+pub use fault::SolutionNo;
+pub use place::{EventKey, SolutionPlace};
+pub use read::read_solution;
 pub use write::write_solution;
 
 #[cfg(test)]

@@ -1,32 +1,20 @@
-// A solution is written compactly, with its keys in order.
-use crate::write_solution;
-use disp_model::Event;
+// What is written, what is read and what is refused, with the places and the printed texts.
+use crate::read_solution;
+use std::alloc::Global;
+use std::process::Abort;
 use std::test::Fail;
 
-#[test]
-fn a_solution_is_written_with_its_keys_in_order(rt: HostRuntime) -> Result<(), Fail> {
-    let alloc = rt.alloc();
-    let plan = [
-        Event {
-            time: 0,
-            train: 1,
-            operation: 0,
-        },
-        Event {
-            time: 4,
-            train: 0,
-            operation: 0,
-        },
-    ];
-    let text = write_solution(alloc, &plan, 18)?;
-    assert_eq!(rt;
-        text.as_slice(),
-        b"{\"events\":[{\"operation\":0,\"time\":0,\"train\":1},{\"operation\":0,\"time\":4,\"train\":0}],\"objective_value\":18}".as_slice()
-    );
-    let none = write_solution(alloc, &[], 0)?;
-    assert_eq!(rt;
-        none.as_slice(),
-        b"{\"events\":[],\"objective_value\":0}".as_slice()
-    );
+mod read;
+mod refused;
+mod written;
+
+/// Asserts what is printed for the refusal of a text; `accepted` where it is taken.
+fn expect(rt: &impl Abort, alloc: Global, text: &str, wanted: &str) -> Result<(), Fail> {
+    let mut why = String::new(alloc);
+    match read_solution(alloc, text.as_bytes()) {
+        Ok(_) => why.push_str("accepted")?,
+        Err(no) => no.write(&mut why)?,
+    }
+    assert_eq!(rt; why.as_str(), wanted, "{text}");
     Ok(())
 }

@@ -1,0 +1,112 @@
+use super::expect;
+use std::test::Fail;
+
+#[test]
+fn each_rule_has_its_refusal(rt: HostRuntime) -> Result<(), Fail> {
+    let alloc = rt.alloc();
+    expect(&rt, alloc, r#"{"events":["#, "NotJson")?;
+    expect(&rt, alloc, "[]", "Shape /")?;
+    expect(&rt, alloc, "{}", "Shape /events")?;
+    expect(&rt, alloc, r#"{"events":null}"#, "Shape /events")?;
+    expect(&rt, alloc, r#"{"events":{}}"#, "Shape /events")?;
+    expect(&rt, alloc, r#"{"events":[null]}"#, "Shape /events/0")?;
+    expect(
+        &rt,
+        alloc,
+        r#"{"events":[],"objective_value":"18"}"#,
+        "Shape /objective_value",
+    )?;
+    expect(
+        &rt,
+        alloc,
+        r#"{"events":[],"objective_value":18.0}"#,
+        "NotWhole /objective_value",
+    )?;
+    expect(
+        &rt,
+        alloc,
+        r#"{"events":[],"objective_value":9223372036854775808}"#,
+        "TooLarge /objective_value",
+    )?;
+    Ok(())
+}
+
+#[test]
+fn an_event_has_three_numbers(rt: HostRuntime) -> Result<(), Fail> {
+    let alloc = rt.alloc();
+    expect(
+        &rt,
+        alloc,
+        r#"{"events":[{"time":0,"train":0,"operation":0},{}]}"#,
+        "Shape /events/1/operation",
+    )?;
+    expect(
+        &rt,
+        alloc,
+        r#"{"events":[{"train":0,"operation":0}]}"#,
+        "Shape /events/0/time",
+    )?;
+    expect(
+        &rt,
+        alloc,
+        r#"{"events":[{"time":0,"operation":0,"train":null}]}"#,
+        "Shape /events/0/train",
+    )?;
+    expect(
+        &rt,
+        alloc,
+        r#"{"events":[{"time":-1,"train":0,"operation":0}]}"#,
+        "NotWhole /events/0/time",
+    )?;
+    expect(
+        &rt,
+        alloc,
+        r#"{"events":[{"time":4611686018427387905,"train":0,"operation":0}]}"#,
+        "TooLarge /events/0/time",
+    )?;
+    expect(
+        &rt,
+        alloc,
+        r#"{"events":[{"time":0,"train":2147483648,"operation":0}]}"#,
+        "TooLarge /events/0/train",
+    )?;
+    expect(
+        &rt,
+        alloc,
+        r#"{"events":[{"time":0,"train":0,"operation":2147483648}]}"#,
+        "TooLarge /events/0/operation",
+    )?;
+    Ok(())
+}
+
+#[test]
+fn earlier_rules_go_before_later_ones(rt: HostRuntime) -> Result<(), Fail> {
+    let alloc = rt.alloc();
+    expect(
+        &rt,
+        alloc,
+        r#"{"events":[{"time":0,"train":2147483648,"operation":0},{"time":0.5,"train":0,"operation":0},{"time":[],"train":0,"operation":0}]}"#,
+        "Shape /events/2/time",
+    )?;
+    expect(
+        &rt,
+        alloc,
+        r#"{"events":[{"time":0,"train":2147483648,"operation":0}],"objective_value":1e3}"#,
+        "NotWhole /objective_value",
+    )?;
+    Ok(())
+}
+
+#[test]
+fn there_are_at_most_1048575_events(rt: HostRuntime) -> Result<(), Fail> {
+    let alloc = rt.alloc();
+    let event = r#"{"operation":0,"time":0,"train":0}"#;
+    let mut text = String::from_str(alloc, r#"{"events":["#)?;
+    for _ in 0..1048575 {
+        text.push_str(event)?;
+        text.push_str(",")?;
+    }
+    text.push_str(event)?;
+    text.push_str("]}")?;
+    expect(&rt, alloc, text.as_str(), "TooMany 1048576")
+}
