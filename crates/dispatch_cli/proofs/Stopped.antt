@@ -99,6 +99,7 @@ reads_both one two old mid new old_puts mid_puts new_puts old_holds mid_holds ne
     kept : (name : List ℕ) → (b : Bool) → Decides b (name ≡ one) → mid name ≡ old name
     kept name true same = rw (same.0 refl) (omega (arith, first.counted, (λ (lt : old one < mid one). none (first.fault lt))))
     kept name false unlike = first.others name (λ e. different (unlike.1 e))
+
     rise : (name : List ℕ) → (b : Bool) → Decides b (name ≡ two) → old name < new name → Fault
     rise name true same lt = second.fault (subst (λ (n : List ℕ). mid n < new n) (same.0 refl) (rw (kept name (bytes_eq name one) (bytes_eq-Decides name one)) lt))
     rise name false unlike lt = absurd (omega (arith, lt, second.others name (λ e. different (unlike.1 e)), kept name (bytes_eq name one) (bytes_eq-Decides name one)))

@@ -14,12 +14,7 @@ use solution_text::{SolutionNo, read_solution};
 use std::alloc::Global;
 
 /// The bytes of a file.
-fn fetch<S: Shelf>(
-    alloc: Global,
-    shelf: &mut S,
-    which: Input,
-    name: &str,
-) -> Result<Vec<u8>, Cause>
+fn fetch<S: Shelf>(alloc: Global, shelf: &mut S, which: Input, name: &str) -> Result<Vec<u8>, Cause>
     ensures file { IfOk result (λ bytes. IsFile (S.holds shelf.old) name.now bytes.items) }
     ensures no { IfErr result (Misses (S.holds shelf.old) (S.reading_faults shelf.old) (S.reading_faults shelf.new) which name.now) }
     ensures reads { ReadsOne name.now (S.reading_faults shelf.old) (S.reading_faults shelf.new) (S.putting_faults shelf.old) (S.putting_faults shelf.new) (S.holds shelf.old) (S.holds shelf.new) (result ≡ Err (Failed which)) }

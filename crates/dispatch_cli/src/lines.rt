@@ -48,7 +48,11 @@ pub(crate) fn valid_line(alloc: Global, cost: u128) -> Result<List<u8>, Memory>
 }
 
 /// The line of a plan's fault.
-pub(crate) fn fault_line(alloc: Global, problem: &Problem, fault: &Fault) -> Result<List<u8>, Memory>
+pub(crate) fn fault_line(
+    alloc: Global,
+    problem: &Problem,
+    fault: &Fault,
+) -> Result<List<u8>, Memory>
     ensures { IfOk result (λ line. line ≡ fault_line problem.now fault.now) }
 {
     let mut text = String::new(alloc);

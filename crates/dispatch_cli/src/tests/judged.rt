@@ -3,6 +3,7 @@ use super::doubles::words_of;
 use crate::dispatch;
 use disp_outside::{MemShelf, OpenGate, SteadyShelf, SteadySink};
 use std::alloc::Global;
+use std::process::Abort;
 use std::test::Fail;
 
 // Two trains that share r: one holds it for 10, the other for 4. Each costs the start of its second operation.
@@ -41,7 +42,7 @@ fn solution(alloc: Global, events: &[(u64, u32, u32)], stated: &str) -> Result<S
 }
 
 // The status of `verify p s` for these files, and what was written.
-fn verify(rt: &HostRuntime, problem: &str, solution: &str) -> Result<(u8, String), Fail> {
+fn verify<R: AllocGlobal>(rt: &R, problem: &str, solution: &str) -> Result<(u8, String), Fail> {
     let alloc = rt.alloc();
     let words = words_of(alloc, &["verify", "p", "s"])?;
     let mut shelf = SteadyShelf::new(alloc);
@@ -55,7 +56,7 @@ fn verify(rt: &HostRuntime, problem: &str, solution: &str) -> Result<(u8, String
 
 // The events are judged so, on a problem, with what is stated.
 fn row(
-    rt: &HostRuntime,
+    rt: &(impl Abort + AllocGlobal),
     problem: &str,
     events: &[(u64, u32, u32)],
     stated: &str,
@@ -73,9 +74,23 @@ fn row(
 fn the_first_fault_is_told(rt: HostRuntime) -> Result<(), Fail> {
     row(&rt, TWO, &[(0, 2, 0)], "", 1, "UnknownTrain 0\n")?;
     row(&rt, TWO, &[(0, 0, 2)], "", 1, "UnknownOperation 0\n")?;
-    row(&rt, TWO, &[(4, 1, 0), (0, 0, 0)], "", 1, "TimeBackwards 1\n")?;
+    row(
+        &rt,
+        TWO,
+        &[(4, 1, 0), (0, 0, 0)],
+        "",
+        1,
+        "TimeBackwards 1\n",
+    )?;
     row(&rt, TWO, &[(0, 0, 1)], "", 1, "NotEntry 0\n")?;
-    row(&rt, TWO, &[(0, 0, 0), (10, 0, 0)], "", 1, "NotSuccessor 1\n")?;
+    row(
+        &rt,
+        TWO,
+        &[(0, 0, 0), (10, 0, 0)],
+        "",
+        1,
+        "NotSuccessor 1\n",
+    )?;
     row(&rt, NEVER, &[(4, 0, 0)], "", 1, "TooEarly 0\n")?;
     row(&rt, NEVER, &[(5, 0, 0)], "", 1, "TooLate 0\n")?;
     row(&rt, TWO, &[(0, 0, 0), (9, 0, 1)], "", 1, "TooShort 1\n")?;
@@ -83,7 +98,14 @@ fn the_first_fault_is_told(rt: HostRuntime) -> Result<(), Fail> {
     let released = [(0, 0, 0), (10, 0, 1), (12, 1, 0), (16, 1, 1)];
     row(&rt, RELEASED, &released, "", 1, "Held 0 2 \"r\"\n")?;
     row(&rt, TWO, &[(0, 0, 0), (10, 0, 1)], "", 1, "Incomplete 1\n")?;
-    let swap = [(0, 0, 0), (0, 1, 0), (10, 0, 1), (10, 1, 1), (10, 0, 2), (10, 1, 2)];
+    let swap = [
+        (0, 0, 0),
+        (0, 1, 0),
+        (10, 0, 1),
+        (10, 1, 1),
+        (10, 0, 2),
+        (10, 1, 2),
+    ];
     row(&rt, SWAP, &swap, "", 1, "Held 1 2 \"r2\"\n")
 }
 
@@ -92,19 +114,68 @@ fn a_valid_plan_has_its_cost(rt: HostRuntime) -> Result<(), Fail> {
     let first = [(0, 0, 0), (10, 0, 1), (10, 1, 0), (14, 1, 1)];
     row(&rt, TWO, &first, "", 0, "valid 24\n")?;
     let second = [(0, 1, 0), (4, 1, 1), (4, 0, 0), (14, 0, 1)];
-    row(&rt, TWO, &second, ",\"objective_value\":17", 1, "WrongCost 17 18\n")?;
-    row(&rt, TWO, &second, ",\"objective_value\":18", 0, "valid 18\n")?;
-    row(&rt, TWO, &second, ",\"objective_value\":null", 0, "valid 18\n")?;
+    row(
+        &rt,
+        TWO,
+        &second,
+        ",\"objective_value\":17",
+        1,
+        "WrongCost 17 18\n",
+    )?;
+    row(
+        &rt,
+        TWO,
+        &second,
+        ",\"objective_value\":18",
+        0,
+        "valid 18\n",
+    )?;
+    row(
+        &rt,
+        TWO,
+        &second,
+        ",\"objective_value\":null",
+        0,
+        "valid 18\n",
+    )?;
     row(&rt, TWO, &second, "", 0, "valid 18\n")?;
     row(&rt, NONE, &[], "", 0, "valid 0\n")?;
-    row(&rt, COSTLY, &[(4611686018427387904, 0, 0)], "", 0, "valid 9903520309671356180765605888\n")
+    row(
+        &rt,
+        COSTLY,
+        &[(4611686018427387904, 0, 0)],
+        "",
+        0,
+        "valid 9903520309671356180765605888\n",
+    )
 }
 
 #[test]
 fn what_is_no_solution_is_refused(rt: HostRuntime) -> Result<(), Fail> {
-    row(&rt, COSTLY, &[(4611686018427387905, 0, 0)], "", 2, "solution: TooLarge /events/0/time\n")?;
-    row(&rt, TWO, &[], ",\"objective_value\":9223372036854775808", 2, "solution: TooLarge /objective_value\n")?;
-    row(&rt, TWO, &[], ",\"objective_value\":18.0", 2, "solution: NotWhole /objective_value\n")?;
+    row(
+        &rt,
+        COSTLY,
+        &[(4611686018427387905, 0, 0)],
+        "",
+        2,
+        "solution: TooLarge /events/0/time\n",
+    )?;
+    row(
+        &rt,
+        TWO,
+        &[],
+        ",\"objective_value\":9223372036854775808",
+        2,
+        "solution: TooLarge /objective_value\n",
+    )?;
+    row(
+        &rt,
+        TWO,
+        &[],
+        ",\"objective_value\":18.0",
+        2,
+        "solution: NotWhole /objective_value\n",
+    )?;
     let (status, text) = verify(&rt, TWO, "[]")?;
     assert_eq!(rt; (status, text.as_str()), (2, "solution: Shape /\n"));
     let (status, text) = verify(&rt, TWO, "{")?;
@@ -118,7 +189,10 @@ fn what_is_no_solution_is_refused(rt: HostRuntime) -> Result<(), Fail> {
 fn a_plan_that_was_put_is_valid(rt: HostRuntime) -> Result<(), Fail> {
     let alloc = rt.alloc();
     let mut shelf = SteadyShelf::new(alloc);
-    shelf.place("p", br#"{"trains":[[{"min_duration":5,"successors":[1]},{}]],"objective":[{"type":"op_delay","train":0,"operation":1,"threshold":3,"coeff":2,"increment":1}]}"#)?;
+    shelf.place(
+        "p",
+        br#"{"trains":[[{"min_duration":5,"successors":[1]},{}]],"objective":[{"type":"op_delay","train":0,"operation":1,"threshold":3,"coeff":2,"increment":1}]}"#,
+    )?;
     let words = words_of(alloc, &["solve", "p", "--budget", "0", "--plan", "out"])?;
     let mut out = SteadySink::new(alloc);
     let done = dispatch(&rt, alloc, &words, &mut shelf, &mut out, &OpenGate);
