@@ -1,6 +1,8 @@
 #!/usr/bin/env bash
-# Solves plain problems of 1, 10 and 100 MB with the built program, and reads the same files by
-# Python's `json.load`, in one run. Prints seconds, peak memory, and the ratios of the two.
+# Solves problems of 1, 10 and 100 MB with the built program, and reads the same files by Python's
+# `json.load`, in one run: plain ones, ones with resources and latest starts, ones with choices, and
+# ones whose first fault stands at the end (a number that is not whole, a loop, an unknown type).
+# Prints seconds, peak memory, and the ratios of the two.
 # Build first: (cd crates/dispatch && rt run -- solve data/problem.json)
 set -eu
 cd "$(dirname "$0")/.."
@@ -15,16 +17,33 @@ program, folder = sys.argv[1:3]
 sizes = [int(word) for word in sys.argv[3:]] or [1, 10, 100]
 
 
-def write_problem(path, size):
-    """Trains of 1000 operations, with a component on each tenth, up to about so many bytes."""
+def next_of(kind, k, last):
+    """Where operation k of a train goes on: a fork at each tenth where there are choices, and back where there is a loop."""
+    if kind == "loop" and last and k == 998:
+        return "%d,%d" % (k + 1, k - 1)
+    if kind == "choices" and k % 10 == 0:
+        return "%d,%d" % (k + 1, k + 2)
+    return "%d" % (k + 1)
+
+
+def operation(kind, t, k, last):
+    if kind == "plain":
+        listed, latest = "", "null"
+    else:
+        shared = "block%d" % (k % 50) if kind == "choices" else "block%d of %d" % (k % 50, t)
+        listed, latest = '{"resource":"%s","release_time":%d}' % (shared, k % 7), "2000000000"
+    return '{"start_lb":%d,"start_ub":%s,"min_duration":%d,"resources":[%s],"successors":[%s]}' % (
+        1000000000 + k * 3, latest, 1000 + k % 60, listed, next_of(kind, k, last))
+
+
+def write_problem(path, kind, size):
+    """Trains of 1000 operations, with a component on each tenth, up to about so many bytes. What is wrong stands last."""
     with open(path, "w") as file:
         file.write('{"trains":[')
         trains, components, written = 0, [], 0
         while written < size * 0.9:
-            operations = ",".join(
-                '{"start_lb":%d,"start_ub":null,"min_duration":%d,"resources":[],"successors":[%d]}' % (1000000000 + k * 3, 1000 + k % 60, k + 1)
-                for k in range(999)
-            )
+            last = written + 100000 >= size * 0.9
+            operations = ",".join(operation(kind, trains, k, last) for k in range(999))
             text = ("," if trains else "") + "[" + operations + ',{"start_lb":7}]'
             file.write(text)
             written += len(text)
@@ -35,9 +54,16 @@ def write_problem(path, size):
             text = '{"type":"op_delay","train":%d,"operation":%d,"threshold":%d,"coeff":1}' % (t, len(components) % 1000, 500)
             components.append(text)
             written += len(text) + 1
+        if kind == "number":
+            components.append('{"type":"op_delay","train":0,"operation":0,"threshold":-1}')
+        if kind == "type":
+            components.append('{"type":"delay","train":0,"operation":0}')
         file.write(",".join(components))
         file.write("]}")
-    return trains
+
+
+# The kinds of problems, and the status with which the program ends.
+KINDS = {"plain": 0, "resources": 0, "choices": 2, "number": 2, "loop": 2, "type": 2}
 
 
 def measure(words):
@@ -48,16 +74,16 @@ def measure(words):
 
 
 load = "import json, sys; json.load(open(sys.argv[1]))"
-print("megabytes  program s  json.load s  ratio  program MB  json.load MB  ratio  MB a file MB  ns a byte")
-for megabytes in sizes:
+print("     kind  megabytes  program s  json.load s  ratio  program MB  json.load MB  ratio  MB a file MB  ns a byte")
+for kind, megabytes in [(kind, size) for kind in KINDS for size in (sizes if kind == "plain" else sizes[1:])]:
     path = os.path.join(folder, "problem.json")
-    write_problem(path, megabytes * 1000000)
+    write_problem(path, kind, megabytes * 1000000)
     size = os.path.getsize(path)
     ours = [measure([program, "solve", path]) for _ in range(3)]
     theirs = [measure([sys.executable, "-c", load, path]) for _ in range(3)]
-    assert all(run[2] == 0 for run in ours), "the program ended with status %d" % ours[0][2]
+    assert all(run[2] == KINDS[kind] for run in ours), "the program ended with status %d" % ours[0][2]
     a, b = min(run[0] for run in ours), min(run[0] for run in theirs)
     m, n = max(run[1] for run in ours), max(run[1] for run in theirs)
-    print("%9.1f  %9.3f  %11.3f  %5.2f  %10.1f  %12.1f  %5.2f  %12.1f  %9.1f"
-          % (size / 1e6, a, b, a / b, m / 1e6, n / 1e6, m / n, m / size, a / size * 1e9))
+    print("%9s  %9.1f  %9.3f  %11.3f  %5.2f  %10.1f  %12.1f  %5.2f  %12.1f  %9.1f"
+          % (kind, size / 1e6, a, b, a / b, m / 1e6, n / 1e6, m / n, m / size, a / size * 1e9))
 PYTHON
