@@ -1,21 +1,20 @@
 -- The value of a written solution breaks no rule, and gives the plan and the cost back.
-use Rattle.std.proofs.Common.{◌≡◌, ℕ, suc, ◌+◌, ◌^◌, ◌<◌, ◌≤◌, List, [], ◌∷◌, ◌++◌, length, Option, Some, None, Bool, true, false, cond, option_map, refl, sym, ap, ◌∙◌, arith, le-leb, le-ltb}
-use Rattle.std.specs.Prelude.{codes, find}
+use Rattle.std.proofs.Common.{◌≡◌, ℕ, suc, ◌+◌, ◌≤◌, List, [], ◌∷◌, ◌++◌, length, Option, Some, None, Bool, true, false, cond, option_map, refl, ap, arith, le-ltb}
+use Rattle.std.specs.Prelude.{find}
 use Rattle.std.specs.List.{AllByRecursion}
 use Rattle.std.proofs.lemmas.List.Elements.{recursion_from_All}
-use Rattle.serde_json.specs.Data.{Data, Items}
 use Rattle.disp_model.specs.declared.plan.Event.{Event}
-use Rattle.disp_model.specs.declared.limits.TheConstants.{GREATEST_NUMBER, GREATEST_EVENT_TIME, GREATEST_COST, MOST_EVENTS}
+use Rattle.disp_model.specs.declared.limits.TheConstants.{GREATEST_NUMBER, GREATEST_EVENT_TIME, GREATEST_COST}
 use Rattle.solution_text.specs.declared.rule.Rule.{Rule}
 use Rattle.solution_text.specs.declared.rule.Rule.TheVariants as rule
 use Rattle.solution_text.specs.Field.{values_of, each}
-use Rattle.solution_text.specs.Claims.{Claim, breaks, first_broken, event_claims, events_claims, solution_claims}
-use Rattle.solution_text.specs.PlanOf.{event_of, plan_of, stated_of, events_given}
-use Rattle.solution_text.specs.Reading.{IsPlain, KeepsRules, IsReadAs}
+use Rattle.solution_text.specs.Claims.{Claim, breaks, first_broken, event_claims, events_claims}
+use Rattle.solution_text.specs.PlanOf.{event_of, stated_of}
+use Rattle.solution_text.specs.Reading.{IsPlain, IsReadAs}
 use Rattle.solution_text.specs.Texts.{solution_text}
 use Rattle.solution_text.specs.Limits.{IsWithin, AreWithin}
 use Rattle.solution_text.proofs.Kept.{fits, each_cons}
-use Rattle.solution_text.proofs.Written.{number_data, event_data, events_data, solution_data, text_is_json}
+use Rattle.solution_text.proofs.Written.{event_data, events_data, solution_data, text_is_json}
 
 -- ---- the rules
 
