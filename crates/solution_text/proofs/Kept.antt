@@ -1,5 +1,5 @@
 -- Claims that break no rule, and what then stands at their places.
-use Rattle.std.proofs.Common.{◌≡◌, ℕ, ◌+◌, List, [], ◌∷◌, ◌++◌, Option, Some, None, Bool, true, false, not, cond, option_map, is_some, refl, ap, arith}
+use Rattle.std.proofs.Common.{◌≡◌, ℕ, ◌+◌, ◌≤◌, List, [], ◌∷◌, ◌++◌, Option, Some, None, Bool, true, false, not, cond, option_map, is_some, refl, ap}
 use Rattle.std.specs.Prelude.{option_and_then, find, nat_lt, codes}
 use Rattle.std.specs.Option.{option_map_or}
 use Rattle.std.proofs.lemmas.Bool.{ltb-false, le-leb}
@@ -68,12 +68,12 @@ not_false : (b : Bool) → not b ≡ false → b ≡ true
 not_false true e = refl
 not_false false e = absurd cc
 
-fits : (limit n : ℕ) → nat_lt limit n ≡ false → fit limit n ≡ Some n
-fits limit n e = rw (le-leb n limit (ltb-false limit n e)) refl
+pub fits : (limit n : ℕ) → n ≤ limit → fit limit n ≡ Some n
+fits limit n le = rw (le-leb n limit le) refl
 
 read_u64 : (limit : ℕ) (u : Option ℕ) → not (is_some u) ≡ false → option_map_or (λ n. nat_lt limit n) u false ≡ false → (n : ℕ) × (option_and_then (fit limit) u ≡ Some n)
 read_u64 limit None w l = absurd cc
-read_u64 limit (Some n) w l = (n, fits limit n l)
+read_u64 limit (Some n) w l = (n, fits limit n (ltb-false limit n l))
 
 read_number : (limit : ℕ) (o : Option Num) → is_some o ≡ true → option_map_or (λ n. not (is_some (as_u64 n))) o false ≡ false → option_map_or (λ n. nat_lt limit n) (option_and_then as_u64 o) false ≡ false
     → (n : ℕ) × (option_and_then (fit limit) (option_and_then as_u64 o) ≡ Some n)

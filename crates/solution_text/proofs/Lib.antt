@@ -1,6 +1,8 @@
 mod Joined
 pub mod Each
 pub mod Kept
+pub mod ReadBack
 pub mod Unreadable
 pub mod Values
 pub mod Verdicts
+pub mod Written

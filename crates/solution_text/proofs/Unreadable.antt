@@ -1,5 +1,5 @@
 -- Where there is a part to read, a reader does not find that there is none.
-use Rattle.std.proofs.Common.{◌≡◌, Option, Some, None}
+use Rattle.std.proofs.Common.{◌≡◌, Option, Some}
 use Rattle.solution_text.specs.declared.unread.Unread.{Unread}
 use Rattle.solution_text.specs.declared.unread.Unread.TheVariants.{Nothing, Memory}
 use Rattle.solution_text.specs.Gives.{Refuses}

@@ -1,6 +1,6 @@
 -- The first place that breaks a rule, along lists of claims.
-use Rattle.std.proofs.Common.{◌≡◌, ℕ, suc, ◌+◌, ◌<◌, List, [], ◌∷◌, ◌++◌, length, get_or, drop, map, Option, Some, None, Result, Ok, Err, Bool, true, false, refl, sym, ap, ◌∙◌, add-one, drop-cons}
-use Rattle.std.specs.Prelude.{⊤, find, if◌then◌else◌}
+use Rattle.std.proofs.Common.{◌≡◌, ℕ, suc, ◌+◌, ◌<◌, List, [], ◌∷◌, ◌++◌, length, get_or, drop, map, Result, Ok, Err, Bool, true, false, refl, sym, ap, ◌∙◌, add-one, drop-cons}
+use Rattle.std.specs.Prelude.{⊤}
 use Rattle.solution_text.specs.declared.place.SolutionPlace.{SolutionPlace}
 use Rattle.solution_text.specs.declared.rule.Rule.{Rule}
 use Rattle.serde_json.specs.Data.{Data}

@@ -9,6 +9,7 @@ mod claims;
 mod fault;
 mod field;
 mod judge;
+mod laws;
 mod place;
 mod read;
 mod rule;
@@ -17,6 +18,7 @@ mod why;
 mod write;
 
 pub use fault::SolutionNo;
+pub use laws::written_is_read;
 pub use place::{EventKey, SolutionPlace};
 pub use read::read_solution;
 pub use write::write_solution;
