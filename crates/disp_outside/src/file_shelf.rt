@@ -1,5 +1,5 @@
 // The files of the system, by their paths.
-ghost use Rattle.std.specs.Prelude.{◌≡◌, ◌≤◌, None, List, ℕ, length, IfOk};
+ghost use Rattle.std.specs.Prelude.{◌≡◌, ◌≤◌, ◌-◌, ◌^◌, min, None, List, ℕ, length, IfOk};
 
 use crate::faults::FaultCounts;
 use crate::reading::read_whole;
@@ -34,16 +34,16 @@ impl<R: Files> FileShelf<R> {
         }
     }
 
-    /// How often a reading of the name has failed.
+    /// How often a reading of the name has failed, and the greatest number where it is more.
     pub fn faults(&self, name: &str) -> u64
-        ensures { result ≡ fault_count_of self.now name.now }
+        ensures { result ≡ min (fault_count_of self.now name.now) (2 ^ 64 - 1) }
     {
         self.faults.count(name)
     }
 
-    /// How often a putting under the name has failed.
+    /// How often a putting under the name has failed, and the greatest number where it is more.
     pub fn put_faults(&self, name: &str) -> u64
-        ensures { result ≡ put_fault_count_of self.now name.now }
+        ensures { result ≡ min (put_fault_count_of self.now name.now) (2 ^ 64 - 1) }
     {
         self.put_faults.count(name)
     }

@@ -1,5 +1,5 @@
 // Files in memory, some of whose readings and puttings break.
-ghost use Rattle.std.specs.Prelude.{◌≡◌, ◌≢◌, ◌≤◌, ◌<◌, ◌↔◌, ◌⊎◌, ◌+◌, Some, None, [], List, ℕ, length, IsOk, OnOk, OnErr, IfOk, IfSome, OnSome, IsSomeAnd, IsErrOf};
+ghost use Rattle.std.specs.Prelude.{◌≡◌, ◌≢◌, ◌≤◌, ◌<◌, ◌↔◌, ◌⊎◌, ◌+◌, ◌-◌, ◌^◌, min, Some, None, [], List, ℕ, length, IsOk, OnOk, OnErr, IfOk, IfSome, OnSome, IsSomeAnd, IsErrOf};
 ghost use Rattle.std.specs.Option.{option_map};
 ghost use Rattle.disp_outside.specs.MemFile.{IsCounted};
 
@@ -92,9 +92,9 @@ impl MemShelf {
         Ok(())
     }
 
-    /// How often a putting under the name has failed.
+    /// How often a putting under the name has failed, and the greatest number where it is more.
     pub fn put_faults(&self, name: &str) -> u64
-        ensures { result ≡ putting_faults self.now name.now }
+        ensures { result ≡ min (putting_faults self.now name.now) (2 ^ 64 - 1) }
     {
         self.put_faults.count(name)
     }
@@ -106,9 +106,9 @@ impl MemShelf {
         self.files.get(name).map(|file| file.bytes.as_slice())
     }
 
-    /// How often a reading of the name has failed.
+    /// How often a reading of the name has failed, and the greatest number where it is more.
     pub fn faults(&self, name: &str) -> u64
-        ensures { result ≡ reading_faults self.now name.now }
+        ensures { result ≡ min (reading_faults self.now name.now) (2 ^ 64 - 1) }
     {
         self.faults.count(name)
     }

@@ -1,0 +1,24 @@
+// How far a feed has come.
+ghost use Rattle.std.specs.Prelude.{◌≡◌, true};
+ghost use Rattle.disp_outside.specs.FeedState.{is_over};
+
+/// Whether a feed goes on.
+#[derive(Clone, Copy, Debug, PartialEq, Eq)]
+pub enum FeedState {
+    Open,
+    Ended,
+    Broken,
+}
+
+impl FeedState {
+    /// The feed has answered that it ends, or that it failed.
+    pub fn is_over(self) -> bool
+        ensures { result ≡ is_over self }
+    {
+        match self {
+            FeedState::Open => false,
+            FeedState::Ended => true,
+            FeedState::Broken => true,
+        }
+    }
+}
