@@ -1,5 +1,7 @@
 -- How far a feed has come.
 use Rattle.std.specs.Prelude.{ℕ, Bool, true, false}
+use Rattle.disp_outside.specs.declared.feed.FeedLine.{FeedLine}
+use Rattle.disp_outside.specs.declared.feed.FeedLine.TheVariants.{Got, End, Long, Failed}
 use Rattle.disp_outside.specs.declared.feed_state.FeedState.{FeedState}
 use Rattle.disp_outside.specs.declared.feed_state.FeedState.TheVariants.{Open, Ended, Broken}
 
@@ -14,3 +16,10 @@ abbrev pub fault_count : FeedState → ℕ
 fault_count Open = 0
 fault_count Ended = 0
 fault_count Broken = 1
+
+-- how far it has come with this answer
+abbrev pub state_after : FeedLine → FeedState
+state_after Got = Open
+state_after Long = Open
+state_after End = Ended
+state_after Failed = Broken

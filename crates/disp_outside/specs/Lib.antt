@@ -4,6 +4,7 @@ pub mod FaultCount
 pub mod Faults
 pub mod FeedLine
 pub mod FeedState
+pub mod FileFeed
 pub mod FileShelf
 pub mod Lines
 pub mod MemFeed

@@ -1,6 +1,8 @@
 // How far a feed has come.
-ghost use Rattle.std.specs.Prelude.{◌≡◌, true};
-ghost use Rattle.disp_outside.specs.FeedState.{is_over};
+ghost use Rattle.std.specs.Prelude.{◌≡◌};
+ghost use Rattle.disp_outside.specs.FeedState.{is_over, state_after};
+
+use crate::FeedLine;
 
 /// Whether a feed goes on.
 #[derive(Clone, Copy, Debug, PartialEq, Eq)]
@@ -19,6 +21,18 @@ impl FeedState {
             FeedState::Open => false,
             FeedState::Ended => true,
             FeedState::Broken => true,
+        }
+    }
+
+    /// How far a feed has come with this answer.
+    pub fn after(answer: FeedLine) -> Self
+        ensures { result ≡ state_after answer }
+    {
+        match answer {
+            FeedLine::Got => FeedState::Open,
+            FeedLine::Long => FeedState::Open,
+            FeedLine::End => FeedState::Ended,
+            FeedLine::Failed => FeedState::Broken,
         }
     }
 }

@@ -1,5 +1,5 @@
 // One line of a feed.
-ghost use Rattle.std.specs.Prelude.{◌≡◌, ◌≤◌, [], List, ℕ, length, take};
+ghost use Rattle.std.specs.Prelude.{◌≡◌, ◌≤◌, ◌+◌, ◌↔◌, ◌++◌, IsTrue, true, false, [], List, ℕ, length, take};
 ghost use Rattle.std.specs.Io.BufRead.{strip_last};
 
 use std::marker::Model;
@@ -48,5 +48,35 @@ impl LineBuf {
     {
         self.bytes[..bytes.len()].copy_from_slice(bytes);
         self.count = bytes.len();
+    }
+
+    pub(crate) fn clear(&mut self)
+        ensures { self.new ≡ [] }
+    {
+        self.count = 0;
+    }
+
+    // Puts the bytes behind those that are there, where there is room for all, and says whether there was.
+    pub(crate) fn append(&mut self, bytes: &[u8]) -> bool
+        ensures fits { IsTrue result ↔ (length self.old + length bytes.now ≤ 256) }
+        ensures added { result ≡ true → self.new ≡ self.old ++ bytes.now }
+        ensures kept { result ≡ false → self.new ≡ self.old }
+    {
+        if bytes.len() > MOST_LINE_BYTES - self.count {
+            return false;
+        }
+        let end = self.count + bytes.len();
+        self.bytes[self.count..end].copy_from_slice(bytes);
+        self.count = end;
+        true
+    }
+
+    // Drops a CR at the end.
+    pub(crate) fn drop_carriage_return(&mut self)
+        ensures { self.new ≡ strip_last 13 self.old }
+    {
+        if let [.., b'\r'] = self.as_slice() {
+            self.count -= 1;
+        }
     }
 }

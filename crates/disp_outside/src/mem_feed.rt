@@ -1,5 +1,5 @@
 // Lines in memory, some of whose readings break.
-ghost use Rattle.std.specs.Prelude.{◌≡◌, ◌≤◌, ◌<◌, ◌+◌, ◌↔◌, ◌⊎◌, true, false, Some, IfOk, List, ℕ, Contains};
+ghost use Rattle.std.specs.Prelude.{◌≡◌, ◌≤◌, ◌<◌, ◌+◌, ◌↔◌, ◌⊎◌, true, false, Some, IfOk, IfSome, IfNone, List, ℕ, Contains, string_bytes};
 ghost use Rattle.disp_outside.specs.Lines.{lines_of, Gives, Skips, NoneLeft};
 ghost use Rattle.disp_outside.specs.FeedLine.{is_last};
 
@@ -39,6 +39,18 @@ impl MemFeed {
             given: 0,
             state: FeedState::Open,
         })
+    }
+
+    /// What the feed is closed with, where a call has failed.
+    pub(crate) fn into_fault(self) -> Option<Ticket>
+        ensures none { IfNone result (fault_count self ≡ 0) }
+        ensures some { IfSome result (λ ticket. (0 < fault_count self) × (string_bytes ticket.name ≡ feed_name self)) }
+    {
+        match self.state {
+            FeedState::Broken => Some(self.ticket),
+            FeedState::Open => None,
+            FeedState::Ended => None,
+        }
     }
 }
 

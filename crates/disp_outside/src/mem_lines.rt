@@ -5,8 +5,8 @@ ghost use Rattle.disp_outside.specs.Lines.{lines_of, text_of, without_end, Gives
 
 use crate::{FeedLine, LineBuf, MOST_LINE_BYTES};
 
-// Where the first LF is.
-fn line_feed_at(bytes: &[u8]) -> Option<usize>
+/// Where the first LF is.
+pub fn line_feed_at(bytes: &[u8]) -> Option<usize>
     ensures { result ≡ position (λ byte. byte == 10) bytes.now }
 {
     bytes.iter().position(|byte| *byte == b'\n')
