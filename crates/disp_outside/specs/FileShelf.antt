@@ -1,12 +1,12 @@
 -- The files of the system.
-use Rattle.std.specs.Prelude.{◌⊎◌, ℕ, List}
+use Rattle.std.specs.Prelude.{ℕ, List}
 use Rattle.disp_outside.specs.Faults.{Knows, fault_count}
 use Rattle.disp_outside.specs.declared.file_shelf.FileShelf.{FileShelf}
 
 module _ {R : Type 0} where
-  -- the name was asked for, or put
+  -- the name was asked for or put, and has a place for its faults of reading
   abbrev pub KnowsName : FileShelf R → List ℕ → Type 0
-  KnowsName shelf name = Knows shelf.faults name ⊎ Knows shelf.put_faults name
+  KnowsName shelf name = Knows shelf.faults name
 
   -- how often a reading of the name has failed
   abbrev pub fault_count_of : FileShelf R → List ℕ → ℕ

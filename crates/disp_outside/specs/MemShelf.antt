@@ -13,6 +13,10 @@ held_file shelf name = option_map (λ file. file.bytes.items) (get_by_text shelf
 abbrev pub broken_calls : MemShelf → List ℕ → List ℕ
 broken_calls shelf name = option_map_or (λ file. file.broken.items) (get_by_text shelf.files name) []
 
+-- the numbers of the calls that fail in a feed of the name's file
+abbrev pub broken_lines : MemShelf → List ℕ → List ℕ
+broken_lines shelf name = option_map_or (λ file. file.broken_lines.items) (get_by_text shelf.files name) []
+
 -- how many readings of the name's file there were, but for those without room
 abbrev pub call_count : MemShelf → List ℕ → ℕ
 call_count shelf name = option_map_or (λ file. file.calls) (get_by_text shelf.files name) 0
@@ -29,9 +33,9 @@ reading_faults shelf name = fault_count shelf.faults name
 abbrev pub putting_faults : MemShelf → List ℕ → ℕ
 putting_faults shelf name = fault_count shelf.put_faults name
 
--- the name was asked for, or put
+-- the name was asked for or put, and has a place for its faults of reading
 abbrev pub KnowsName : MemShelf → List ℕ → Type 0
-KnowsName shelf name = Knows shelf.faults name ⊎ Knows shelf.put_faults name
+KnowsName shelf name = Knows shelf.faults name
 
 -- the numbers of the puttings that fail
 abbrev pub broken_puts : MemShelf → List ℕ
@@ -49,4 +53,5 @@ NextPutBreaks shelf = Contains (broken_puts shelf) (put_count shelf + 1)
 pub record KeepsFile (old new : MemShelf) (name : List ℕ) : Type 0 where
   pub file : held_file new name ≡ held_file old name
   pub broken : broken_calls new name ≡ broken_calls old name
+  pub lines : broken_lines new name ≡ broken_lines old name
   pub calls : call_count new name ≡ call_count old name

@@ -1,10 +1,12 @@
 // The files of the system, by their paths.
-ghost use Rattle.std.specs.Prelude.{◌≡◌, ◌≤◌, None, List, ℕ, length, IfOk};
+ghost use Rattle.std.specs.Prelude.{◌≡◌, ◌≤◌, ◌-◌, ◌^◌, min, false, None, List, ℕ, length, IfOk};
+ghost use Rattle.disp_outside.specs.FileFeed.{feed_name, fault_count as feed_faults, has_ended};
 
 use crate::faults::FaultCounts;
 use crate::reading::read_whole;
+use crate::ticket::Ticket;
 use crate::writing::write_whole;
-use crate::{FetchNo, PutNo, Shelf};
+use crate::{FeedNo, FetchNo, FileFeed, PutNo, Shelf};
 use std::alloc::Global;
 use std::fs;
 use std::io::ErrorKind;
@@ -34,16 +36,16 @@ impl<R: Files> FileShelf<R> {
         }
     }
 
-    /// How often a reading of the name has failed.
+    /// How often a reading of the name has failed, and the greatest number where it is more.
     pub fn faults(&self, name: &str) -> u64
-        ensures { result ≡ fault_count_of self.now name.now }
+        ensures { result ≡ min (fault_count_of self.now name.now) (2 ^ 64 - 1) }
     {
         self.faults.count(name)
     }
 
-    /// How often a putting under the name has failed.
+    /// How often a putting under the name has failed, and the greatest number where it is more.
     pub fn put_faults(&self, name: &str) -> u64
-        ensures { result ≡ put_fault_count_of self.now name.now }
+        ensures { result ≡ min (put_fault_count_of self.now name.now) (2 ^ 64 - 1) }
     {
         self.put_faults.count(name)
     }
@@ -73,8 +75,27 @@ fn write_file<R: Files>(files: &R, path: &str, bytes: &[u8]) -> Result<(), PutNo
     }
 }
 
-impl<R: Files + Send> Shelf for FileShelf<R> {
+// A feed of the file of this path.
+fn open_feed<R: Files>(alloc: Global, files: &R, path: &str) -> Result<FileFeed<R::File>, FeedNo>
+    ensures name { IfOk result (λ feed. feed_name feed ≡ path.now) }
+    ensures unbroken { IfOk result (λ feed. feed_faults feed ≡ 0) }
+    ensures open { IfOk result (λ feed. has_ended feed ≡ false) }
+{
+    let ticket = Ticket::new(alloc, path)?;
+    match fs::open(files, path) {
+        Ok(file) => Ok(FileFeed::new(ticket, file)),
+        Err(error) if error.kind() == ErrorKind::OutOfMemory => Err(FeedNo::Memory),
+        Err(_) => Err(FeedNo::Failed),
+    }
+}
+
+impl<R: Files + Send> Shelf for FileShelf<R>
+where
+    R::File: Send,
+{
     ghost use Rattle.disp_outside.specs.FileShelf.{fault_count_of, put_fault_count_of, KnowsName};
+
+    type Feed = FileFeed<R::File>;
 
     ghost knows = { λ shelf name. KnowsName shelf name };
 
@@ -105,17 +126,41 @@ impl<R: Files + Send> Shelf for FileShelf<R> {
     }
 
     fn put(&mut self, alloc: Global, name: &str, bytes: &[u8]) -> Result<(), PutNo> {
+        self.faults.make_room(alloc, name)?;
         self.put_faults.make_room(alloc, name)?;
         match write_file(&self.files, name, bytes) {
             Ok(()) => {
+                self.faults.know(name);
                 self.put_faults.know(name);
                 Ok(())
             }
             Err(PutNo::Failed) => {
+                self.faults.know(name);
                 self.put_faults.add(name);
                 Err(PutNo::Failed)
             }
             Err(PutNo::Memory) => Err(PutNo::Memory),
+        }
+    }
+
+    fn feed(&mut self, alloc: Global, name: &str) -> Result<FileFeed<R::File>, FeedNo> {
+        self.faults.make_room(alloc, name)?;
+        match open_feed(alloc, &self.files, name) {
+            Ok(feed) => {
+                self.faults.know(name);
+                Ok(feed)
+            }
+            Err(FeedNo::Failed) => {
+                self.faults.add(name);
+                Err(FeedNo::Failed)
+            }
+            Err(FeedNo::Memory) => Err(FeedNo::Memory),
+        }
+    }
+
+    fn close(&mut self, feed: FileFeed<R::File>) {
+        if let Some(ticket) = feed.into_fault() {
+            self.faults.add_closed(ticket);
         }
     }
 }

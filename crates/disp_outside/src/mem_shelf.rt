@@ -1,11 +1,12 @@
 // Files in memory, some of whose readings and puttings break.
-ghost use Rattle.std.specs.Prelude.{◌≡◌, ◌≢◌, ◌≤◌, ◌<◌, ◌↔◌, ◌⊎◌, ◌+◌, Some, None, [], List, ℕ, length, IsOk, OnOk, OnErr, IfOk, IfSome, OnSome, IsSomeAnd, IsErrOf};
+ghost use Rattle.std.specs.Prelude.{◌≡◌, ◌≢◌, ◌≤◌, ◌<◌, ◌↔◌, ◌⊎◌, ◌+◌, ◌-◌, ◌^◌, min, false, Some, None, [], List, ℕ, length, IsOk, OnOk, OnErr, IfOk, IfSome, OnSome, IsSomeAnd, IsErrOf};
 ghost use Rattle.std.specs.Option.{option_map};
-ghost use Rattle.disp_outside.specs.MemFile.{IsCounted};
+ghost use Rattle.disp_outside.specs.Lines.{HasLinesOf};
+ghost use Rattle.disp_outside.specs.MemFile.{IsCounted, IsOpeningCounted};
 
 use crate::faults::FaultCounts;
 use crate::mem_file::MemFile;
-use crate::{FetchNo, PutNo, Shelf};
+use crate::{FeedNo, FetchNo, MemFeed, PutNo, Shelf};
 use std::alloc::{AllocError, Global};
 use std::collections::BTreeMap;
 
@@ -22,7 +23,7 @@ pub struct MemShelf {
 }
 
 impl MemShelf {
-    ghost use Rattle.disp_outside.specs.MemShelf.{held_file, broken_calls, call_count, broken_puts, put_count, reading_faults, putting_faults, KnowsName, KeepsFile};
+    ghost use Rattle.disp_outside.specs.MemShelf.{held_file, broken_calls, broken_lines, call_count, broken_puts, put_count, reading_faults, putting_faults, KnowsName, KeepsFile};
 
     /// A shelf of no files.
     pub fn new(alloc: Global) -> Self
@@ -48,6 +49,7 @@ impl MemShelf {
     pub fn place(&mut self, name: &str, bytes: &[u8], broken: &[u64]) -> Result<(), AllocError>
         ensures file { OnOk result (held_file self.new name.now ≡ Some bytes.now) }
         ensures broken { OnOk result (broken_calls self.new name.now ≡ broken.now) }
+        ensures lines { OnOk result (broken_lines self.new name.now ≡ []) }
         ensures calls { OnOk result (call_count self.new name.now ≡ 0) }
         ensures others { (other : List ℕ) → other ≢ name.now → KeepsFile self.old self.new other }
         ensures err { OnErr result ((other : List ℕ) → KeepsFile self.old self.new other) }
@@ -64,6 +66,7 @@ impl MemShelf {
     fn set_file(&mut self, name: &str, bytes: &[u8], broken: &[u64]) -> Result<(), AllocError>
         ensures file { OnOk result (held_file self.new name.now ≡ Some bytes.now) }
         ensures broken { OnOk result (broken_calls self.new name.now ≡ broken.now) }
+        ensures lines { OnOk result (broken_lines self.new name.now ≡ []) }
         ensures calls { OnOk result (call_count self.new name.now ≡ 0) }
         ensures others { (other : List ℕ) → other ≢ name.now → KeepsFile self.old self.new other }
         ensures err { OnErr result ((other : List ℕ) → KeepsFile self.old self.new other) }
@@ -73,6 +76,7 @@ impl MemShelf {
         let file = MemFile {
             bytes: bytes.to_vec(self.alloc)?,
             broken: broken.to_vec(self.alloc)?,
+            broken_lines: Vec::new(self.alloc),
             calls: 0,
         };
         self.files.insert(key, file)?;
@@ -92,9 +96,27 @@ impl MemShelf {
         Ok(())
     }
 
-    /// How often a putting under the name has failed.
+    /// Makes the calls of these numbers fail in each later feed of the name's file, counted from 1, if there is one.
+    #[tactic(auto, using(std::proofs::lemmas::Map::Text::text_keys))]
+    pub fn break_lines(&mut self, name: &str, calls: &[u64]) -> Result<(), AllocError>
+        ensures lines { OnOk result (OnSome (held_file self.old name.now) (broken_lines self.new name.now ≡ calls.now)) }
+        ensures others { (other : List ℕ) → other ≢ name.now → KeepsFile self.old self.new other }
+        ensures file { held_file self.new name.now ≡ held_file self.old name.now }
+        ensures broken { broken_calls self.new name.now ≡ broken_calls self.old name.now }
+        ensures calls { call_count self.new name.now ≡ call_count self.old name.now }
+        ensures err { OnErr result (broken_lines self.new name.now ≡ broken_lines self.old name.now) }
+        ensures rest { self.new ≡ record self.old { files = self.new.files } }
+    {
+        let calls = calls.to_vec(self.alloc)?;
+        if let Some(file) = self.files.get_mut(name) {
+            file.broken_lines = calls;
+        }
+        Ok(())
+    }
+
+    /// How often a putting under the name has failed, and the greatest number where it is more.
     pub fn put_faults(&self, name: &str) -> u64
-        ensures { result ≡ putting_faults self.now name.now }
+        ensures { result ≡ min (putting_faults self.now name.now) (2 ^ 64 - 1) }
     {
         self.put_faults.count(name)
     }
@@ -106,16 +128,19 @@ impl MemShelf {
         self.files.get(name).map(|file| file.bytes.as_slice())
     }
 
-    /// How often a reading of the name has failed.
+    /// How often a reading of the name has failed, and the greatest number where it is more.
     pub fn faults(&self, name: &str) -> u64
-        ensures { result ≡ reading_faults self.now name.now }
+        ensures { result ≡ min (reading_faults self.now name.now) (2 ^ 64 - 1) }
     {
         self.faults.count(name)
     }
 }
 
 impl Shelf for MemShelf {
-    ghost use Rattle.disp_outside.specs.MemShelf.{held_file, broken_calls, call_count, broken_puts, put_count, reading_faults, putting_faults, KnowsName, NextBreaks, NextPutBreaks, KeepsFile};
+    ghost use Rattle.disp_outside.specs.MemShelf.{held_file, broken_calls, broken_lines, call_count, broken_puts, put_count, reading_faults, putting_faults, KnowsName, NextBreaks, NextPutBreaks, KeepsFile};
+    ghost use Rattle.disp_outside.specs.MemFeed.{feed_name, lines_left, fault_count, has_ended, broken_calls as feed_broken, call_count as feed_calls};
+
+    type Feed = MemFeed;
 
     ghost knows = { λ shelf name. KnowsName shelf name };
 
@@ -193,15 +218,68 @@ impl Shelf for MemShelf {
         let Some(call) = self.puts.checked_add(1) else {
             return Err(PutNo::Memory);
         };
+        self.faults.make_room(alloc, name)?;
         self.put_faults.make_room(alloc, name)?;
         if self.broken_puts.contains(&call) {
             self.puts = call;
+            self.faults.know(name);
             self.put_faults.add(name);
             return Err(PutNo::Failed);
         }
         self.set_file(name, bytes, &[])?;
         self.puts = call;
+        self.faults.know(name);
         self.put_faults.know(name);
         Ok(())
+    }
+
+    #[tactic(auto, using(std::proofs::lemmas::Map::Text::text_keys))]
+    fn feed(&mut self, alloc: Global, name: &str) -> Result<MemFeed, FeedNo>
+        ensures name { IfOk result (λ feed. feed_name feed ≡ name.now) }
+        ensures lines { IfOk result (λ feed. HasLinesOf (Some (held_file self.old name.now)) (Some (lines_left feed))) }
+        ensures open { IfOk result (λ feed. has_ended feed ≡ false) }
+        ensures unbroken { IfOk result (λ feed. fault_count feed ≡ 0) }
+        ensures failed { IsErrOf result FeedNo.Failed ↔ (reading_faults self.old name.now < reading_faults self.new name.now) }
+        ensures counted { reading_faults self.old name.now ≤ reading_faults self.new name.now }
+        ensures other_counts { (other : List ℕ) → other ≢ name.now → reading_faults self.new other ≡ reading_faults self.old other }
+        ensures putting_counts { (other : List ℕ) → putting_faults self.new other ≡ putting_faults self.old other }
+        ensures held { (other : List ℕ) → Some (held_file self.new other) ≡ Some (held_file self.old other) }
+        ensures known { IsErrOf result FeedNo.Memory ⊎ KnowsName self.new name.now }
+        ensures still_known { (other : List ℕ) → KnowsName self.old other → KnowsName self.new other }
+        ensures memory { IsErrOf result FeedNo.Memory → (other : List ℕ) → KnowsName self.new other → KnowsName self.old other }
+
+        // It fails exactly where there is no file, and in the readings of the list.
+        ensures breaks { IsErrOf result FeedNo.Failed → NextBreaks self.old name.now }
+        ensures broken { NextBreaks self.old name.now → IsErrOf result FeedNo.Failed ⊎ IsErrOf result FeedNo.Memory }
+        ensures calls { OnSome (held_file self.old name.now) (IsOpeningCounted result (call_count self.old name.now) (call_count self.new name.now)) }
+        ensures list { broken_calls self.new name.now ≡ broken_calls self.old name.now }
+        ensures others { (other : List ℕ) → other ≢ name.now → KeepsFile self.old self.new other }
+
+        // The feed fails in the calls that the file's list names.
+        ensures line_list { IfOk result (λ feed. broken_lines self.old name.now ≡ feed_broken feed) }
+        ensures first_line { IfOk result (λ feed. feed_calls feed ≡ 0) }
+    {
+        self.faults.make_room(alloc, name)?;
+        let Some(file) = self.files.get_mut(name) else {
+            self.faults.add(name);
+            return Err(FeedNo::Failed);
+        };
+        match file.open(alloc, name) {
+            Ok(feed) => {
+                self.faults.know(name);
+                Ok(feed)
+            }
+            Err(FeedNo::Failed) => {
+                self.faults.add(name);
+                Err(FeedNo::Failed)
+            }
+            Err(FeedNo::Memory) => Err(FeedNo::Memory),
+        }
+    }
+
+    fn close(&mut self, feed: MemFeed) {
+        if let Some(ticket) = feed.into_fault() {
+            self.faults.add_closed(ticket);
+        }
     }
 }

@@ -1,8 +1,10 @@
 // Files by name, as the program sees them.
-ghost use Rattle.std.specs.Prelude.{◌≡◌, ◌≢◌, ◌<◌, ◌≤◌, ◌↔◌, List, ℕ, length, Option, Some, IfOk, IfSome, IsOk, IsErrOf, IsSomeAnd, ◌⊎◌};
+ghost use Rattle.std.specs.Prelude.{◌≡◌, ◌≢◌, ◌<◌, ◌≤◌, ◌↔◌, false, List, ℕ, length, Option, Some, IfOk, IfSome, IsOk, IsErrOf, IsSomeAnd, ◌⊎◌};
+ghost use Rattle.disp_outside.specs.Lines.{HasLinesOf};
 ghost use Rattle.disp_outside.specs.declared.shelf.FetchNo.TheVariants.{Memory};
 ghost use Rattle.disp_outside.specs.declared.shelf.PutNo.TheVariants.{Memory as PutMemory};
 
+use crate::{Feed, FeedNo};
 use std::alloc::{AllocError, Global};
 
 /// Why a file was not fetched.
@@ -45,6 +47,9 @@ impl From<AllocError> for PutNo {
 ///
 /// A name is its bytes. A shelf may tell what a name holds, and then an answer is about those bytes.
 pub trait Shelf: Send {
+    /// A file that is read line by line.
+    type Feed: Feed + Drop;
+
     /// The names that the shelf knows.
     ghost knows: { Self → List ℕ → Type 0 };
 
@@ -100,4 +105,40 @@ pub trait Shelf: Send {
         ensures still_known { (other : List ℕ) → knows self.old other → knows self.new other }
         ensures memory { IsErrOf result PutNo.Memory → (other : List ℕ) → knows self.new other → knows self.old other }
         ensures memory_held { IsErrOf result PutNo.Memory → holds self.new name.now ≡ holds self.old name.now };
+
+    /// A feed of the lines that the name holds.
+    ///
+    /// # Errors
+    ///
+    /// `Failed` where there is no such file, or it could not be opened, and `Memory`, with which all is as before.
+    fn feed(&mut self, alloc: Global, name: &str) -> Result<Self::Feed, FeedNo>
+        ensures name { IfOk result (λ feed. Self.Feed.name feed ≡ name.now) }
+        ensures lines { IfOk result (λ feed. HasLinesOf (holds self.old name.now) (Self.Feed.lines feed)) }
+        ensures open { IfOk result (λ feed. Self.Feed.has_ended feed ≡ false) }
+        ensures unbroken { IfOk result (λ feed. Self.Feed.faults feed ≡ 0) }
+
+        // A fault is told exactly where it is counted, and no other count changes.
+        ensures failed { IsErrOf result FeedNo.Failed ↔ (reading_faults self.old name.now < reading_faults self.new name.now) }
+        ensures counted { reading_faults self.old name.now ≤ reading_faults self.new name.now }
+        ensures other_counts { (other : List ℕ) → other ≢ name.now → reading_faults self.new other ≡ reading_faults self.old other }
+        ensures putting_counts { (other : List ℕ) → putting_faults self.new other ≡ putting_faults self.old other }
+
+        ensures held { (other : List ℕ) → holds self.new other ≡ holds self.old other }
+        ensures known { IsErrOf result FeedNo.Memory ⊎ knows self.new name.now }
+        ensures still_known { (other : List ℕ) → knows self.old other → knows self.new other }
+        ensures memory { IsErrOf result FeedNo.Memory → (other : List ℕ) → knows self.new other → knows self.old other };
+
+    /// Ends a feed. What failed in it counts as one fault of reading its name.
+    fn close(&mut self, feed: Self::Feed)
+        requires { knows self.old (Self.Feed.name feed) }
+
+        // The count rises exactly where a call of the feed has failed, and no other count changes.
+        ensures failed { (0 < Self.Feed.faults feed)
+            ↔ (reading_faults self.old (Self.Feed.name feed) < reading_faults self.new (Self.Feed.name feed)) }
+        ensures counted { reading_faults self.old (Self.Feed.name feed) ≤ reading_faults self.new (Self.Feed.name feed) }
+        ensures other_counts { (other : List ℕ) → other ≢ Self.Feed.name feed → reading_faults self.new other ≡ reading_faults self.old other }
+        ensures putting_counts { (other : List ℕ) → putting_faults self.new other ≡ putting_faults self.old other }
+
+        ensures held { (other : List ℕ) → holds self.new other ≡ holds self.old other }
+        ensures known { (other : List ℕ) → knows self.new other ↔ knows self.old other };
 }

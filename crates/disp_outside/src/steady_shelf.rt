@@ -2,7 +2,7 @@
 ghost use Rattle.std.specs.Prelude.{◌≡◌, ◌≢◌, Some, [], List, ℕ, OnOk, OnErr};
 
 use crate::copying::copy_within;
-use crate::{FetchNo, PutNo, Shelf};
+use crate::{FeedNo, FetchNo, PutNo, Shelf, SteadyFeed};
 use std::alloc::{AllocError, Global};
 use std::collections::BTreeMap;
 
@@ -54,6 +54,8 @@ impl SteadyShelf {
 impl Shelf for SteadyShelf {
     ghost use Rattle.disp_outside.specs.SteadyShelf.{held_bytes};
 
+    type Feed = SteadyFeed;
+
     ghost knows = { λ _ _. Unit {0} };
 
     ghost holds = { λ shelf name. Some (Some (held_bytes shelf name)) };
@@ -70,4 +72,10 @@ impl Shelf for SteadyShelf {
         self.place(name, bytes)?;
         Ok(())
     }
+
+    fn feed(&mut self, alloc: Global, name: &str) -> Result<SteadyFeed, FeedNo> {
+        Ok(SteadyFeed::new(alloc, name, self.file(name))?)
+    }
+
+    fn close(&mut self, _feed: SteadyFeed) {}
 }
