@@ -1,0 +1,7 @@
+-- what the fixings so far do not say, the others do
+use Rattle.std.proofs.Common.{◌≡◌, drop}
+use Rattle.fixing_editions.specs.Own.{start_in}
+use Rattle.fixing_editions.proofs.train_fixings.start_in.Given as goal
+
+abbrev pub invariant-loop-numbered : goal.invariant-loop-numbered
+invariant-loop-numbered l = start_in l.kept l.op ≡ start_in (drop l.numbered-index l.kept) l.op

@@ -1,0 +1,6 @@
+pub mod Orders
+pub mod Wishes
+pub mod Sweeps
+pub mod Own
+pub mod Edition
+pub mod Answers

@@ -1,0 +1,220 @@
+ghost use Rattle.std.specs.Prelude.{◌≡◌, ◌≤◌, ◌<◌, ◌↔◌, Some, None, List, ℕ, MatchOption, IfOk, IfErr, IsTrue, Contains, length, slice_get};
+ghost use Rattle.disp_model.specs.declared.limits.TheConstants.{MOST_FIXINGS};
+ghost use Rattle.disp_model.specs.Valid.{train_at};
+ghost use Rattle.disp_model.specs.Replies.{Closes, RepliesToStart, RepliesToChoice, IsReply};
+ghost use Rattle.fixing_editions.specs.Own.{own_of, train_of};
+ghost use Rattle.fixing_editions.specs.Edition.{AreOwn};
+ghost use Rattle.fixing_editions.specs.Answers.{RepliesInTime, IsFound, IsNotFound, IsBeyond, IsNotBeyond};
+
+use crate::route_left::has_route;
+use crate::train_fixings::{Numbered, next_in, number_in, start_in};
+use disp_model::{
+    Fixing, GREATEST_NUMBER, List, MOST_FIXINGS, Memory, Operation, Problem, Refusal, Reply, Train,
+};
+use std::alloc::Global;
+
+/// The reply to a fixing of a train that is not known and fixes nothing that is fixed.
+fn reply_to_new(
+    alloc: Global,
+    problem: &Problem,
+    fixings: &[Fixing],
+    kept: &[Numbered],
+    at_train: u64,
+    fixing: &Fixing,
+) -> Result<Reply, Memory>
+    requires there { at_train < length problem.now.trains }
+    requires kept { kept.now ≡ own_of at_train 0 fixings.now }
+    requires fits { length fixings.now ≤ MOST_FIXINGS }
+    requires own { train_of fixing.now ≡ at_train }
+    ensures { IfOk result (λ reply. Closes problem.now fixings.now at_train fixing.now reply) }
+{
+    let train = problem.trains.as_slice()[at_train as usize].as_slice();
+    let has = has_route(alloc, train, kept, fixing)?;
+    if !has {
+        return Ok(Reply::Refused(Refusal::NoRoute));
+    }
+    if fixings.len() == MOST_FIXINGS as usize {
+        return Ok(Reply::Refused(Refusal::Full(MOST_FIXINGS)));
+    }
+    Ok(Reply::Accepted(fixings.len() as u32 + 1))
+}
+
+/// The reply to a fixing that starts an operation at a time at which it may start.
+fn reply_in_time(
+    alloc: Global,
+    problem: &Problem,
+    fixings: &[Fixing],
+    kept: &[Numbered],
+    at_train: u64,
+    at_op: u64,
+    time: u64,
+) -> Result<Reply, Memory>
+    requires there { at_train < length problem.now.trains }
+    requires kept { kept.now ≡ own_of at_train 0 fixings.now }
+    requires fits { length fixings.now ≤ MOST_FIXINGS }
+    ensures { IfOk result (λ reply. RepliesInTime problem.now fixings.now at_train at_op time reply) }
+{
+    let fixing = Fixing::Started {
+        at_train,
+        at_op,
+        time,
+    };
+    if let Some(number) = number_in(kept, &fixing) {
+        return Ok(Reply::Known(number));
+    }
+    if let Some(start) = start_in(kept, at_op) {
+        return Ok(Reply::Refused(Refusal::StartedAt(start)));
+    }
+    let reply = reply_to_new(alloc, problem, fixings, kept, at_train, &fixing)?;
+    Ok(reply)
+}
+
+/// The operation's upper, where the time is above it.
+fn passed_upper(operation: &Operation, time: u64) -> Option<u32>
+    ensures { MatchOption result (IsNotBeyond operation.now time) (λ upper. IsBeyond operation.now time upper) }
+{
+    match operation.upper {
+        Some(upper) => {
+            if time > u64::from(upper) {
+                Some(upper)
+            } else {
+                None
+            }
+        }
+        None => None,
+    }
+}
+
+/// The reply to a fixing that starts an operation at a time.
+fn reply_to_start(
+    alloc: Global,
+    problem: &Problem,
+    fixings: &[Fixing],
+    kept: &[Numbered],
+    at_train: u64,
+    at_op: u64,
+    time: u64,
+    operation: &Operation,
+) -> Result<Reply, Memory>
+    requires there { at_train < length problem.now.trains }
+    requires kept { kept.now ≡ own_of at_train 0 fixings.now }
+    requires fits { length fixings.now ≤ MOST_FIXINGS }
+    ensures { IfOk result (λ reply. RepliesToStart problem.now fixings.now at_train at_op time operation.now reply) }
+{
+    if time > u64::from(GREATEST_NUMBER) {
+        return Ok(Reply::Refused(Refusal::TooLarge));
+    }
+    if time < u64::from(operation.lower) {
+        return Ok(Reply::Refused(Refusal::BelowLower(operation.lower)));
+    }
+    if let Some(upper) = passed_upper(operation, time) {
+        return Ok(Reply::Refused(Refusal::AboveUpper(upper)));
+    }
+    let reply = reply_in_time(alloc, problem, fixings, kept, at_train, at_op, time)?;
+    Ok(reply)
+}
+
+/// Whether the operation may go on to the other.
+fn is_successor(operation: &Operation, next: u64) -> bool
+    ensures { IsTrue result ↔ Contains operation.now.next next }
+{
+    operation
+        .next
+        .as_slice()
+        .iter()
+        .any(|successor| u64::from(*successor) == next)
+}
+
+/// The reply to a fixing that has an operation go on to another.
+fn reply_to_choice(
+    alloc: Global,
+    problem: &Problem,
+    fixings: &[Fixing],
+    kept: &[Numbered],
+    at_train: u64,
+    at_op: u64,
+    next: u64,
+    operation: &Operation,
+) -> Result<Reply, Memory>
+    requires there { at_train < length problem.now.trains }
+    requires kept { kept.now ≡ own_of at_train 0 fixings.now }
+    requires fits { length fixings.now ≤ MOST_FIXINGS }
+    requires operation { slice_get (train_at problem.now at_train) at_op ≡ Some operation.now }
+    ensures { IfOk result (λ reply. RepliesToChoice problem.now fixings.now at_train at_op next reply) }
+{
+    if !is_successor(operation, next) {
+        return Ok(Reply::Refused(Refusal::NoSuccessor));
+    }
+    let fixing = Fixing::Chosen {
+        at_train,
+        at_op,
+        next,
+    };
+    if let Some(number) = number_in(kept, &fixing) {
+        return Ok(Reply::Known(number));
+    }
+    if let Some(next) = next_in(kept, at_op) {
+        return Ok(Reply::Refused(Refusal::ChosenIs(next)));
+    }
+    let reply = reply_to_new(alloc, problem, fixings, kept, at_train, &fixing)?;
+    Ok(reply)
+}
+
+/// The operation of this name.
+fn find(trains: &[Train], at_train: u64, at_op: u64) -> Result<&Operation, Refusal>
+    ensures ok { IfOk result (λ operation. IsFound trains.now at_train at_op operation.now) }
+    ensures err { IfErr result (λ why. IsNotFound trains.now at_train at_op why) }
+{
+    match trains.get(at_train as usize) {
+        Some(train) => match train.as_slice().get(at_op as usize) {
+            Some(operation) => Ok(operation),
+            None => Err(Refusal::NoOperation),
+        },
+        None => Err(Refusal::NoTrain),
+    }
+}
+
+/// The reply to a fixing, by each train's own fixings.
+pub(crate) fn reply_to(
+    alloc: Global,
+    problem: &Problem,
+    fixings: &[Fixing],
+    by_train: &[List<Numbered>],
+    fixing: &Fixing,
+) -> Result<Reply, Memory>
+    requires long { length by_train.now ≡ length problem.now.trains }
+    requires own { AreOwn fixings.now by_train.now }
+    requires fits { length fixings.now ≤ MOST_FIXINGS }
+    ensures { IfOk result (λ reply. IsReply problem.now fixings.now fixing.now reply) }
+{
+    match *fixing {
+        Fixing::Started {
+            at_train,
+            at_op,
+            time,
+        } => match find(problem.trains.as_slice(), at_train, at_op) {
+            Ok(operation) => {
+                let kept = by_train[at_train as usize].as_slice();
+                let reply = reply_to_start(
+                    alloc, problem, fixings, kept, at_train, at_op, time, operation,
+                )?;
+                Ok(reply)
+            }
+            Err(why) => Ok(Reply::Refused(why)),
+        },
+        Fixing::Chosen {
+            at_train,
+            at_op,
+            next,
+        } => match find(problem.trains.as_slice(), at_train, at_op) {
+            Ok(operation) => {
+                let kept = by_train[at_train as usize].as_slice();
+                let reply = reply_to_choice(
+                    alloc, problem, fixings, kept, at_train, at_op, next, operation,
+                )?;
+                Ok(reply)
+            }
+            Err(why) => Ok(Reply::Refused(why)),
+        },
+    }
+}
