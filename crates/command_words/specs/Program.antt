@@ -20,9 +20,9 @@ budget = record (optional (codes "budget")) { defaults = codes "1000000" ∷ [];
 abbrev pub solve : App
 solve = with_rule (with_rule (with_rule (new_app (codes "solve")) (needed (codes "problem"))) budget) (optional (codes "plan"))
 
--- `verify PROBLEM SOLUTION`
+-- `verify PROBLEM SOLUTION [--fixings F]`
 abbrev pub verify : App
-verify = with_rule (with_rule (new_app (codes "verify")) (needed (codes "problem"))) (needed (codes "solution"))
+verify = with_rule (with_rule (with_rule (new_app (codes "verify")) (needed (codes "problem"))) (needed (codes "solution"))) (optional (codes "fixings"))
 
 -- one of these commands; the words do not begin with the program's name
 abbrev pub program : App

@@ -41,17 +41,18 @@ pub record IsSolve (words : List (List ℕ)) (problem : List ℕ) (budget : ℕ)
   pub plan_is : plan ≡ first_of (codes "plan") rows
 
 -- the values that clap finds for `verify`
-pub record IsVerify (words : List (List ℕ)) (problem solution : List ℕ) : Type 0 where
+pub record IsVerify (words : List (List ℕ)) (problem solution : List ℕ) (fixings : Option (List ℕ)) : Type 0 where
   pub taken : AreTaken words
   pub rows : List Row
   pub named : Names words (codes "verify") rows
   pub problem_is : problem ≡ name_in (codes "problem") rows
   pub solution_is : solution ≡ name_in (codes "solution") rows
+  pub fixings_is : fixings ≡ first_of (codes "fixings") rows
 
 -- the words ask for the task
 abbrev pub IsTask : List (List ℕ) → Task → Type 0
 IsTask words (Solve problem budget plan) = IsSolve words problem budget plan
-IsTask words (Verify problem solution) = IsVerify words problem solution
+IsTask words (Verify problem solution fixings) = IsVerify words problem solution fixings
 
 -- clap finds fault with the words
 abbrev pub AreRefused : List (List ℕ) → Type 0

@@ -53,7 +53,8 @@ fn verify<'a>(alloc: Global) -> Result<Command<'a>, AllocError>
     Command::new(alloc, "verify")
         .about("Judges a solution")
         .arg(needed(alloc, "problem", "PROBLEM"))?
-        .arg(needed(alloc, "solution", "SOLUTION"))
+        .arg(needed(alloc, "solution", "SOLUTION"))?
+        .arg(optional(alloc, "fixings", "F"))
 }
 
 /// The program's command line.

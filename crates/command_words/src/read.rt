@@ -107,6 +107,7 @@ fn verify(alloc: Global, found: &ArgMatches) -> Result<Task, WordsNo>
     Ok(Task::Verify {
         problem: name(alloc, found, "problem")?,
         solution: name(alloc, found, "solution")?,
+        fixings: optional_name(alloc, found, "fixings")?,
     })
 }
 

@@ -18,5 +18,7 @@ pub enum Task {
         problem: Text,
         /// The name of the solution's file.
         solution: Text,
+        /// The name of a file of fixings that the plan is to meet, if there is one.
+        fixings: Option<Text>,
     },
 }

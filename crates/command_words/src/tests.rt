@@ -21,8 +21,17 @@ fn shown(alloc: Global, task: &Task) -> Result<String, Fail> {
             let plan = plan.as_ref().map_or("none", |name| name.as_str());
             format!(in alloc; "solve {} {budget} {plan}", problem.as_str())?
         }
-        Task::Verify { problem, solution } => {
-            format!(in alloc; "verify {} {}", problem.as_str(), solution.as_str())?
+        Task::Verify {
+            problem,
+            solution,
+            fixings,
+        } => {
+            let fixings = fixings.as_ref().map_or("none", |name| name.as_str());
+            format!(in alloc;
+                "verify {} {} {fixings}",
+                problem.as_str(),
+                solution.as_str()
+            )?
         }
     };
     Ok(text)
@@ -63,7 +72,11 @@ fn words_have_their_values(rt: HostRuntime) -> Result<(), Fail> {
         read(alloc, "solve P --budget 0")?.as_str(),
         "solve P 0 none"
     );
-    assert_eq!(rt; read(alloc, "verify P S")?.as_str(), "verify P S");
+    assert_eq!(rt; read(alloc, "verify P S")?.as_str(), "verify P S none");
+    assert_eq!(rt;
+        read(alloc, "verify P S --fixings F")?.as_str(),
+        "verify P S F"
+    );
     Ok(())
 }
 

@@ -1,0 +1,110 @@
+-- Lines that are taken one after the other.
+use Rattle.std.proofs.Common.{◌≡◌, ℕ, zero, suc, ◌+◌, ◌-◌, ◌<◌, ◌≤◌, List, [], ◌∷◌, length, take, drop, Option, Some, None, refl, sym, subst, ap, ◌∙◌, arith}
+use Rattle.std.specs.Prelude.{slice_get, IfSome}
+use Rattle.disp_model.specs.declared.fixing.Fixing.{Fixing}
+use Rattle.disp_model.specs.declared.problem.Problem.{Problem}
+use Rattle.disp_model.specs.declared.limits.TheConstants.{MOST_LINES}
+use Rattle.fixing_files.specs.declared.take.LineNo.{LineNo}
+use Rattle.fixing_files.specs.declared.take.LineNo.TheVariants as why
+use Rattle.fixing_files.specs.declared.take.FileNo.{FileNo}
+use Rattle.fixing_files.specs.declared.take.FileNo.TheVariants.{Line, Failed, Memory}
+use Rattle.fixing_files.specs.Files.{Takes, TakesAll, TakesFirst, IsAt, Stops, StopsBy, StopsAt, StopsFirst, RefusesNext, RefusesEnd, Refuses}
+
+-- one more line
+pub takes_more : (problem : Problem) (old mid new : List Fixing) (k : ℕ) (lines : List (List ℕ)) (line : List ℕ) (rest : List (List ℕ)) → drop k lines ≡ line ∷ rest
+    → TakesAll problem old (take k lines) mid → Takes problem mid line new → TakesAll problem old (take (k + 1) lines) new
+takes_more problem old mid new zero [] line rest e all one = cc
+takes_more problem old mid new zero (x ∷ xs) line rest e all one =
+    let first : x ≡ line = head e in
+    (new, rw (first, ← all) one, refl)
+  where
+    head : {a b : List ℕ} {xs ys : List (List ℕ)} → (a ∷ xs) ≡ (b ∷ ys) → a ≡ b
+    head e = cc
+takes_more problem old mid new (suc k) [] line rest e all one = cc
+takes_more problem old mid new (suc k) (x ∷ xs) line rest e all one =
+    let more : suc k + 1 ≡ suc (k + 1) = omega arith in
+    rw more (all.0, all.1, takes_more problem all.0 mid new k xs line rest e all.2 one)
+
+-- what is left after it
+pub left_after : (k : ℕ) (lines : List (List ℕ)) (line : List ℕ) (rest : List (List ℕ)) → drop k lines ≡ line ∷ rest → drop (k + 1) lines ≡ rest
+left_after zero [] line rest e = cc
+left_after zero (x ∷ xs) line rest e = cc
+left_after (suc k) [] line rest e = cc
+left_after (suc k) (x ∷ xs) line rest e =
+    let more : suc k + 1 ≡ suc (k + 1) = omega arith in
+    rw more (left_after k xs line rest e)
+
+-- it stands at its place
+pub stands_at : (k : ℕ) (lines : List (List ℕ)) (line : List ℕ) (rest : List (List ℕ)) → drop k lines ≡ line ∷ rest → slice_get lines k ≡ Some line
+stands_at zero [] line rest e = cc
+stands_at zero (x ∷ xs) line rest e = cc
+stands_at (suc k) [] line rest e = cc
+stands_at (suc k) (x ∷ xs) line rest e = stands_at k xs line rest e
+
+-- where none is left all were taken
+pub all_taken : (k : ℕ) (lines : List (List ℕ)) → drop k lines ≡ [] → take k lines ≡ lines
+all_taken zero [] e = refl
+all_taken zero (x ∷ xs) e = cc
+all_taken (suc k) [] e = refl
+all_taken (suc k) (x ∷ xs) e = ap (λ (ys : List (List ℕ)). x ∷ ys) (all_taken k xs e)
+
+-- where some are left there are more than were taken
+pub some_left : (k : ℕ) (lines : List (List ℕ)) → 0 < length (drop k lines) → k < length lines
+some_left zero lines lt = lt
+some_left (suc k) [] lt = absurd (omega (arith, lt))
+some_left (suc k) (x ∷ xs) lt =
+    let more : k < length xs = some_left k xs lt in
+    omega (arith, more)
+
+-- where reading stands one line on
+pub at_more : (problem : Problem) (told now then_told : Option (List (List ℕ))) (k : ℕ) (old new : List Fixing) → IsAt problem told now k old
+    → IfSome now (λ lines. TakesFirst problem old lines then_told new) → IsAt problem told then_told (k + 1) new
+at_more problem None now then_told k old new at first = tt
+at_more problem (Some lines) now then_told k old new (left, all) first =
+    go (drop k lines) refl (subst (λ (n : Option (List (List ℕ))). IfSome n (λ ls. TakesFirst problem old ls then_told new)) left first)
+  where
+    go : (rest : List (List ℕ)) → drop k lines ≡ rest → TakesFirst problem old rest then_told new → IsAt problem (Some lines) then_told (k + 1) new
+    go [] e one = absurd one
+    go (line ∷ rest) e one = (one.1 ∙ ap Some (sym (left_after k lines line rest e)), takes_more problem [] old new k lines line rest e all one.0)
+
+-- where none is left all are taken
+pub at_end : (problem : Problem) (told now : Option (List (List ℕ))) (k : ℕ) (old new : List Fixing) → IsAt problem told now k old → IfSome now (λ lines. lines ≡ []) → new ≡ old
+    → IfSome told (λ lines. TakesAll problem [] lines new)
+at_end problem None now k old new at none same = tt
+at_end problem (Some lines) now k old new (left, all) none same =
+    let empty : drop k lines ≡ [] = subst (λ (n : Option (List (List ℕ))). IfSome n (λ ls. ls ≡ [])) left none in
+    rw same (subst (λ (ls : List (List ℕ)). TakesAll problem [] ls old) (all_taken k lines empty) all)
+
+-- the line that is not taken is the next one
+pub at_stop : (problem : Problem) (told now : Option (List (List ℕ))) (k : ℕ) (fixings : List Fixing) (refusal : FileNo) → IsAt problem told now k fixings → RefusesNext problem fixings now (k + 1) refusal → Refuses problem told refusal
+at_stop problem None now k fixings (Line n reason) at stops = tt
+at_stop problem told now k fixings Failed at stops = tt
+at_stop problem told now k fixings Memory at stops = tt
+at_stop problem (Some lines) now k fixings (Line n reason) (left, all) (number, stops) =
+    go (drop k lines) refl (subst (λ (m : Option (List (List ℕ))). IfSome m (λ ls. StopsFirst problem fixings ls reason)) left stops)
+  where
+    by : (reason : LineNo) (line : List ℕ) → slice_get lines k ≡ Some line → Stops problem fixings line reason → StopsBy problem fixings lines k reason
+    by why.Unreadable line there stop = (line, there, stop)
+    by why.Long line there stop = (line, there, stop)
+    by (why.Refused refusal) line there stop = (line, there, stop)
+    by why.TooMany line there stop = absurd stop
+
+    go : (rest : List (List ℕ)) → drop k lines ≡ rest → StopsFirst problem fixings rest reason → StopsAt problem lines n reason
+    go [] e stop = absurd stop
+    go (line ∷ rest) e stop = record { place = k; counted = number; fixings = fixings; before = all; stops = by reason line (stands_at k lines line rest e) stop }
+
+-- a line behind as many as are read
+pub at_too_many : (problem : Problem) (told now : Option (List (List ℕ))) (fixings : List Fixing) (refusal : FileNo) → IsAt problem told now MOST_LINES fixings → RefusesEnd now refusal → Refuses problem told refusal
+at_too_many problem None now fixings (Line n reason) at stops = tt
+at_too_many problem told now fixings Failed at stops = tt
+at_too_many problem told now fixings Memory at stops = tt
+at_too_many problem (Some lines) now fixings (Line n reason) (left, all) (number, is, some) =
+    let more : 0 < length (drop MOST_LINES lines) = subst (λ (m : Option (List (List ℕ))). IfSome m (λ ls. 0 < length ls)) left some in
+    record { place = MOST_LINES; counted = number; fixings = fixings; before = all; stops = rw is (refl, some_left MOST_LINES lines more) }
+
+-- a number from 1 on, and the lines before it
+pub next_is : (number : ℕ) → 1 ≤ number → (number - 1) + 1 ≡ number
+next_is number le = omega arith
+
+pub then_is : (number : ℕ) → 1 ≤ number → (number + 1) - 1 ≡ (number - 1) + 1
+then_is number le = omega arith

@@ -1,0 +1,40 @@
+use Rattle.std.proofs.Common.{◌≡◌, ℕ, ◌-◌, ◌+◌, subst, sym, refl, rules, arith, true, false}
+use Rattle.std.specs.Prelude.{Ok}
+use Rattle.std.proofs.lemmas.Result.{on_ok_weaker}
+use Rattle.fixing_files.specs.Files.{IsAt, RefusesNext}
+use Rattle.fixing_files.proofs.Lines.{at_stop, at_end, at_more, at_too_many, next_is, then_is}
+use Rattle.fixing_files.proofs.take.take_fixings.Goals as goal
+
+pub loop-number-preserved : goal.loop-number-preserved
+loop-number-preserved g c =
+    let k = c.loop-number.number - 1 in
+    let is : c.take_next.result ≡ Ok false = search rules in
+    let given = rw c.loop-number.invariant.problem at c.take_next.ensures.given is in
+    record {
+      first = omega arith;
+      problem = search rules;
+      open_ = search rules;
+      faults = search rules;
+      named = search rules;
+      lines = rw (then_is c.loop-number.number c.loop-number.invariant.first) (at_more c.args.editions.now.problem (g.F.Feed.lines c.args.feed.now) (g.F.Feed.lines c.loop-number.feed)
+          (g.F.Feed.lines c.take_next.new.feed) k c.loop-number.editions.fixings c.take_next.new.editions.fixings c.loop-number.invariant.lines given);
+    }
+
+pub returns-in-Ok-true-clause-ok : goal.returns-in-Ok-true-clause-ok
+returns-in-Ok-true-clause-ok g c =
+    let is : c.take_next.result ≡ Ok true = search rules in
+    let end = c.take_next.ensures.end is in
+    at_end c.args.editions.now.problem (g.F.Feed.lines c.args.feed.now) (g.F.Feed.lines c.loop-number.feed) (c.loop-number.number - 1) c.loop-number.editions.fixings _ c.loop-number.invariant.lines end.0 end.1
+
+pub returns-in-Err-clause-no : goal.returns-in-Err-clause-no
+returns-in-Err-clause-no g c =
+    let told = g.F.Feed.lines c.args.feed.now in
+    let now = g.F.Feed.lines c.loop-number.feed in
+    let stops = rw c.loop-number.invariant.problem at c.in-Err.ensures.no in
+    at_stop c.args.editions.now.problem told now (c.loop-number.number - 1) c.loop-number.editions.fixings c.in-Err.no c.loop-number.invariant.lines
+    (rw (next_is c.loop-number.number c.loop-number.invariant.first) stops)
+
+pub returns-clause-ok : goal.returns-clause-ok
+returns-clause-ok g c = on_ok_weaker c.see_end.result
+    (λ none. at_end c.args.editions.now.problem (g.F.Feed.lines c.args.feed.now) (g.F.Feed.lines c.loop-number.feed) (c.loop-number.number - 1) c.loop-number.editions.fixings _ c.loop-number.invariant.lines none refl)
+    c.see_end.ensures.ok
