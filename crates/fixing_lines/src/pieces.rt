@@ -1,0 +1,137 @@
+ghost use Rattle.std.specs.Prelude.{◌≡◌, ◌++◌, OnOk, codes, string_bytes};
+ghost use Rattle.std.specs.Fmt.{decimal};
+ghost use Rattle.solution_text.specs.Texts.{Adds};
+ghost use Rattle.fixing_lines.specs.Requests.{fixing_text};
+ghost use Rattle.fixing_lines.specs.Entries.{refusal_text, reply_text, unasked_text, mark_text, best_text, standing_text, verdict_text, line_text};
+
+use disp_model::{Fixing, Mark, Memory, Refusal, Reply, Standing, Unasked, Verdict};
+
+/// Adds a text.
+pub(crate) fn push_text(text: &mut String, piece: &str) -> Result<(), Memory>
+    ensures { OnOk result (Adds (string_bytes text.old) (string_bytes text.new) piece.now) }
+{
+    text.push_str(piece)?;
+    Ok(())
+}
+
+/// Adds the feed and the number of a line.
+pub(crate) fn push_line(text: &mut String, feed: u32, line: u64) -> Result<(), Memory>
+    ensures { OnOk result (Adds (string_bytes text.old) (string_bytes text.new) (line_text feed line)) }
+{
+    write!(text, "feed {feed} line {line} ")?;
+    Ok(())
+}
+
+/// Adds the line that asks for a fixing.
+pub(crate) fn push_fixing(text: &mut String, fixing: Fixing) -> Result<(), Memory>
+    ensures { OnOk result (Adds (string_bytes text.old) (string_bytes text.new) (fixing_text fixing)) }
+{
+    match fixing {
+        Fixing::Started {
+            at_train,
+            at_op,
+            time,
+        } => write!(text, "started {at_train} {at_op} {time}")?,
+        Fixing::Chosen {
+            at_train,
+            at_op,
+            next,
+        } => write!(text, "chosen {at_train} {at_op} {next}")?,
+    }
+    Ok(())
+}
+
+/// Adds why a fixing is refused.
+fn push_refusal(text: &mut String, refusal: Refusal) -> Result<(), Memory>
+    ensures { OnOk result (Adds (string_bytes text.old) (string_bytes text.new) (refusal_text refusal)) }
+{
+    match refusal {
+        Refusal::NoTrain => write!(text, "NoTrain")?,
+        Refusal::NoOperation => write!(text, "NoOperation")?,
+        Refusal::NoSuccessor => write!(text, "NoSuccessor")?,
+        Refusal::TooLarge => write!(text, "TooLarge")?,
+        Refusal::BelowLower(lower) => write!(text, "BelowLower {lower}")?,
+        Refusal::AboveUpper(upper) => write!(text, "AboveUpper {upper}")?,
+        Refusal::StartedAt(time) => write!(text, "StartedAt {time}")?,
+        Refusal::ChosenIs(next) => write!(text, "ChosenIs {next}")?,
+        Refusal::NoRoute => write!(text, "NoRoute")?,
+        Refusal::Full(most) => write!(text, "Full {most}")?,
+    }
+    Ok(())
+}
+
+/// Adds the reply to a fixing.
+pub(crate) fn push_reply(text: &mut String, reply: Reply) -> Result<(), Memory>
+    ensures { OnOk result (Adds (string_bytes text.old) (string_bytes text.new) (reply_text reply)) }
+{
+    match reply {
+        Reply::Accepted(number) => write!(text, "accepted {number}")?,
+        Reply::Known(number) => write!(text, "known {number}")?,
+        Reply::Refused(refusal) => {
+            push_text(text, "refused ")?;
+            push_refusal(text, refusal)?;
+        }
+    }
+    Ok(())
+}
+
+/// Why a line asks nothing.
+pub(crate) fn unasked_word(why: Unasked) -> &'static str
+    ensures { result.now ≡ unasked_text why }
+{
+    match why {
+        Unasked::Unreadable => "unreadable",
+        Unasked::Long => "long",
+        Unasked::TooMany => "toomany",
+    }
+}
+
+/// How far an edition is settled.
+fn mark_word(mark: Mark) -> &'static str
+    ensures { result.now ≡ mark_text mark }
+{
+    match mark {
+        Mark::Working => "working",
+        Mark::Optimal(_) => "optimal",
+        Mark::Infeasible => "infeasible",
+        Mark::Stopped { .. } => "stopped",
+    }
+}
+
+/// Adds the cost of the best plan, if there is one.
+fn push_best(text: &mut String, best: Option<u64>) -> Result<(), Memory>
+    ensures { OnOk result (Adds (string_bytes text.old) (string_bytes text.new) (best_text best)) }
+{
+    match best {
+        None => write!(text, "none")?,
+        Some(cost) => write!(text, "{cost}")?,
+    }
+    Ok(())
+}
+
+/// Adds where the search stands.
+#[tactic(auto, using(crate::proofs::Joined::joined))]
+pub(crate) fn push_standing(text: &mut String, standing: Standing) -> Result<(), Memory>
+    ensures { OnOk result (Adds (string_bytes text.old) (string_bytes text.new) (standing_text standing)) }
+{
+    let Standing {
+        edition,
+        best,
+        mark,
+    } = standing;
+    let mark = mark_word(mark);
+    write!(text, "edition {edition} {mark} best ")?;
+    push_best(text, best)?;
+    Ok(())
+}
+
+/// Adds a verdict.
+pub(crate) fn push_verdict(text: &mut String, verdict: Verdict) -> Result<(), Memory>
+    ensures { OnOk result (Adds (string_bytes text.old) (string_bytes text.new) (verdict_text verdict)) }
+{
+    match verdict {
+        Verdict::Optimal(cost) => write!(text, "optimal {cost}")?,
+        Verdict::Infeasible => write!(text, "infeasible")?,
+    }
+    Ok(())
+}
