@@ -12,7 +12,7 @@ use Rattle.fixing_files.specs.declared.take.LineNo.{LineNo}
 use Rattle.fixing_files.specs.declared.take.LineNo.TheVariants as why
 use Rattle.fixing_files.specs.declared.take.FileNo.{FileNo}
 use Rattle.fixing_files.specs.declared.take.FileNo.TheVariants.{Line, Failed, Memory}
-use Rattle.fixing_files.specs.Requests.{IsAsked}
+use Rattle.fixing_lines.specs.Requests.{IsAsked}
 
 -- the reply takes the fixing: it is accepted, or was before
 abbrev pub IsTaken : Reply → Type 0

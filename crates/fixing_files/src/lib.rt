@@ -2,7 +2,6 @@
 // known. `take_fixings` asks for them one after the other, and names the first line that is another.
 #![tactic(auto)]
 
-mod request;
 mod take;
 
 pub use take::{FileNo, LineNo, take_fixings};

@@ -1,12 +1,12 @@
 ghost use Rattle.std.specs.Prelude.{◌≡◌, ◌≤◌, ◌<◌, ◌↔◌, [], false, true, Ok, IfErr, IfSome, OnOk, IsErrOf, MatchOption};
 ghost use Rattle.disp_model.specs.declared.fixing.Fixing.{Fixing};
-ghost use Rattle.fixing_files.specs.Requests.{IsAsked};
+ghost use Rattle.fixing_lines.specs.Requests.{IsAsked};
 ghost use Rattle.fixing_files.specs.Files.{TakesFixing, RefusesFixing, TakesText, RefusesText, TakesFirst, RefusesNext, RefusesEnd, TakesAll, Refuses};
 
-use crate::request::{Request, read_request};
 use disp_model::{Fixing, MOST_LINES, Memory, Refusal, Reply};
 use disp_outside::{Feed, FeedLine, LineBuf};
 use fixing_editions::Editions;
+use fixing_lines::{Request, read_request};
 
 /// Why a line of fixings ends the reading.
 #[derive(Clone, Copy, Debug, PartialEq, Eq)]

@@ -1,7 +1,7 @@
 use Rattle.std.proofs.Common.{◌≡◌, ◌⊎◌, ◌∙◌, inl, inr, refl, sym}
 use Rattle.disp_model.specs.declared.fixing.Fixing.{Fixing}
-use Rattle.fixing_files.specs.declared.request.Request.{Request}
-use Rattle.fixing_files.specs.declared.request.Request.TheVariants.{Ask, Show, Unreadable}
+use Rattle.fixing_lines.specs.declared.request.Request.{Request}
+use Rattle.fixing_lines.specs.declared.request.Request.TheVariants.{Ask, Show, Unreadable}
 use Rattle.fixing_files.proofs.take.fixing_of.Goals as goal
 
 pub returns-in-Ask : goal.returns-in-Ask
