@@ -12,13 +12,17 @@ use Rattle.command_words.specs.declared.task.Task.TheVariants.{Solve, Verify}
 use Rattle.command_words.specs.Task.{IsTask}
 use Rattle.dispatch_cli.specs.declared.answer.Answer.{Answer}
 use Rattle.dispatch_cli.specs.declared.cause.Cause.{Cause}
-use Rattle.dispatch_cli.specs.declared.cause.Cause.TheVariants.{Words, Failed, TooLong, NoProblem, NoSolution, Choices, Memory}
+use Rattle.dispatch_cli.specs.declared.cause.Cause.TheVariants.{Words, Failed, TooLong, NoProblem, NoSolution, BadLine, Choices, Memory}
 use Rattle.dispatch_cli.specs.declared.cause.Input.TheVariants as input
-use Rattle.dispatch_cli.specs.Outside.{Holdings, Counts, Outside, IsFile, ReadsOne, ReadsTwo}
-use Rattle.dispatch_cli.specs.Files.{IsProblemFile, IsSolutionFile}
+use Rattle.dispatch_cli.specs.Outside.{Holdings, Counts, Outside, IsFile, HoldsTooMuch, ReadsOne, Reads, Is, IsOfThree}
+use Rattle.dispatch_cli.specs.Files.{IsProblemFile, IsSolutionFile, IsRefusedLine, AreFixings}
+use Rattle.disp_outside.specs.Lines.{HasLinesOf}
+use Rattle.disp_model.specs.declared.fixing.Fixing.{Fixing}
+use Rattle.fixing_files.specs.declared.take.LineNo.{LineNo}
+use Rattle.dispatch_cli.specs.declared.cause.Input.{Input}
 use Rattle.dispatch_cli.specs.Solving.{IsForChoices}
 use Rattle.dispatch_cli.specs.Answers.{IsAnswer, IsJudgedFile}
-use Rattle.dispatch_cli.specs.Causes.{StopsSolve, StopsSolution, StopsVerify, IsBadFile, StopsTask, Stops, CountsTask, status_of}
+use Rattle.dispatch_cli.specs.Causes.{StopsSolve, StopsSolution, StopsFixings, StopsJudging, StopsVerify, IsBadFile, name_in, StopsTask, Stops, CountsTask, status_of}
 use Rattle.dispatch_cli.specs.Endings.{Fails, PutFails, WriteFails, Halts}
 
 -- the problem of a file is not solved for its choices alone
@@ -30,6 +34,7 @@ stops_by_choices holds old new name problem (Failed which) file why = absurd why
 stops_by_choices holds old new name problem (TooLong which) file why = absurd why
 stops_by_choices holds old new name problem (NoProblem refusal) file why = absurd why
 stops_by_choices holds old new name problem (NoSolution refusal) file why = absurd why
+stops_by_choices holds old new name problem (BadLine number reason) file why = absurd why
 
 different : false ≡ true → ⊥
 different e = cc
@@ -49,60 +54,149 @@ counts_of_one problem budget plan old new counted others name = record {
   stays = λ unread. others name (λ e. unread input.Problem (ap Some (sym e)));
 }
 
--- where two names are read, the counts of others stay
-pub counts_of_two : (problem solution : List ℕ) (old new : Counts) → ((name : List ℕ) → old name ≤ new name) → ((other : List ℕ) → other ≢ problem → other ≢ solution → new other ≡ old other) → (name : List ℕ)
-    → CountsTask (Verify problem solution) old new name
-counts_of_two problem solution old new counted others name = record {
+-- where files of a verification are read, the counts of other names stay
+pub counts_of_three : (problem solution : List ℕ) (fixings : Option (List ℕ)) (old new : Counts) → ((name : List ℕ) → old name ≤ new name)
+    → ((other : List ℕ) → (IsOfThree problem fixings solution other → ⊥) → new other ≡ old other) → (name : List ℕ) → CountsTask (Verify problem solution fixings) old new name
+counts_of_three problem solution fixings old new counted others name = record {
   never_falls = counted name;
-  stays = λ unread. others name (λ e. unread input.Problem (ap Some (sym e))) (λ e. unread input.Solution (ap Some (sym e)));
+  stays = λ unread. others name (given unread);
 }
+  where
+    given : ((which : Input) → name_in (Verify problem solution fixings) which ≡ Some name → ⊥) → IsOfThree problem fixings solution name → ⊥
+    given unread (inl e) = unread input.Problem (ap Some (sym e))
+    given unread (inr (inl e)) = unread input.Fixings e
+    given unread (inr (inr e)) = unread input.Solution (ap Some (sym e))
 
+-- what a file held before another reading, which changed no file
 file_before : (holds mid : Holdings) (name bytes : List ℕ) → mid name ≡ holds name → IsFile mid name bytes → IsFile holds name bytes
 file_before holds mid name bytes same h = record { held = subst (λ (found : Option (Option (List ℕ))). IfSome found (λ file. file ≡ Some bytes)) same h.held; short = h.short }
 
--- a file of a solution that was read after another reading, which changed no file
 bad_before : (holds mid : Holdings) (name : List ℕ) (Bad : List ℕ → Type 0) → mid name ≡ holds name → IsBadFile mid name Bad → IsBadFile holds name Bad
 bad_before holds mid name Bad same h = record { bytes = h.bytes; file = file_before holds mid name h.bytes same h.file; bad = h.bad }
 
--- what stopped the reading of a solution behind another reading has stopped its judging
-pub stops_solution : (holds mid_holds : Holdings) (old mid new : Counts) (problem name : List ℕ) (cause : Cause) → ((other : List ℕ) → mid_holds other ≡ holds other) → ((other : List ℕ) → old other ≤ mid other)
-    → StopsSolution mid_holds mid new name cause → StopsVerify holds old new problem name cause
-stops_solution holds mid_holds old mid new problem name (Failed which) same counted (is, lt) = rw is (omega (arith, counted name, lt))
-stops_solution holds mid_holds old mid new problem name (TooLong which) same counted (is, long) = rw is (subst (λ (h : Option (Option (List ℕ))). IfSome h (λ file. IsSomeAnd file (λ bytes. MOST_FILE_BYTES < length bytes))) (same name) long)
-stops_solution holds mid_holds old mid new problem name (NoSolution refusal) same counted bad = bad_before holds mid_holds name _ (same name) bad
-stops_solution holds mid_holds old mid new problem name Memory same counted stops = tt
-stops_solution holds mid_holds old mid new problem name (Words text) same counted stops = absurd stops
-stops_solution holds mid_holds old mid new problem name (NoProblem refusal) same counted stops = absurd stops
-stops_solution holds mid_holds old mid new problem name Choices same counted stops = absurd stops
+lines_before : (holds mid : Holdings) (name : List ℕ) (told : Option (List (List ℕ))) → mid name ≡ holds name → HasLinesOf (mid name) told → HasLinesOf (holds name) told
+lines_before holds mid name told same h = subst (λ (found : Option (Option (List ℕ))). HasLinesOf found told) same h
+
+refused_before : (holds mid : Holdings) (problem : Problem) (name : List ℕ) (number : ℕ) (reason : LineNo) → mid name ≡ holds name → IsRefusedLine mid problem name number reason → IsRefusedLine holds problem name number reason
+refused_before holds mid problem name number reason same h = record { told = h.told; lines = lines_before holds mid name h.told same h.lines; refused = h.refused }
+
+long_before : (holds mid : Holdings) (name : List ℕ) → mid name ≡ holds name → HoldsTooMuch mid name → HoldsTooMuch holds name
+long_before holds mid name same h = subst (λ (found : Option (Option (List ℕ))). IfSome found (λ file. IsSomeAnd file (λ bytes. MOST_FILE_BYTES < length bytes))) same h
+
+-- what stopped the judging of a solution without fixings, or behind their reading
+pub stops_solution : (holds mid_holds : Holdings) (old mid new : Counts) (problem : Problem) (fixings : Option (List ℕ)) (name : List ℕ) (cause : Cause) → ((other : List ℕ) → mid_holds other ≡ holds other)
+    → ((other : List ℕ) → old other ≤ mid other) → StopsSolution mid_holds mid new name cause → StopsJudging holds old new problem fixings name cause
+stops_solution holds mid_holds old mid new problem fixings name (Failed which) same counted (is, lt) = rw is (omega (arith, counted name, lt))
+stops_solution holds mid_holds old mid new problem fixings name (TooLong which) same counted (is, long) = (is, long_before holds mid_holds name (same name) long)
+stops_solution holds mid_holds old mid new problem fixings name (NoSolution refusal) same counted bad = bad_before holds mid_holds name _ (same name) bad
+stops_solution holds mid_holds old mid new problem fixings name Memory same counted stops = tt
+stops_solution holds mid_holds old mid new problem fixings name (Words text) same counted stops = absurd stops
+stops_solution holds mid_holds old mid new problem fixings name (NoProblem refusal) same counted stops = absurd stops
+stops_solution holds mid_holds old mid new problem fixings name (BadLine number reason) same counted stops = absurd stops
+stops_solution holds mid_holds old mid new problem fixings name Choices same counted stops = absurd stops
+
+-- what stopped the reading of the fixings
+pub stops_fixings : (holds : Holdings) (old new : Counts) (problem : Problem) (name solution : List ℕ) (cause : Cause) → StopsFixings holds old new problem name cause → StopsJudging holds old new problem (Some name) solution cause
+stops_fixings holds old new problem name solution (Failed which) (is, lt) = rw is (name, refl, lt)
+stops_fixings holds old new problem name solution (BadLine number reason) refused = (name, refl, refused)
+stops_fixings holds old new problem name solution Memory stops = tt
+stops_fixings holds old new problem name solution (Words text) stops = absurd stops
+stops_fixings holds old new problem name solution (TooLong which) stops = absurd stops
+stops_fixings holds old new problem name solution (NoProblem refusal) stops = absurd stops
+stops_fixings holds old new problem name solution (NoSolution refusal) stops = absurd stops
+stops_fixings holds old new problem name solution Choices stops = absurd stops
+
+-- what stopped the judging behind the reading of the problem
+pub stops_judging : (holds mid_holds : Holdings) (old mid new : Counts) (problem : Problem) (fixings : Option (List ℕ)) (name : List ℕ) (cause : Cause) → ((other : List ℕ) → mid_holds other ≡ holds other)
+    → ((other : List ℕ) → old other ≤ mid other) → StopsJudging mid_holds mid new problem fixings name cause → StopsJudging holds old new problem fixings name cause
+stops_judging holds mid_holds old mid new problem fixings name (Failed input.Problem) same counted stops = absurd stops
+stops_judging holds mid_holds old mid new problem fixings name (Failed input.Fixings) same counted (file, is, lt) = (file, is, omega (arith, counted file, lt))
+stops_judging holds mid_holds old mid new problem fixings name (Failed input.Solution) same counted lt = omega (arith, counted name, lt)
+stops_judging holds mid_holds old mid new problem fixings name (TooLong which) same counted (is, long) = (is, long_before holds mid_holds name (same name) long)
+stops_judging holds mid_holds old mid new problem fixings name (NoSolution refusal) same counted bad = bad_before holds mid_holds name _ (same name) bad
+stops_judging holds mid_holds old mid new problem fixings name (BadLine number reason) same counted (file, is, refused) = (file, is, refused_before holds mid_holds problem file number reason (same file) refused)
+stops_judging holds mid_holds old mid new problem fixings name Memory same counted stops = tt
+stops_judging holds mid_holds old mid new problem fixings name (Words text) same counted stops = absurd stops
+stops_judging holds mid_holds old mid new problem fixings name (NoProblem refusal) same counted stops = absurd stops
+stops_judging holds mid_holds old mid new problem fixings name Choices same counted stops = absurd stops
+
+-- what stopped a verification is what stopped its task
+pub stops_verify : (holds : Holdings) (old new : Counts) (problem solution : List ℕ) (fixings : Option (List ℕ)) (cause : Cause) → StopsVerify holds old new problem fixings solution cause
+    → StopsTask holds old new (Verify problem solution fixings) cause
+stops_verify holds old new problem solution fixings (Failed which) (inl (is, lt)) = rw is (problem, refl, lt)
+stops_verify holds old new problem solution fixings (TooLong which) (inl (is, long)) = rw is (problem, refl, long)
+stops_verify holds old new problem solution fixings (NoProblem refusal) (inl bad) = (problem, refl, bad)
+stops_verify holds old new problem solution fixings Memory stops = tt
+stops_verify holds old new problem solution fixings (Words text) (inl stops) = absurd stops
+stops_verify holds old new problem solution fixings (NoSolution refusal) (inl stops) = absurd stops
+stops_verify holds old new problem solution fixings (BadLine number reason) (inl stops) = absurd stops
+stops_verify holds old new problem solution fixings Choices (inl stops) = absurd stops
+stops_verify holds old new problem solution fixings (Failed input.Problem) (inr (read, file, stops)) = absurd stops
+stops_verify holds old new problem solution fixings (Failed input.Fixings) (inr (read, file, (name, is, lt))) = (name, is, lt)
+stops_verify holds old new problem solution fixings (Failed input.Solution) (inr (read, file, lt)) = (solution, refl, lt)
+stops_verify holds old new problem solution fixings (TooLong which) (inr (read, file, (is, long))) = rw is (solution, refl, long)
+stops_verify holds old new problem solution fixings (NoSolution refusal) (inr (read, file, bad)) = (solution, refl, bad)
+stops_verify holds old new problem solution fixings (BadLine number reason) (inr (read, file, (name, is, refused))) =
+    record { problem_name = problem; problem_named = refl; problem = read; problem_file = file; name = name; named = is; refused = refused }
+stops_verify holds old new problem solution fixings (Words text) (inr (read, file, stops)) = absurd stops
+stops_verify holds old new problem solution fixings (NoProblem refusal) (inr (read, file, stops)) = absurd stops
+stops_verify holds old new problem solution fixings Choices (inr (read, file, stops)) = absurd stops
 
 -- a solution that was judged behind another reading
-pub judged_file_before : (holds mid : Holdings) (problem : Problem) (name : List ℕ) (answer : Answer) → ((other : List ℕ) → mid other ≡ holds other) → IsJudgedFile mid problem name answer → IsJudgedFile holds problem name answer
-judged_file_before holds mid problem name answer same h = record {
+pub judged_file_before : (holds mid : Holdings) (problem : Problem) (fixings : List Fixing) (name : List ℕ) (answer : Answer) → ((other : List ℕ) → mid other ≡ holds other) → IsJudgedFile mid problem fixings name answer
+    → IsJudgedFile holds problem fixings name answer
+judged_file_before holds mid problem fixings name answer same h = record {
   plan = h.plan;
   stated = h.stated;
   file = record { bytes = h.file.bytes; file = file_before holds mid name h.file.bytes (same name) h.file.file; read = h.file.read };
   judged = h.judged;
 }
 
+-- so are fixings
+pub fixings_before : (holds mid : Holdings) (problem : Problem) (name : Option (List ℕ)) (fixings : List Fixing) → ((other : List ℕ) → mid other ≡ holds other) → AreFixings mid problem name fixings → AreFixings holds problem name fixings
+fixings_before holds mid problem None fixings same h = h
+fixings_before holds mid problem (Some name) fixings same h = record { told = h.told; lines = lines_before holds mid name h.told (same name) h.lines; taken = h.taken; edition = h.edition }
+
+-- one reading
+pub reads_of_one : (one : List ℕ) (old new : Counts) (old_puts new_puts : Counts) (old_holds new_holds : Holdings) (Fault : Type 0) → ReadsOne one old new old_puts new_puts old_holds new_holds Fault
+    → Reads (Is one) old new old_puts new_puts old_holds new_holds Fault
+reads_of_one one old new old_puts new_puts old_holds new_holds Fault h = record {
+  counted = never_falls one old new h.counted h.others;
+  fault = λ name lt. rise name (bytes_eq name one) (bytes_eq-Decides name one) lt;
+  others = h.others;
+  puttings = h.puttings;
+  held = h.held;
+}
+  where
+    rise : (name : List ℕ) → (b : Bool) → Decides b (name ≡ one) → old name < new name → Fault
+    rise name true same lt = h.fault (subst (λ (n : List ℕ). old n < new n) (same.0 refl) lt)
+    rise name false unlike lt = absurd (omega (arith, lt, h.others name (λ e. different (unlike.1 e))))
+
 -- two readings, of which the first had no fault
-pub reads_both : (one two : List ℕ) (old mid new : Counts) (old_puts mid_puts new_puts : Counts) (old_holds mid_holds new_holds : Holdings) (First Fault : Type 0) → (First → ⊥)
-    → ReadsOne one old mid old_puts mid_puts old_holds mid_holds First → ReadsOne two mid new mid_puts new_puts mid_holds new_holds Fault
-    → ReadsTwo one two old new old_puts new_puts old_holds new_holds Fault
-reads_both one two old mid new old_puts mid_puts new_puts old_holds mid_holds new_holds First Fault none first second = record {
-  counted = λ name. omega (arith, never_falls one old mid first.counted first.others name, never_falls two mid new second.counted second.others name);
-  fault = λ name rises. rise name (bytes_eq name two) (bytes_eq-Decides name two) rises;
-  others = λ other not_one not_two. second.others other not_two ∙ first.others other not_one;
+pub reads_then : (One Two : List ℕ → Type 0) (old mid new : Counts) (old_puts mid_puts new_puts : Counts) (old_holds mid_holds new_holds : Holdings) (First Fault : Type 0) → (First → ⊥)
+    → Reads One old mid old_puts mid_puts old_holds mid_holds First → Reads Two mid new mid_puts new_puts mid_holds new_holds Fault
+    → Reads (λ name. One name ⊎ Two name) old new old_puts new_puts old_holds new_holds Fault
+reads_then One Two old mid new old_puts mid_puts new_puts old_holds mid_holds new_holds First Fault none first second = record {
+  counted = λ name. omega (arith, first.counted name, second.counted name);
+  fault = λ name lt. second.fault name (omega (arith, lt, kept name));
+  others = λ other given. second.others other (λ two. given (inr two)) ∙ first.others other (λ one. given (inl one));
   puttings = λ other. second.puttings other ∙ first.puttings other;
   held = λ other. second.held other ∙ first.held other;
 }
   where
-    kept : (name : List ℕ) → (b : Bool) → Decides b (name ≡ one) → mid name ≡ old name
-    kept name true same = rw (same.0 refl) (omega (arith, first.counted, (λ (lt : old one < mid one). none (first.fault lt))))
-    kept name false unlike = first.others name (λ e. different (unlike.1 e))
+    kept : (name : List ℕ) → mid name ≡ old name
+    kept name = omega (arith, first.counted name, (λ (lt : old name < mid name). none (first.fault name lt)))
 
-    rise : (name : List ℕ) → (b : Bool) → Decides b (name ≡ two) → old name < new name → Fault
-    rise name true same lt = second.fault (subst (λ (n : List ℕ). mid n < new n) (same.0 refl) (rw (kept name (bytes_eq name one) (bytes_eq-Decides name one)) lt))
-    rise name false unlike lt = absurd (omega (arith, lt, second.others name (λ e. different (unlike.1 e)), kept name (bytes_eq name one) (bytes_eq-Decides name one)))
+-- readings among more names
+pub reads_among : (Few Many : List ℕ → Type 0) (old new : Counts) (old_puts new_puts : Counts) (old_holds new_holds : Holdings) (Fault : Type 0) → ((name : List ℕ) → Few name → Many name)
+    → Reads Few old new old_puts new_puts old_holds new_holds Fault → Reads Many old new old_puts new_puts old_holds new_holds Fault
+reads_among Few Many old new old_puts new_puts old_holds new_holds Fault more h = record {
+  counted = h.counted;
+  fault = h.fault;
+  others = λ other given. h.others other (λ few. given (more other few));
+  puttings = h.puttings;
+  held = h.held;
+}
 
 -- what stopped a task has stopped the words that ask for it
 pub stops_task : (words : List (List ℕ)) (holds : Holdings) (old new : Counts) (task : Task) (cause : Cause) → IsTask words task → StopsTask holds old new task cause → Stops words holds old new cause
@@ -111,6 +205,7 @@ stops_task words holds old new task (Failed which) asked stops = record { task =
 stops_task words holds old new task (TooLong which) asked stops = record { task = task; asked = asked; stops = stops }
 stops_task words holds old new task (NoProblem refusal) asked stops = record { task = task; asked = asked; stops = stops }
 stops_task words holds old new task (NoSolution refusal) asked stops = record { task = task; asked = asked; stops = stops }
+stops_task words holds old new task (BadLine number reason) asked stops = record { task = task; asked = asked; stops = stops }
 stops_task words holds old new task Choices asked stops = record { task = task; asked = asked; stops = stops }
 stops_task words holds old new task Memory asked stops = tt
 
@@ -163,6 +258,7 @@ fails_of_stop words old new cause journal status stops halts none is = go cause 
     go (TooLong which) stops halts e = two e
     go (NoProblem refusal) stops halts e = two e
     go (NoSolution refusal) stops halts e = two e
+    go (BadLine number reason) stops halts e = two e
     go Choices stops halts e = two e
     go Memory stops halts (inl e) = absurd (not_five (sym e ∙ is))
     go Memory stops halts (inr e) = absurd (not_five (sym e ∙ is))

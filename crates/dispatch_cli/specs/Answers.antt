@@ -19,7 +19,7 @@ use Rattle.command_words.specs.Task.{IsTask}
 use Rattle.dispatch_cli.specs.declared.answer.Answer.{Answer}
 use Rattle.dispatch_cli.specs.declared.answer.Put.{Put}
 use Rattle.dispatch_cli.specs.Outside.{Holdings, HoldsBytes}
-use Rattle.dispatch_cli.specs.Files.{IsProblemFile, IsSolutionFile}
+use Rattle.dispatch_cli.specs.Files.{IsProblemFile, IsSolutionFile, AreFixings}
 use Rattle.dispatch_cli.specs.Texts.{answer_lines, plan_line, valid_line, fault_line}
 use Rattle.dispatch_cli.specs.Journals.{journal_of, Promises}
 
@@ -76,18 +76,20 @@ pub record IsJudged (problem : Problem) (fixings : List Fixing) (plan : List Eve
   pub put : answer.put ≡ None
   pub says : SaysValid problem fixings plan stated answer.status answer.lines ⊎ SaysFault problem fixings plan stated answer.status answer.lines
 
--- the named files are a problem's and a solution's, which is judged
-pub record AnswersVerify (holds : Holdings) (problem_name solution_name : List ℕ) (answer : Answer) : Type 0 where
+-- the named files are a problem's, fixings', if they are given, and a solution's, which is judged
+pub record AnswersVerify (holds : Holdings) (problem_name solution_name : List ℕ) (fixings_name : Option (List ℕ)) (answer : Answer) : Type 0 where
   pub problem : Problem
   pub problem_file : IsProblemFile holds problem_name problem
+  pub fixings : List Fixing
+  pub fixings_file : AreFixings holds problem fixings_name fixings
   pub plan : List Event
   pub stated : Option ℕ
   pub solution_file : IsSolutionFile holds solution_name plan stated
-  pub judged : IsJudged problem [] plan stated answer
+  pub judged : IsJudged problem fixings plan stated answer
 
 abbrev pub AnswersTask : Holdings → Task → Answer → Type 0
 AnswersTask holds (Solve problem budget plan) answer = AnswersSolve holds problem budget plan answer
-AnswersTask holds (Verify problem solution) answer = AnswersVerify holds problem solution answer
+AnswersTask holds (Verify problem solution fixings) answer = AnswersVerify holds problem solution fixings answer
 
 -- the words ask for a task, and this is the answer to it
 pub record IsAnswer (words : List (List ℕ)) (holds : Holdings) (answer : Answer) : Type 0 where
@@ -120,9 +122,15 @@ pub record IsOneLine (line : List ℕ) (status : ℕ) (answer : Answer) : Type 0
   pub lines : answer.lines ≡ line ∷ []
   pub status_is : answer.status ≡ status
 
--- the name's file is a solution's, which is judged
-pub record IsJudgedFile (holds : Holdings) (problem : Problem) (name : List ℕ) (answer : Answer) : Type 0 where
+-- the name's file is a solution's, which is judged with fixings
+pub record IsJudgedFile (holds : Holdings) (problem : Problem) (fixings : List Fixing) (name : List ℕ) (answer : Answer) : Type 0 where
   pub plan : List Event
   pub stated : Option ℕ
   pub file : IsSolutionFile holds name plan stated
-  pub judged : IsJudged problem [] plan stated answer
+  pub judged : IsJudged problem fixings plan stated answer
+
+-- so is one with the fixings of a file, if there is one
+pub record IsJudgedBy (holds : Holdings) (problem : Problem) (fixings_name : Option (List ℕ)) (name : List ℕ) (answer : Answer) : Type 0 where
+  pub fixings : List Fixing
+  pub fixings_file : AreFixings holds problem fixings_name fixings
+  pub judged : IsJudgedFile holds problem fixings name answer

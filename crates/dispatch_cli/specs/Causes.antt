@@ -1,5 +1,5 @@
 -- What stops a run before there is an answer, and what is printed for it.
-use Rattle.std.specs.Prelude.{◌≡◌, ◌≢◌, ◌⊎◌, ℕ, ◌<◌, ◌≤◌, List, [], ◌++◌, codes, Option, Some, None}
+use Rattle.std.specs.Prelude.{◌≡◌, ◌≢◌, ◌⊎◌, ℕ, ◌<◌, ◌≤◌, List, [], ◌++◌, codes, Option, Some, None, IfSome}
 use Rattle.disp_model.specs.declared.problem.Problem.{Problem}
 use Rattle.displib_reader.specs.declared.fault.ProblemNo.{ProblemNo}
 use Rattle.displib_reader.specs.Outcome.{IsReadAs, IsRefused}
@@ -7,21 +7,35 @@ use Rattle.displib_reader.specs.Why.{why_text}
 use Rattle.solution_text.specs.Why as solution
 use Rattle.solution_text.specs.Reading as reading
 use Rattle.single_routes.specs.Choices.{HasChoices}
+use Rattle.std.specs.Fmt.{decimal}
+use Rattle.fixing_lines.specs.Entries.{refusal_text}
+use Rattle.fixing_files.specs.declared.take.LineNo.{LineNo}
+use Rattle.fixing_files.specs.declared.take.LineNo.TheVariants as reason
+use Rattle.fixing_files.specs.Files.{StopsAt}
 use Rattle.command_words.specs.declared.task.Task.{Task}
 use Rattle.command_words.specs.declared.task.Task.TheVariants.{Solve, Verify}
 use Rattle.command_words.specs.Task.{IsTask, AreRefused}
 use Rattle.dispatch_cli.specs.declared.cause.Cause.{Cause}
-use Rattle.dispatch_cli.specs.declared.cause.Cause.TheVariants.{Words, Failed, TooLong, NoProblem, NoSolution, Choices, Memory}
+use Rattle.dispatch_cli.specs.declared.cause.Cause.TheVariants.{Words, Failed, TooLong, NoProblem, NoSolution, BadLine, Choices, Memory}
 use Rattle.dispatch_cli.specs.declared.cause.Input.{Input}
 use Rattle.dispatch_cli.specs.declared.cause.Input.TheVariants as input
 use Rattle.dispatch_cli.specs.Outside.{Holdings, Counts, IsFile, HoldsTooMuch}
 use Rattle.dispatch_cli.specs.Texts.{line}
+use Rattle.dispatch_cli.specs.Files.{IsProblemFile, IsRefusedLine}
 
 -- ---- what is printed
 
 abbrev pub prefix_of : Input → List ℕ
 prefix_of input.Problem = codes "problem: "
 prefix_of input.Solution = codes "solution: "
+prefix_of input.Fixings = codes "fixings: "
+
+-- why a line of fixings is not taken
+abbrev pub reason_text : LineNo → List ℕ
+reason_text reason.Unreadable = codes "unreadable"
+reason_text reason.Long = codes "long"
+reason_text reason.TooMany = codes "toomany"
+reason_text (reason.Refused why) = codes "refused " ++ refusal_text why
 
 -- the line that is printed for a cause; for refused words it is clap's text
 abbrev pub line_of : Cause → List ℕ
@@ -30,6 +44,7 @@ line_of (Failed which) = line (prefix_of which ++ codes "Failed")
 line_of (TooLong which) = line (prefix_of which ++ codes "TooLong")
 line_of (NoProblem refusal) = line (prefix_of input.Problem ++ why_text refusal)
 line_of (NoSolution refusal) = line (prefix_of input.Solution ++ solution.why_text refusal)
+line_of (BadLine number why) = line (codes "fixings line " ++ decimal number ++ codes ": " ++ reason_text why)
 line_of Choices = line (prefix_of input.Problem ++ codes "Choices")
 line_of Memory = line (codes "memory")
 
@@ -40,6 +55,7 @@ due_line (Failed which) = line_of (Failed which)
 due_line (TooLong which) = line_of (TooLong which)
 due_line (NoProblem refusal) = line_of (NoProblem refusal)
 due_line (NoSolution refusal) = line_of (NoSolution refusal)
+due_line (BadLine number why) = line_of (BadLine number why)
 due_line Choices = line_of Choices
 due_line Memory = []
 
@@ -50,6 +66,7 @@ status_of (Failed which) = 4
 status_of (TooLong which) = 2
 status_of (NoProblem refusal) = 2
 status_of (NoSolution refusal) = 2
+status_of (BadLine number why) = 2
 status_of Choices = 2
 status_of Memory = 5
 
@@ -59,8 +76,10 @@ status_of Memory = 5
 abbrev pub name_in : Task → Input → Option (List ℕ)
 name_in (Solve problem budget plan) input.Problem = Some problem
 name_in (Solve problem budget plan) input.Solution = None
-name_in (Verify problem solution) input.Problem = Some problem
-name_in (Verify problem solution) input.Solution = Some solution
+name_in (Solve problem budget plan) input.Fixings = None
+name_in (Verify problem solution fixings) input.Problem = Some problem
+name_in (Verify problem solution fixings) input.Solution = Some solution
+name_in (Verify problem solution fixings) input.Fixings = fixings
 
 -- the file of the name is read, and its bytes are such
 pub record IsBadFile (holds : Holdings) (name : List ℕ) (Bad : List ℕ → Type 0) : Type 0 where
@@ -78,6 +97,16 @@ pub record IsReadWithChoices (bytes : List ℕ) : Type 0 where
   pub read : IsReadAs bytes problem
   pub choices : HasChoices problem
 
+-- the task gives names for a problem and for fixings, and the line of the fixings' file is not taken
+pub record HasBadLine (holds : Holdings) (task : Task) (number : ℕ) (why : LineNo) : Type 0 where
+  pub problem_name : List ℕ
+  pub problem_named : name_in task input.Problem ≡ Some problem_name
+  pub problem : Problem
+  pub problem_file : IsProblemFile holds problem_name problem
+  pub name : List ℕ
+  pub named : name_in task input.Fixings ≡ Some name
+  pub refused : IsRefusedLine holds problem name number why
+
 -- what stopped a task has happened
 abbrev pub StopsTask : Holdings → Counts → Counts → Task → Cause → Type 0
 StopsTask holds old new task (Words text) = ⊥
@@ -85,6 +114,7 @@ StopsTask holds old new task (Failed which) = (name : List ℕ) × (name_in task
 StopsTask holds old new task (TooLong which) = (name : List ℕ) × (name_in task which ≡ Some name) × HoldsTooMuch holds name
 StopsTask holds old new task (NoProblem refusal) = IsBadInput holds task input.Problem (λ bytes. IsRefused bytes refusal)
 StopsTask holds old new task (NoSolution refusal) = IsBadInput holds task input.Solution (λ bytes. reading.IsRefused bytes refusal)
+StopsTask holds old new task (BadLine number why) = HasBadLine holds task number why
 StopsTask holds old new task Choices = IsBadInput holds task input.Problem IsReadWithChoices
 StopsTask holds old new task Memory = Unit {0}
 
@@ -101,6 +131,7 @@ Stops words holds old new (Failed which) = IsStopped words holds old new (Failed
 Stops words holds old new (TooLong which) = IsStopped words holds old new (TooLong which)
 Stops words holds old new (NoProblem refusal) = IsStopped words holds old new (NoProblem refusal)
 Stops words holds old new (NoSolution refusal) = IsStopped words holds old new (NoSolution refusal)
+Stops words holds old new (BadLine number why) = IsStopped words holds old new (BadLine number why)
 Stops words holds old new Choices = IsStopped words holds old new Choices
 Stops words holds old new Memory = Unit {0}
 
@@ -164,27 +195,39 @@ StopsSolve holds old new name (Failed which) = (which ≡ input.Problem) × (old
 StopsSolve holds old new name (TooLong which) = (which ≡ input.Problem) × HoldsTooMuch holds name
 StopsSolve holds old new name (NoProblem refusal) = IsBadFile holds name (λ bytes. IsRefused bytes refusal)
 StopsSolve holds old new name (NoSolution refusal) = ⊥
+StopsSolve holds old new name (BadLine number why) = ⊥
 StopsSolve holds old new name Choices = IsBadFile holds name IsReadWithChoices
 StopsSolve holds old new name Memory = Unit {0}
 
--- the file of an input is missing, as named by the input
-abbrev pub FailsOf : Counts → Counts → List ℕ → List ℕ → Input → Type 0
-FailsOf old new problem_name solution_name input.Problem = old problem_name < new problem_name
-FailsOf old new problem_name solution_name input.Solution = old solution_name < new solution_name
+-- why fixings are not taken
+abbrev pub StopsFixings : Holdings → Counts → Counts → Problem → List ℕ → Cause → Type 0
+StopsFixings holds old new problem name (Failed which) = (which ≡ input.Fixings) × (old name < new name)
+StopsFixings holds old new problem name (BadLine number why) = IsRefusedLine holds problem name number why
+StopsFixings holds old new problem name Memory = Unit {0}
+StopsFixings holds old new problem name _ = ⊥
 
-abbrev pub TooLongOf : Holdings → List ℕ → List ℕ → Input → Type 0
-TooLongOf holds problem_name solution_name input.Problem = HoldsTooMuch holds problem_name
-TooLongOf holds problem_name solution_name input.Solution = HoldsTooMuch holds solution_name
+-- a reading of the file of the fixings or of the solution failed
+abbrev pub FailsOf : Counts → Counts → Option (List ℕ) → List ℕ → Input → Type 0
+FailsOf old new fixings solution input.Problem = ⊥
+FailsOf old new fixings solution input.Fixings = (name : List ℕ) × (fixings ≡ Some name) × (old name < new name)
+FailsOf old new fixings solution input.Solution = old solution < new solution
 
--- why a solution is not judged
-abbrev pub StopsVerify : Holdings → Counts → Counts → List ℕ → List ℕ → Cause → Type 0
-StopsVerify holds old new problem_name solution_name (Words text) = ⊥
-StopsVerify holds old new problem_name solution_name (Failed which) = FailsOf old new problem_name solution_name which
-StopsVerify holds old new problem_name solution_name (TooLong which) = TooLongOf holds problem_name solution_name which
-StopsVerify holds old new problem_name solution_name (NoProblem refusal) = IsBadFile holds problem_name (λ bytes. IsRefused bytes refusal)
-StopsVerify holds old new problem_name solution_name (NoSolution refusal) = IsBadFile holds solution_name (λ bytes. reading.IsRefused bytes refusal)
-StopsVerify holds old new problem_name solution_name Choices = ⊥
-StopsVerify holds old new problem_name solution_name Memory = Unit {0}
+-- why a solution is not judged for a problem
+abbrev pub StopsJudging : Holdings → Counts → Counts → Problem → Option (List ℕ) → List ℕ → Cause → Type 0
+StopsJudging holds old new problem fixings solution (Words text) = ⊥
+StopsJudging holds old new problem fixings solution (Failed which) = FailsOf old new fixings solution which
+StopsJudging holds old new problem fixings solution (TooLong which) = (which ≡ input.Solution) × HoldsTooMuch holds solution
+StopsJudging holds old new problem fixings solution (NoProblem refusal) = ⊥
+StopsJudging holds old new problem fixings solution (NoSolution refusal) = IsBadFile holds solution (λ bytes. reading.IsRefused bytes refusal)
+StopsJudging holds old new problem fixings solution (BadLine number why) = (name : List ℕ) × (fixings ≡ Some name) × IsRefusedLine holds problem name number why
+StopsJudging holds old new problem fixings solution Choices = ⊥
+StopsJudging holds old new problem fixings solution Memory = Unit {0}
+
+-- why a solution is not judged for the problem of a file
+abbrev pub StopsVerify : Holdings → Counts → Counts → List ℕ → Option (List ℕ) → List ℕ → Cause → Type 0
+StopsVerify holds old new problem fixings solution cause =
+    StopsProblem holds old new problem cause
+    ⊎ ((read : Problem) × IsProblemFile holds problem read × StopsJudging holds old new read fixings solution cause)
 
 -- a reading failed
 abbrev pub IsReadingFault : Cause → Type 0
@@ -194,3 +237,15 @@ IsReadingFault _ = ⊥
 -- the answer ends with one of the statuses of an answer
 abbrev pub IsAnswerStatus : ℕ → Type 0
 IsAnswerStatus status = (status ≡ 0) ⊎ (status ≡ 1)
+
+-- why the lines of a feed are not taken, where they are told
+abbrev pub RefusesLines : Problem → Option (List (List ℕ)) → Cause → Type 0
+RefusesLines problem told (Failed which) = which ≡ input.Fixings
+RefusesLines problem told (BadLine number why) = IfSome told (λ lines. StopsAt problem lines number why)
+RefusesLines problem told Memory = Unit {0}
+RefusesLines problem told _ = ⊥
+
+-- the cause is no file that is too long
+abbrev pub IsNotLong : Cause → Type 0
+IsNotLong (TooLong which) = ⊥
+IsNotLong _ = Unit {0}

@@ -1,9 +1,14 @@
 -- What files are read as.
-use Rattle.std.specs.Prelude.{ℕ, List, Option}
+use Rattle.std.specs.Prelude.{◌≡◌, ℕ, List, [], Option, Some, None, IfSome}
+use Rattle.disp_outside.specs.Lines.{HasLinesOf}
+use Rattle.disp_model.specs.declared.fixing.Fixing.{Fixing}
+use Rattle.disp_model.specs.Replies.{IsEdition}
 use Rattle.disp_model.specs.declared.plan.Event.{Event}
 use Rattle.disp_model.specs.declared.problem.Problem.{Problem}
 use Rattle.displib_reader.specs.Outcome.{IsReadAs}
 use Rattle.solution_text.specs.Reading as reading
+use Rattle.fixing_files.specs.declared.take.LineNo.{LineNo}
+use Rattle.fixing_files.specs.Files.{TakesAll, StopsAt}
 use Rattle.dispatch_cli.specs.Outside.{Holdings, IsFile}
 
 -- the name's file is that of a problem
@@ -17,3 +22,30 @@ pub record IsSolutionFile (holds : Holdings) (name : List ℕ) (plan : List Even
   pub bytes : List ℕ
   pub file : IsFile holds name bytes
   pub read : reading.IsReadAs bytes plan stated
+
+-- the lines of a name's file, where they are told, are all taken, and these fixings are an edition's
+pub record IsFixingsFile (holds : Holdings) (problem : Problem) (name : List ℕ) (fixings : List Fixing) : Type 0 where
+  pub told : Option (List (List ℕ))
+  pub lines : HasLinesOf (holds name) told
+  pub taken : IfSome told (λ lines. TakesAll problem [] lines fixings)
+  pub edition : IsEdition problem fixings
+
+-- the fixings of a file, if there is one; else there are none
+abbrev pub AreFixings : Holdings → Problem → Option (List ℕ) → List Fixing → Type 0
+AreFixings holds problem None fixings = fixings ≡ []
+AreFixings holds problem (Some name) fixings = IsFixingsFile holds problem name fixings
+
+-- a line of a name's file is not taken, where the lines are told
+pub record IsRefusedLine (holds : Holdings) (problem : Problem) (name : List ℕ) (number : ℕ) (reason : LineNo) : Type 0 where
+  pub told : Option (List (List ℕ))
+  pub lines : HasLinesOf (holds name) told
+  pub refused : IfSome told (λ lines. StopsAt problem lines number reason)
+
+-- ---- for private clauses
+
+-- the lines of a name's file, where they are told, are all taken for the problem
+pub record IsFixingsTaken (holds : Holdings) (problem : Problem) (name : List ℕ) (asked : Problem) (fixings : List Fixing) : Type 0 where
+  pub same : asked ≡ problem
+  pub told : Option (List (List ℕ))
+  pub lines : HasLinesOf (holds name) told
+  pub taken : IfSome told (λ lines. TakesAll problem [] lines fixings)

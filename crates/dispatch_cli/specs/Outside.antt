@@ -1,5 +1,5 @@
 -- The outside as the program sees it at one moment.
-use Rattle.std.specs.Prelude.{◌≡◌, ◌≢◌, ℕ, ◌<◌, ◌≤◌, List, length, Option, Some, IfSome, IsSomeAnd}
+use Rattle.std.specs.Prelude.{◌≡◌, ◌≢◌, ◌⊎◌, ℕ, ◌<◌, ◌≤◌, List, length, Option, Some, IfSome, IsSomeAnd}
 use Rattle.std.specs.Io.KnownBytes.{append_known}
 use Rattle.disp_model.specs.declared.limits.TheConstants.{MOST_FILE_BYTES}
 
@@ -49,10 +49,22 @@ pub record ReadsOne (name : List ℕ) (old new : Counts) (old_puts new_puts : Co
   pub puttings : (other : List ℕ) → new_puts other ≡ old_puts other
   pub held : (other : List ℕ) → new_holds other ≡ old_holds other
 
--- two names were read: no count falls, and where one rises there is a fault; all else stays
-pub record ReadsTwo (one two : List ℕ) (old new : Counts) (old_puts new_puts : Counts) (old_holds new_holds : Holdings) (Fault : Type 0) : Type 0 where
+-- names were read, and no others: no count falls, and where one rises there is a fault; all else stays
+pub record Reads (Given : List ℕ → Type 0) (old new : Counts) (old_puts new_puts : Counts) (old_holds new_holds : Holdings) (Fault : Type 0) : Type 0 where
   pub counted : (name : List ℕ) → old name ≤ new name
   pub fault : (name : List ℕ) → old name < new name → Fault
-  pub others : (other : List ℕ) → other ≢ one → other ≢ two → new other ≡ old other
+  pub others : (other : List ℕ) → (Given other → ⊥) → new other ≡ old other
   pub puttings : (other : List ℕ) → new_puts other ≡ old_puts other
   pub held : (other : List ℕ) → new_holds other ≡ old_holds other
+
+-- the name is the one
+abbrev pub Is : List ℕ → List ℕ → Type 0
+Is one name = name ≡ one
+
+-- the name is the one of the file of fixings, if there is one, or that of the solution
+abbrev pub IsOfTwo : Option (List ℕ) → List ℕ → List ℕ → Type 0
+IsOfTwo fixings solution name = (fixings ≡ Some name) ⊎ (name ≡ solution)
+
+-- or that of the problem
+abbrev pub IsOfThree : List ℕ → Option (List ℕ) → List ℕ → List ℕ → Type 0
+IsOfThree problem fixings solution name = (name ≡ problem) ⊎ IsOfTwo fixings solution name

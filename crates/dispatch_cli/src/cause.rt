@@ -1,9 +1,12 @@
 ghost use Rattle.std.specs.Prelude.{◌≡◌, IfOk, string_bytes};
-ghost use Rattle.dispatch_cli.specs.declared.cause.Cause.TheVariants.{NoProblem, NoSolution};
-ghost use Rattle.dispatch_cli.specs.Causes.{prefix_of, line_of, status_of};
+ghost use Rattle.dispatch_cli.specs.declared.cause.Cause.TheVariants.{NoProblem, NoSolution, BadLine};
+ghost use Rattle.dispatch_cli.specs.Causes.{prefix_of, reason_text, line_of, status_of};
+ghost use Rattle.fixing_files.specs.declared.take.LineNo.TheVariants.{Refused};
 
-use disp_model::{Memory, Text};
+use disp_model::{Memory, Refusal, Text};
 use displib_reader::ProblemNo;
+use fixing_files::LineNo;
+use fixing_lines::push_refusal;
 use solution_text::SolutionNo;
 use std::alloc::Global;
 
@@ -12,6 +15,7 @@ use std::alloc::Global;
 pub enum Input {
     Problem,
     Solution,
+    Fixings,
 }
 
 /// What stops a run before there is an answer.
@@ -27,6 +31,8 @@ pub enum Cause {
     NoProblem(ProblemNo),
     /// The file is no solution.
     NoSolution(SolutionNo),
+    /// The line of the fixings, counted from 1, is not taken.
+    BadLine(u64, LineNo),
     /// The problem has choices: an operation has two successors, or two trains list one resource.
     Choices,
     /// Memory ran out.
@@ -41,6 +47,7 @@ impl Input {
         match self {
             Input::Problem => "problem: ",
             Input::Solution => "solution: ",
+            Input::Fixings => "fixings: ",
         }
     }
 }
@@ -65,6 +72,38 @@ fn solution_line(alloc: Global, no: &SolutionNo) -> Result<String, Memory>
     Ok(text)
 }
 
+/// Why a fixing is refused.
+fn refused_text(alloc: Global, why: &Refusal) -> Result<String, Memory>
+    ensures { IfOk result (λ text. string_bytes text ≡ reason_text (Refused why.now)) }
+{
+    let mut text = String::from_str(alloc, "refused ")?;
+    push_refusal(&mut text, *why)?;
+    Ok(text)
+}
+
+/// Why a line of fixings is not taken.
+fn reason_text(alloc: Global, why: &LineNo) -> Result<String, Memory>
+    ensures { IfOk result (λ text. string_bytes text ≡ reason_text why.now) }
+{
+    match why {
+        LineNo::Unreadable => Ok(String::from_str(alloc, "unreadable")?),
+        LineNo::Long => Ok(String::from_str(alloc, "long")?),
+        LineNo::TooMany => Ok(String::from_str(alloc, "toomany")?),
+        LineNo::Refused(why) => refused_text(alloc, why),
+    }
+}
+
+/// The line for a line of fixings that is not taken.
+fn bad_line(alloc: Global, number: u64, why: &LineNo) -> Result<String, Memory>
+    ensures { IfOk result (λ text. string_bytes text ≡ line_of (BadLine number why.now)) }
+{
+    let reason = reason_text(alloc, why)?;
+    let mut text = format!(in alloc; "fixings line {number}: ")?;
+    text.push_str(reason.as_str())?;
+    text.push_str("\n")?;
+    Ok(text)
+}
+
 impl Cause {
     /// The line that is printed for it.
     pub(crate) fn line(&self, alloc: Global) -> Result<String, Memory>
@@ -76,6 +115,7 @@ impl Cause {
             Cause::TooLong(which) => Ok(format!(in alloc; "{}TooLong\n", which.prefix())?),
             Cause::NoProblem(no) => problem_line(alloc, no),
             Cause::NoSolution(no) => solution_line(alloc, no),
+            Cause::BadLine(number, why) => bad_line(alloc, *number, why),
             Cause::Choices => Ok(String::from_str(alloc, "problem: Choices\n")?),
             Cause::Memory => Ok(String::from_str(alloc, "memory\n")?),
         }
@@ -90,6 +130,7 @@ impl Cause {
             | Cause::TooLong(_)
             | Cause::NoProblem(_)
             | Cause::NoSolution(_)
+            | Cause::BadLine(_, _)
             | Cause::Choices => 2,
             Cause::Failed(_) => 4,
             Cause::Memory => 5,

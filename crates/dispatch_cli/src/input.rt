@@ -1,15 +1,19 @@
-ghost use Rattle.std.specs.Prelude.{◌≡◌, IfOk, IfErr, IsErrAnd, MatchResult, Err};
+ghost use Rattle.std.specs.Prelude.{◌≡◌, ◌≤◌, ◌<◌, ◌↔◌, [], false, IfOk, IfErr, IfSome, IsErrAnd, MatchResult, Err};
+ghost use Rattle.disp_outside.specs.Lines.{HasLinesOf};
+ghost use Rattle.fixing_files.specs.Files.{TakesAll};
 ghost use Rattle.displib_reader.specs.Outcome.{IsReadAs};
 ghost use Rattle.solution_text.specs.Reading as reading;
 ghost use Rattle.dispatch_cli.specs.declared.cause.Cause.TheVariants.{Failed};
 ghost use Rattle.dispatch_cli.specs.Outside.{IsFile, ReadsOne};
-ghost use Rattle.dispatch_cli.specs.Causes.{Misses, RefusesProblem, RefusesSolution, StopsProblem, StopsSolution, IsReadingFault};
-ghost use Rattle.dispatch_cli.specs.Files.{IsProblemFile, IsSolutionFile};
+ghost use Rattle.dispatch_cli.specs.Causes.{Misses, RefusesProblem, RefusesSolution, StopsProblem, StopsSolution, StopsFixings, RefusesLines, IsNotLong, IsReadingFault};
+ghost use Rattle.dispatch_cli.specs.Files.{IsProblemFile, IsSolutionFile, IsFixingsTaken};
 
 use crate::cause::{Cause, Input};
 use disp_model::{MOST_FILE_BYTES, Plan, Problem};
-use disp_outside::{FetchNo, Shelf};
+use disp_outside::{Feed, FeedNo, FetchNo, Shelf};
 use displib_reader::{ProblemNo, read_problem};
+use fixing_editions::Editions;
+use fixing_files::{FileNo, take_fixings};
 use solution_text::{SolutionNo, read_solution};
 use std::alloc::Global;
 
@@ -75,4 +79,58 @@ pub(crate) fn solution_file<S: Shelf>(
 {
     let bytes = fetch(alloc, shelf, Input::Solution, name)?;
     solution_of(alloc, &bytes)
+}
+
+/// The fixings of a feed's lines.
+fn take<F: Feed>(alloc: Global, problem: &Problem, feed: &mut F) -> Result<Editions, Cause>
+    requires { F.has_ended feed.old ≡ false }
+    ensures problem { IfOk result (λ editions. editions.problem ≡ problem.now) }
+    ensures ok { IfOk result (λ editions. IfSome (F.lines feed.old) (λ lines. TakesAll problem.now [] lines editions.fixings)) }
+    ensures no { IfErr result (RefusesLines problem.now (F.lines feed.old)) }
+    ensures failed { (result ≡ Err (Failed Input.Fixings)) ↔ (F.faults feed.old < F.faults feed.new) }
+    ensures counted { F.faults feed.old ≤ F.faults feed.new }
+    ensures name { F.name feed.new ≡ F.name feed.old }
+{
+    let mut editions = Editions::new(alloc, problem)?;
+    match take_fixings(feed, &mut editions) {
+        Ok(()) => Ok(editions),
+        Err(FileNo::Line(number, why)) => Err(Cause::BadLine(number, why)),
+        Err(FileNo::Failed) => Err(Cause::Failed(Input::Fixings)),
+        Err(FileNo::Memory) => Err(Cause::Memory),
+    }
+}
+
+/// A feed of a file's lines.
+fn open<S: Shelf>(alloc: Global, shelf: &mut S, name: &str) -> Result<S::Feed, Cause>
+    ensures name { IfOk result (λ feed. S.Feed.name feed ≡ name.now) }
+    ensures lines { IfOk result (λ feed. HasLinesOf (S.holds shelf.old name.now) (S.Feed.lines feed)) }
+    ensures open { IfOk result (λ feed. S.Feed.has_ended feed ≡ false) }
+    ensures unbroken { IfOk result (λ feed. S.Feed.faults feed ≡ 0) }
+    ensures known { IfOk result (λ feed. S.knows shelf.new name.now) }
+    ensures no { IfErr result (Misses (S.holds shelf.old) (S.reading_faults shelf.old) (S.reading_faults shelf.new) Input.Fixings name.now) }
+    ensures not_long { IfErr result IsNotLong }
+    ensures reads { ReadsOne name.now (S.reading_faults shelf.old) (S.reading_faults shelf.new) (S.putting_faults shelf.old) (S.putting_faults shelf.new) (S.holds shelf.old) (S.holds shelf.new) (result ≡ Err (Failed Input.Fixings)) }
+{
+    match shelf.feed(alloc, name) {
+        Ok(feed) => Ok(feed),
+        Err(FeedNo::Failed) => Err(Cause::Failed(Input::Fixings)),
+        Err(FeedNo::Memory) => Err(Cause::Memory),
+    }
+}
+
+/// The fixings of a file. The feed is closed whatever comes.
+pub(crate) fn fixings_file<S: Shelf>(
+    alloc: Global,
+    shelf: &mut S,
+    problem: &Problem,
+    name: &str,
+) -> Result<Editions, Cause>
+    ensures ok { IfOk result (λ editions. IsFixingsTaken (S.holds shelf.old) problem.now name.now editions.problem editions.fixings) }
+    ensures no { IfErr result (StopsFixings (S.holds shelf.old) (S.reading_faults shelf.old) (S.reading_faults shelf.new) problem.now name.now) }
+    ensures reads { ReadsOne name.now (S.reading_faults shelf.old) (S.reading_faults shelf.new) (S.putting_faults shelf.old) (S.putting_faults shelf.new) (S.holds shelf.old) (S.holds shelf.new) (IsErrAnd result IsReadingFault) }
+{
+    let mut feed = open(alloc, shelf, name)?;
+    let editions = take(alloc, problem, &mut feed);
+    shelf.close(feed);
+    editions
 }

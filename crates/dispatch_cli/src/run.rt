@@ -1,16 +1,16 @@
-ghost use Rattle.std.specs.Prelude.{◌≡◌, ◌<◌, ℕ, List, IfOk, IfErr, IsErrAnd, map, option_map, string_bytes};
+ghost use Rattle.std.specs.Prelude.{◌≡◌, ◌<◌, ℕ, List, Some, IfOk, IfErr, IsErrAnd, map, option_map, string_bytes};
 ghost use Rattle.command_words.specs.Task.{IsTask};
-ghost use Rattle.dispatch_cli.specs.Outside.{ReadsOne, ReadsTwo};
-ghost use Rattle.dispatch_cli.specs.Answers.{IsAnswer, AnswersTask, AnswersSolve, AnswersVerify, IsJudgedFile};
-ghost use Rattle.dispatch_cli.specs.Causes.{RefusesWords, Stops, StopsTask, StopsSolve, StopsSolution, StopsVerify, IsReadingFault, IsAnswerStatus, CountsReading, CountsTask};
+ghost use Rattle.dispatch_cli.specs.Outside.{ReadsOne, Reads, IsOfTwo, IsOfThree};
+ghost use Rattle.dispatch_cli.specs.Answers.{IsAnswer, AnswersTask, AnswersSolve, AnswersVerify, IsJudgedFile, IsJudgedBy};
+ghost use Rattle.dispatch_cli.specs.Causes.{RefusesWords, Stops, StopsTask, StopsSolve, StopsSolution, StopsJudging, StopsVerify, IsReadingFault, IsAnswerStatus, CountsReading, CountsTask};
 
 use crate::answer::Answer;
 use crate::cause::Cause;
-use crate::input::{problem_file, solution_file};
+use crate::input::{fixings_file, problem_file, solution_file};
 use crate::judge::judge;
 use crate::solve::solve;
 use command_words::{Task, WordsNo, read_words};
-use disp_model::{Problem, Text};
+use disp_model::{Fixing, Problem, Text};
 use disp_outside::Shelf;
 use std::alloc::Global;
 
@@ -42,20 +42,59 @@ fn run_solve<S: Shelf>(
     solve(alloc, &problem, plan)
 }
 
-/// Judges the solution of a file.
+/// Judges the solution of a file with fixings.
 fn judge_file<S: Shelf>(
     alloc: Global,
     shelf: &mut S,
     problem: &Problem,
+    fixings: &[Fixing],
     solution: &str,
 ) -> Result<Answer, Cause>
-    ensures ok { IfOk result (IsJudgedFile (S.holds shelf.old) problem.now solution.now) }
+    ensures ok { IfOk result (IsJudgedFile (S.holds shelf.old) problem.now fixings.now solution.now) }
     ensures no { IfErr result (StopsSolution (S.holds shelf.old) (S.reading_faults shelf.old) (S.reading_faults shelf.new) solution.now) }
     ensures status { IfOk result (λ answer. IsAnswerStatus answer.status) }
     ensures reads { ReadsOne solution.now (S.reading_faults shelf.old) (S.reading_faults shelf.new) (S.putting_faults shelf.old) (S.putting_faults shelf.new) (S.holds shelf.old) (S.holds shelf.new) (IsErrAnd result IsReadingFault) }
 {
     let (plan, stated) = solution_file(alloc, shelf, solution)?;
-    Ok(judge(alloc, problem, &plan, stated)?)
+    Ok(judge(alloc, problem, fixings, &plan, stated)?)
+}
+
+/// Judges the solution of a file with the fixings of another.
+fn judge_with<S: Shelf>(
+    alloc: Global,
+    shelf: &mut S,
+    problem: &Problem,
+    name: &Text,
+    solution: &str,
+) -> Result<Answer, Cause>
+    ensures ok { IfOk result (IsJudgedBy (S.holds shelf.old) problem.now (Some name.now) solution.now) }
+    ensures no { IfErr result (StopsJudging (S.holds shelf.old) (S.reading_faults shelf.old) (S.reading_faults shelf.new) problem.now (Some name.now) solution.now) }
+    ensures status { IfOk result (λ answer. IsAnswerStatus answer.status) }
+    ensures reads { Reads (IsOfTwo (Some name.now) solution.now) (S.reading_faults shelf.old) (S.reading_faults shelf.new) (S.putting_faults shelf.old) (S.putting_faults shelf.new) (S.holds shelf.old) (S.holds shelf.new) (IsErrAnd result IsReadingFault) }
+{
+    match fixings_file(alloc, shelf, problem, name.as_str()) {
+        Ok(editions) => judge_file(alloc, shelf, problem, editions.fixings(), solution),
+        Err(cause) => Err(cause),
+    }
+}
+
+/// Judges the solution of a file with the fixings of another, if there is one.
+fn judge_files<S: Shelf>(
+    alloc: Global,
+    shelf: &mut S,
+    problem: &Problem,
+    fixings: Option<&Text>,
+    solution: &str,
+) -> Result<Answer, Cause>
+    ensures ok { IfOk result (IsJudgedBy (S.holds shelf.old) problem.now (option_map (λ name. name.now) fixings.entry) solution.now) }
+    ensures no { IfErr result (StopsJudging (S.holds shelf.old) (S.reading_faults shelf.old) (S.reading_faults shelf.new) problem.now (option_map (λ name. name.now) fixings.entry) solution.now) }
+    ensures status { IfOk result (λ answer. IsAnswerStatus answer.status) }
+    ensures reads { Reads (IsOfTwo (option_map (λ name. name.now) fixings.entry) solution.now) (S.reading_faults shelf.old) (S.reading_faults shelf.new) (S.putting_faults shelf.old) (S.putting_faults shelf.new) (S.holds shelf.old) (S.holds shelf.new) (IsErrAnd result IsReadingFault) }
+{
+    match fixings {
+        Some(name) => judge_with(alloc, shelf, problem, name, solution),
+        None => judge_file(alloc, shelf, problem, &[], solution),
+    }
 }
 
 /// Judges the solution of a file for the problem of another.
@@ -64,14 +103,17 @@ fn run_verify<S: Shelf>(
     shelf: &mut S,
     problem: &Text,
     solution: &Text,
+    fixings: Option<&Text>,
 ) -> Result<Answer, Cause>
-    ensures ok { IfOk result (AnswersVerify (S.holds shelf.old) problem.now solution.now) }
-    ensures no { IfErr result (StopsVerify (S.holds shelf.old) (S.reading_faults shelf.old) (S.reading_faults shelf.new) problem.now solution.now) }
+    ensures ok { IfOk result (AnswersVerify (S.holds shelf.old) problem.now solution.now (option_map (λ name. name.now) fixings.entry)) }
+    ensures no { IfErr result (StopsVerify (S.holds shelf.old) (S.reading_faults shelf.old) (S.reading_faults shelf.new) problem.now (option_map (λ name. name.now) fixings.entry) solution.now) }
     ensures status { IfOk result (λ answer. IsAnswerStatus answer.status) }
-    ensures reads { ReadsTwo problem.now solution.now (S.reading_faults shelf.old) (S.reading_faults shelf.new) (S.putting_faults shelf.old) (S.putting_faults shelf.new) (S.holds shelf.old) (S.holds shelf.new) (IsErrAnd result IsReadingFault) }
+    ensures reads { Reads (IsOfThree problem.now (option_map (λ name. name.now) fixings.entry) solution.now) (S.reading_faults shelf.old) (S.reading_faults shelf.new) (S.putting_faults shelf.old) (S.putting_faults shelf.new) (S.holds shelf.old) (S.holds shelf.new) (IsErrAnd result IsReadingFault) }
 {
-    let problem = problem_file(alloc, shelf, problem.as_str())?;
-    judge_file(alloc, shelf, &problem, solution.as_str())
+    match problem_file(alloc, shelf, problem.as_str()) {
+        Ok(problem) => judge_files(alloc, shelf, &problem, fixings, solution.as_str()),
+        Err(cause) => Err(cause),
+    }
 }
 
 /// Does what a task asks for.
@@ -87,7 +129,11 @@ fn run_task<S: Shelf>(alloc: Global, shelf: &mut S, task: &Task) -> Result<Answe
 {
     match task {
         Task::Solve { problem, plan, .. } => run_solve(alloc, shelf, problem, plan.as_ref()),
-        Task::Verify { problem, solution } => run_verify(alloc, shelf, problem, solution),
+        Task::Verify {
+            problem,
+            solution,
+            fixings,
+        } => run_verify(alloc, shelf, problem, solution, fixings.as_ref()),
     }
 }
 

@@ -9,6 +9,7 @@ mod pieces;
 mod request;
 
 pub use entry::write_entry;
+pub use pieces::push_refusal;
 pub use request::{Request, read_request};
 
 #[cfg(test)]

@@ -42,7 +42,7 @@ pub(crate) fn push_fixing(text: &mut String, fixing: Fixing) -> Result<(), Memor
 }
 
 /// Adds why a fixing is refused.
-fn push_refusal(text: &mut String, refusal: Refusal) -> Result<(), Memory>
+pub fn push_refusal(text: &mut String, refusal: Refusal) -> Result<(), Memory>
     ensures { OnOk result (Adds (string_bytes text.old) (string_bytes text.new) (refusal_text refusal)) }
 {
     match refusal {

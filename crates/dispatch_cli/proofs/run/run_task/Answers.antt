@@ -1,8 +1,17 @@
-use Rattle.dispatch_cli.proofs.Stopped.{counts_of_one, counts_of_two}
+use Rattle.std.proofs.Common.{option_map}
+use Rattle.std.proofs.lemmas.Result.{IfErr-weaker}
+use Rattle.dispatch_cli.proofs.Stopped.{counts_of_one, counts_of_three, stops_verify}
 use Rattle.dispatch_cli.proofs.run.run_task.Goals as goal
 
 pub returns-in-Solve-clause-counts : goal.returns-in-Solve-clause-counts
 returns-in-Solve-clause-counts g c name = rw c.in-Solve.is (counts_of_one c.in-Solve.problem _ _ _ _ c.run_solve.ensures.reads.counted c.run_solve.ensures.reads.others name)
 
 pub returns-in-Verify-clause-counts : goal.returns-in-Verify-clause-counts
-returns-in-Verify-clause-counts g c name = rw c.in-Verify.is (counts_of_two c.in-Verify.problem c.in-Verify.solution _ _ c.run_verify.ensures.reads.counted c.run_verify.ensures.reads.others name)
+returns-in-Verify-clause-counts g c name = rw c.in-Verify.is (rw (← c.as_ref-in-Verify.ensures.value) (counts_of_three c.in-Verify.problem c.in-Verify.solution _ _ _ c.run_verify.ensures.reads.counted c.run_verify.ensures.reads.others name))
+
+pub returns-in-Verify-clause-no : goal.returns-in-Verify-clause-no
+returns-in-Verify-clause-no g c =
+    let holds = g.S.Shelf.holds c.args.shelf.now in
+    let old = g.S.Shelf.reading_faults c.args.shelf.now in
+    let new = g.S.Shelf.reading_faults c.run_verify.new.shelf in
+    rw c.in-Verify.is (rw (← c.as_ref-in-Verify.ensures.value) (IfErr-weaker c.run_verify.result _ _ (λ cause h. stops_verify holds old new c.in-Verify.problem c.in-Verify.solution _ cause h) c.run_verify.ensures.no))

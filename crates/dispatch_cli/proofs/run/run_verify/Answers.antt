@@ -1,35 +1,50 @@
+use Rattle.std.proofs.Common.{◌≡◌, ◌⊎◌, ℕ, List, Option, option_map, inl, inr}
 use Rattle.std.proofs.lemmas.Result.{IfOk-weaker, IfErr-weaker}
 use Rattle.dispatch_cli.specs.Files.{IsProblemFile}
-use Rattle.dispatch_cli.proofs.Stopped.{never_falls, stops_solution, reads_both, judged_file_before}
+use Rattle.dispatch_cli.specs.Outside.{Is, IsOfTwo, IsOfThree}
+use Rattle.dispatch_cli.proofs.Stopped.{never_falls, stops_judging, judged_file_before, fixings_before, reads_of_one, reads_then, reads_among}
 use Rattle.dispatch_cli.proofs.run.run_verify.Goals as goal
 
-pub returns-clause-ok : goal.returns-clause-ok
-returns-clause-ok g c =
+pub returns-in-Ok-clause-ok : goal.returns-in-Ok-clause-ok
+returns-in-Ok-clause-ok g c =
     let holds = g.S.Shelf.holds c.args.shelf.now in
     let mid = g.S.Shelf.holds c.problem_file.new.shelf in
-    IfOk-weaker c.judge_file.result _ _ (λ answer h.
-    let judged = judged_file_before holds mid c.in_ok-problem.problem c.args.solution.now answer c.in_ok-problem.ensures.reads.held (rw (← c.as_str-2.ensures) h) in
+    let fixings = option_map (λ name. name.now) c.args.fixings in
+    IfOk-weaker c.judge_files.result _ _ (λ answer h.
+    let judged = judged_file_before holds mid c.in-Ok.problem h.fixings c.args.solution.now answer c.in-Ok.ensures.reads.held (rw (← c.as_str-in-Ok.ensures) h.judged) in
     record {
-      problem = c.in_ok-problem.problem;
-      problem_file = rw (← c.as_str.ensures) c.in_ok-problem.ensures.ok;
+      problem = c.in-Ok.problem;
+      problem_file = rw (← c.as_str.ensures) c.in-Ok.ensures.ok;
+      fixings = h.fixings;
+      fixings_file = fixings_before holds mid c.in-Ok.problem fixings h.fixings c.in-Ok.ensures.reads.held h.fixings_file;
       plan = judged.plan;
       stated = judged.stated;
       solution_file = judged.file;
       judged = judged.judged;
-    }) c.judge_file.ensures.ok
+    }) c.judge_files.ensures.ok
 
-pub returns-clause-no : goal.returns-clause-no
-returns-clause-no g c =
+pub returns-in-Ok-clause-no : goal.returns-in-Ok-clause-no
+returns-in-Ok-clause-no g c =
     let holds = g.S.Shelf.holds c.args.shelf.now in
     let mid_holds = g.S.Shelf.holds c.problem_file.new.shelf in
     let old = g.S.Shelf.reading_faults c.args.shelf.now in
     let mid = g.S.Shelf.reading_faults c.problem_file.new.shelf in
-    let new = g.S.Shelf.reading_faults c.judge_file.new.shelf in
-    IfErr-weaker c.judge_file.result _ _ (λ cause h. stops_solution holds mid_holds old mid new c.args.problem.now c.args.solution.now cause c.in_ok-problem.ensures.reads.held
-    (never_falls c.as_str.result.now old mid c.in_ok-problem.ensures.reads.counted c.in_ok-problem.ensures.reads.others) (rw (← c.as_str-2.ensures) h)) c.judge_file.ensures.no
+    let new = g.S.Shelf.reading_faults c.judge_files.new.shelf in
+    let fixings = option_map (λ name. name.now) c.args.fixings in
+    let file : IsProblemFile holds c.args.problem.now c.in-Ok.problem = rw (← c.as_str.ensures) c.in-Ok.ensures.ok in
+    IfErr-weaker c.judge_files.result _ _ (λ cause h. inr (c.in-Ok.problem, file, stops_judging holds mid_holds old mid new c.in-Ok.problem fixings c.args.solution.now cause c.in-Ok.ensures.reads.held
+    (never_falls c.as_str.result.now old mid c.in-Ok.ensures.reads.counted c.in-Ok.ensures.reads.others) (rw (← c.as_str-in-Ok.ensures) h))) c.judge_files.ensures.no
 
-pub returns-clause-reads : goal.returns-clause-reads
-returns-clause-reads g c =
-    let first = rw c.as_str.ensures at c.in_ok-problem.ensures.reads in
-    let second = rw c.as_str-2.ensures at c.judge_file.ensures.reads in
-    reads_both c.args.problem.now c.args.solution.now _ _ _ _ _ _ _ _ _ _ _ (λ e. e) first second
+pub returns-in-Ok-clause-reads : goal.returns-in-Ok-clause-reads
+returns-in-Ok-clause-reads g c =
+    let fixings = option_map (λ name. name.now) c.args.fixings in
+    let first = reads_of_one c.args.problem.now _ _ _ _ _ _ _ (rw c.as_str.ensures at c.in-Ok.ensures.reads) in
+    let second = rw c.as_str-in-Ok.ensures at c.judge_files.ensures.reads in
+    reads_then (Is c.args.problem.now) (IsOfTwo fixings c.args.solution.now) _ _ _ _ _ _ _ _ _ _ _ (λ e. e) first second
+
+pub returns-in-Err-clause-no : goal.returns-in-Err-clause-no
+returns-in-Err-clause-no g c = inl (rw (← c.as_str.ensures) c.in-Err.ensures.no)
+
+pub returns-in-Err-clause-reads : goal.returns-in-Err-clause-reads
+returns-in-Err-clause-reads g c = reads_among (Is c.args.problem.now) (IsOfThree c.args.problem.now (option_map (λ name. name.now) c.args.fixings) c.args.solution.now) _ _ _ _ _ _ _ (λ n e. inl e)
+    (reads_of_one c.args.problem.now _ _ _ _ _ _ _ (rw c.as_str.ensures at c.in-Err.ensures.reads))
