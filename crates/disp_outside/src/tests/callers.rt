@@ -1,10 +1,11 @@
 // A caller that is generic over the traits, and says by their ghost members what it does.
-ghost use Rattle.std.specs.Prelude.{◌≡◌, ◌≢◌, ◌<◌, ◌↔◌, List, ℕ, OnOk, IfSome, IsErrOf};
+ghost use Rattle.std.specs.Prelude.{◌≡◌, ◌≢◌, ◌<◌, ◌↔◌, ◌⊎◌, List, ℕ, [], Ok, Err, OnOk, IfSome, IsErrOf};
 ghost use Rattle.std.specs.Io.KnownBytes.{append_known};
+ghost use Rattle.disp_outside.specs.Lines.{lines_of};
 
 use crate::{
-    BrokenWrite, FetchNo, FileShelf, Gate, MemShelf, MemSink, OpenGate, Point, Shelf, Sink,
-    StandardOutput, SteadyShelf, SteadySink, WriteNo,
+    BrokenWrite, Feed, FeedLine, FeedNo, FetchNo, FileShelf, Gate, LineBuf, MemShelf, MemSink,
+    OpenGate, Point, Shelf, Sink, StandardOutput, SteadyShelf, SteadySink, WriteNo,
 };
 use std::alloc::Global;
 use std::test::Fail;
@@ -50,6 +51,45 @@ fn print_steadily(
     ensures write { ¬ IsErrOf result (PrintNo.Write WriteNo.Failed) }
 {
     print_file(alloc, shelf, out, "a")
+}
+
+// What the first line of the name comes to.
+fn begin<S: Shelf>(
+    alloc: Global,
+    shelf: &mut S,
+    name: &str,
+    into: &mut LineBuf,
+) -> Result<FeedLine, FeedNo>
+    ensures failed { ((result ≡ Err FeedNo.Failed) ⊎ (result ≡ Ok FeedLine.Failed))
+        ↔ (S.reading_faults shelf.old name.now < S.reading_faults shelf.new name.now) }
+    ensures end { result ≡ Ok FeedLine.End → IfSome (S.holds shelf.old name.now) (λ file. IfSome file (λ bytes. lines_of bytes ≡ [])) }
+    ensures others { (other : List ℕ) → other ≢ name.now → S.reading_faults shelf.new other ≡ S.reading_faults shelf.old other }
+    ensures held { (other : List ℕ) → S.holds shelf.new other ≡ S.holds shelf.old other }
+{
+    let mut feed = shelf.feed(alloc, name)?;
+    let answer = feed.line(into);
+    shelf.close(feed);
+    Ok(answer)
+}
+
+#[test]
+fn a_caller_sees_each_fault_of_a_feed(rt: HostRuntime) -> Result<(), Fail> {
+    let alloc = rt.alloc();
+    let mut shelf = MemShelf::new(alloc);
+    shelf.place("a", b"one\n", &[])?;
+    shelf.place("b", b"one\n", &[])?;
+    shelf.break_lines("b", &[1])?;
+    let mut line = LineBuf::new();
+    let rows = [
+        ("a", Ok(FeedLine::Got), 0),
+        ("b", Ok(FeedLine::Failed), 1),
+        ("none", Err(FeedNo::Failed), 1),
+    ];
+    for (name, want, faults) in rows {
+        assert_eq!(rt; begin(alloc, &mut shelf, name, &mut line), want, "{name}");
+        assert_eq!(rt; shelf.faults(name), faults, "{name}");
+    }
+    Ok(())
 }
 
 #[test]

@@ -5,7 +5,7 @@ use std::test::Fail;
 use std::{env, fs, process};
 
 // A path of this process alone.
-fn path_of(rt: &HostRuntime, name: &str) -> Result<String, Fail> {
+pub(crate) fn path_of(rt: &HostRuntime, name: &str) -> Result<String, Fail> {
     let alloc = rt.alloc();
     let folder = env::temp_dir(rt)?.into_string();
     let process = process::id(rt.process());

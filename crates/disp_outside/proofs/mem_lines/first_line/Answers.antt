@@ -1,4 +1,4 @@
-use Rattle.std.proofs.Common.{◌≡◌, ◌==◌, ◌+◌, ◌∙◌, ap, add-one, take, sym}
+use Rattle.std.proofs.Common.{◌==◌, ◌∙◌, add-one, sym}
 use Rattle.std.proofs.lemmas.List.Quantifiers.{position-Some}
 use Rattle.disp_outside.proofs.LineSplits.{to_first, to_end}
 use Rattle.disp_outside.proofs.mem_lines.first_line.Goals as goal

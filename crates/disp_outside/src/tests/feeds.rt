@@ -1,0 +1,208 @@
+// Feeds in memory and of files of the system.
+use super::shelves::path_of;
+use crate::read_ahead::ReadAhead;
+use crate::{
+    Feed, FeedLine, FeedNo, FileShelf, LineBuf, MemFeed, MemShelf, Shelf, SteadyFeed, SteadyShelf,
+};
+use std::io::{ErrorKind, Read};
+use std::test::Fail;
+use std::{fs, io};
+
+// A line of so many bytes.
+fn line_of(alloc: std::alloc::Global, count: usize) -> Result<Vec<u8>, Fail> {
+    Ok(vec![in alloc; b'a'; count]?)
+}
+
+#[test]
+fn lines_lack_their_ends(rt: HostRuntime) -> Result<(), Fail> {
+    let alloc = rt.alloc();
+    let bytes = b"show\r\nsecond\n\nr\rr\r\r\n\r\nlast\r";
+    let mut feed = SteadyFeed::new(alloc, "a", bytes)?;
+    let mut line = LineBuf::new();
+    let rows = ["show", "second", "", "r\rr\r", "", "last\r"];
+    for want in rows {
+        assert_eq!(rt; feed.line(&mut line), FeedLine::Got, "{want}");
+        assert_eq!(rt; line.as_slice(), want.as_bytes());
+    }
+    assert_eq!(rt; feed.line(&mut line), FeedLine::End);
+    assert_eq!(rt; feed.line(&mut line), FeedLine::End);
+    Ok(())
+}
+
+#[test]
+fn a_line_past_256_bytes_is_skipped(rt: HostRuntime) -> Result<(), Fail> {
+    let alloc = rt.alloc();
+    let mut bytes = line_of(alloc, 256)?;
+    bytes.push(b'\n')?;
+    bytes.extend_from_slice(&line_of(alloc, 257)?)?;
+    bytes.extend_from_slice(b"\nnext\n")?;
+    bytes.extend_from_slice(&line_of(alloc, 256)?)?;
+    bytes.extend_from_slice(b"\r\n")?;
+    let mut feed = SteadyFeed::new(alloc, "a", &bytes)?;
+    let mut line = LineBuf::new();
+    let rows = [
+        (FeedLine::Got, 256),
+        (FeedLine::Long, 256),
+        (FeedLine::Got, 4),
+        (FeedLine::Long, 4),
+        (FeedLine::End, 4),
+    ];
+    for (want, count) in rows {
+        assert_eq!(rt; feed.line(&mut line), want);
+        assert_eq!(rt; line.as_slice().len(), count);
+    }
+    Ok(())
+}
+
+#[test]
+fn a_feed_ends_once_it_has_failed(rt: HostRuntime) -> Result<(), Fail> {
+    let alloc = rt.alloc();
+    let mut feed = MemFeed::new(alloc, "a", b"one\ntwo\nthree\n", &[3, 2])?;
+    let mut line = LineBuf::new();
+    let rows = [
+        FeedLine::Got,
+        FeedLine::Failed,
+        FeedLine::End,
+        FeedLine::End,
+    ];
+    for want in rows {
+        assert_eq!(rt; feed.line(&mut line), want);
+    }
+    Ok(())
+}
+
+#[test]
+fn a_fault_of_a_feed_counts_when_it_is_closed(rt: HostRuntime) -> Result<(), Fail> {
+    let alloc = rt.alloc();
+    let mut shelf = MemShelf::new(alloc);
+    shelf.place("a", b"one\n", &[3])?;
+    shelf.break_lines("a", &[2])?;
+    let mut line = LineBuf::new();
+    let Ok(mut first) = shelf.feed(alloc, "a") else {
+        return Err(Fail::from("no feed"));
+    };
+    assert_eq!(rt; first.line(&mut line), FeedLine::Got);
+    shelf.close(first);
+    assert_eq!(rt; shelf.faults("a"), 0);
+    let Ok(mut second) = shelf.feed(alloc, "a") else {
+        return Err(Fail::from("no feed"));
+    };
+    assert_eq!(rt; second.line(&mut line), FeedLine::Got);
+    assert_eq!(rt; second.line(&mut line), FeedLine::Failed);
+    shelf.close(second);
+    assert_eq!(rt; shelf.faults("a"), 1);
+    assert_eq!(rt; shelf.feed(alloc, "a").err(), Some(FeedNo::Failed));
+    assert_eq!(rt; shelf.feed(alloc, "none").err(), Some(FeedNo::Failed));
+    assert_eq!(rt; (shelf.faults("a"), shelf.faults("none")), (2, 1));
+    Ok(())
+}
+
+#[test]
+fn a_steady_shelf_has_feeds(rt: HostRuntime) -> Result<(), Fail> {
+    let alloc = rt.alloc();
+    let mut shelf = SteadyShelf::new(alloc);
+    shelf.place("a", b"one\n")?;
+    let mut line = LineBuf::new();
+    for (name, want) in [("a", FeedLine::Got), ("none", FeedLine::End)] {
+        let Ok(mut feed) = shelf.feed(alloc, name) else {
+            return Err(Fail::from("no feed"));
+        };
+        assert_eq!(rt; feed.line(&mut line), want);
+        shelf.close(feed);
+    }
+    Ok(())
+}
+
+#[test]
+fn a_file_is_read_line_by_line(rt: HostRuntime) -> Result<(), Fail> {
+    let alloc = rt.alloc();
+    let path = path_of(&rt, "feed")?;
+    let name = path.as_str();
+    // The second line is longer than one read.
+    let mut bytes = Vec::new(alloc);
+    bytes.extend_from_slice(b"one\r\n")?;
+    bytes.extend_from_slice(&line_of(alloc, 9000)?)?;
+    bytes.extend_from_slice(b"\n\nlast\r")?;
+    fs::write(&rt, name, bytes.as_slice())?;
+    let mut shelf = FileShelf::new(alloc, &rt);
+    let Ok(mut feed) = shelf.feed(alloc, name) else {
+        return Err(Fail::from("no feed"));
+    };
+    let mut line = LineBuf::new();
+    assert_eq!(rt; feed.line(&mut line), FeedLine::Got);
+    assert_eq!(rt; line.as_slice(), b"one".as_slice());
+    assert_eq!(rt; feed.line(&mut line), FeedLine::Long);
+    assert_eq!(rt; feed.line(&mut line), FeedLine::Got);
+    assert_eq!(rt; line.as_slice(), b"".as_slice());
+    assert_eq!(rt; feed.line(&mut line), FeedLine::Got);
+    assert_eq!(rt; line.as_slice(), b"last\r".as_slice());
+    assert_eq!(rt; feed.line(&mut line), FeedLine::End);
+    assert_eq!(rt; feed.line(&mut line), FeedLine::End);
+    shelf.close(feed);
+    fs::remove_file(&rt, name)?;
+    assert_eq!(rt; shelf.faults(name), 0);
+    assert_eq!(rt; shelf.feed(alloc, name).err(), Some(FeedNo::Failed));
+    assert_eq!(rt; shelf.faults(name), 1);
+    Ok(())
+}
+
+// A folder opens as a file, and no read of it works.
+#[test]
+fn a_fault_of_a_file_counts_when_its_feed_is_closed(rt: HostRuntime) -> Result<(), Fail> {
+    let alloc = rt.alloc();
+    let path = path_of(&rt, "folder")?;
+    let name = path.as_str();
+    fs::create_dir(&rt, name)?;
+    let mut shelf = FileShelf::new(alloc, &rt);
+    let opened = shelf.feed(alloc, name);
+    fs::remove_dir(&rt, name)?;
+    let Ok(mut feed) = opened else {
+        return Err(Fail::from("no feed"));
+    };
+    let mut line = LineBuf::new();
+    assert_eq!(rt; feed.line(&mut line), FeedLine::Failed);
+    assert_eq!(rt; feed.line(&mut line), FeedLine::End);
+    assert_eq!(rt; shelf.faults(name), 0);
+    shelf.close(feed);
+    assert_eq!(rt; shelf.faults(name), 1);
+    Ok(())
+}
+
+// Gives one byte at a time, is interrupted before each second one, and breaks at its end.
+#[derive(Drop)]
+struct Halting<'a> {
+    bytes: &'a [u8],
+    reads: u32,
+}
+
+impl Read for Halting<'_> {
+    fn read(&mut self, buf: &mut [u8]) -> io::Result<usize> {
+        self.reads = self.reads.saturating_add(1);
+        if self.reads.is_multiple_of(2) {
+            return Err(io::Error::from(ErrorKind::Interrupted));
+        }
+        match (self.bytes, buf) {
+            ([first, rest @ ..], [place, ..]) => {
+                *place = *first;
+                self.bytes = rest;
+                Ok(1)
+            }
+            _ => Err(io::Error::from(ErrorKind::BrokenPipe)),
+        }
+    }
+}
+
+#[test]
+fn a_line_comes_in_parts(rt: HostRuntime) -> Result<(), Fail> {
+    let mut ahead = ReadAhead::new(Halting {
+        bytes: b"ab\r\n\nc",
+        reads: 0,
+    });
+    let mut line = LineBuf::new();
+    for want in ["ab", ""] {
+        assert_eq!(rt; ahead.read_line(&mut line), FeedLine::Got);
+        assert_eq!(rt; line.as_slice(), want.as_bytes());
+    }
+    assert_eq!(rt; ahead.read_line(&mut line), FeedLine::Failed);
+    Ok(())
+}
