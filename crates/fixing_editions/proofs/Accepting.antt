@@ -1,16 +1,15 @@
 -- What an accepted fixing makes of an edition.
-use Rattle.std.proofs.Common.{◌≡◌, ◌≢◌, ℕ, zero, suc, ◌+◌, ◌<◌, ◌≤◌, ◌⊎◌, List, [], ◌∷◌, ◌++◌, length, get_or, set, take, replicate, Option, Some, None, Bool, true, false, refl, sym, ap, subst, ◌∙◌, inl, inr, arith}
+use Rattle.std.proofs.Common.{◌≡◌, ◌≢◌, ℕ, ◌+◌, ◌<◌, ◌≤◌, ◌⊎◌, List, [], ◌∷◌, ◌++◌, length, get_or, set, replicate, Option, Some, None, Bool, true, false, refl, sym, ap, subst, ◌∙◌, inl, inr, arith}
 use Rattle.std.specs.Prelude.{nat_eq, slice_get, All, MatchOption, IsTrue, ◌↔◌}
 use Rattle.std.proofs.lemmas.Bool.{cases_Bool, cases_lt, eqb-true, eqb-false, false≢true}
-use Rattle.std.proofs.lemmas.Option.{none-some, same_Some, slice_get_within, get_or_from_slice_get}
+use Rattle.std.proofs.lemmas.Option.{none-some, slice_get_within}
 use Rattle.std.proofs.lemmas.List.{length-set, length_push, get_or-set_same, get_or-set_other, get_or-replicate, get_or_default, length-replicate, take-append-le, take_at}
 use Rattle.std.proofs.lemmas.List.Elements.{All-weaker}
-use Rattle.disp_model.specs.declared.train.Op.{Op}
 use Rattle.disp_model.specs.declared.train.Operation.{Operation}
 use Rattle.disp_model.specs.declared.fixing.Fixing.{Fixing}
 use Rattle.disp_model.specs.declared.fixing.Fixing.TheVariants.{Started, Chosen}
 use Rattle.disp_model.specs.declared.problem.Problem.{Problem}
-use Rattle.disp_model.specs.declared.limits.TheConstants.{GREATEST_NUMBER, MOST_FIXINGS}
+use Rattle.disp_model.specs.declared.limits.TheConstants.{MOST_FIXINGS}
 use Rattle.disp_model.specs.declared.reply.Reply.{Reply}
 use Rattle.disp_model.specs.declared.reply.Reply.TheVariants.{Accepted, Known, Refused}
 use Rattle.disp_model.specs.declared.reply.Refusal.TheVariants.{NoTrain, NoOperation, NoSuccessor, TooLarge, BelowLower, AboveUpper, StartedAt, ChosenIs, NoRoute, Full}
@@ -23,7 +22,7 @@ use Rattle.fixing_editions.specs.declared.train_fixings.Numbered.{Numbered}
 use Rattle.fixing_editions.specs.Own.{train_of, own_of}
 use Rattle.fixing_editions.specs.Wishes.{HasRouteOf}
 use Rattle.fixing_editions.specs.Answers.{IsFound}
-use Rattle.fixing_editions.specs.Edition.{AreOwn, IsKept}
+use Rattle.fixing_editions.specs.Edition.{IsKept}
 use Rattle.fixing_editions.proofs.Places.{get_push_cases}
 use Rattle.fixing_editions.proofs.Owning.{own_more, own_kept, routes_are}
 

@@ -1,12 +1,12 @@
 -- The last operation of an order is the entry, and its ways are the train's routes.
-use Rattle.std.proofs.Common.{◌≡◌, ◌≢◌, ℕ, zero, suc, ◌+◌, ◌-◌, ◌<◌, ◌≤◌, ◌⊎◌, List, [], ◌∷◌, ◌++◌, length, take, get_or, Option, Some, None, Bool, true, false, refl, sym, ap, subst, ◌∙◌, inl, inr, arith}
-use Rattle.std.specs.Prelude.{nat_eq, slice_get, Contains, IsTrue, ◌↔◌, All}
+use Rattle.std.proofs.Common.{◌≡◌, ◌≢◌, ℕ, zero, suc, ◌+◌, ◌≤◌, List, [], ◌∷◌, length, get_or, Some, Bool, false, refl, sym, ap, subst, ◌∙◌, inl, inr, arith}
+use Rattle.std.specs.Prelude.{nat_eq, slice_get, Contains, IsTrue, ◌↔◌}
 use Rattle.std.proofs.lemmas.Bool.{cases_Bool, cases_lt, eqb-true, eqb-false, eq-eqb}
 use Rattle.std.proofs.lemmas.Option.{none-some, same_Some, slice_get_within, slice_get-get_or}
-use Rattle.std.proofs.lemmas.List.{take_all, get_or_past}
+use Rattle.std.proofs.lemmas.List.{get_or_past}
 use Rattle.disp_model.specs.declared.train.Operation.{Operation}
 use Rattle.disp_model.specs.declared.fixing.Fixing.{Fixing}
-use Rattle.disp_model.specs.Train.{next_of, IsSuccessor, IsEntry, IsExit, GoesOn, IsRoute}
+use Rattle.disp_model.specs.Train.{IsSuccessor, IsEntry, GoesOn, IsRoute}
 use Rattle.disp_model.specs.WellFormed.{IsAcyclic}
 use Rattle.disp_model.specs.Fixing.{after}
 use Rattle.disp_model.proofs.Paths.{IsIn, is_in, contains_in, never_again}
@@ -14,12 +14,12 @@ use Rattle.disp_model.proofs.RouteSearch.{each_within}
 use Rattle.fixing_editions.specs.declared.wishes.Wish.{Wish}
 use Rattle.fixing_editions.specs.declared.wishes.Wish.TheVariants.{Free, Visited, Followed}
 use Rattle.fixing_editions.specs.declared.train_fixings.Numbered.{Numbered}
-use Rattle.fixing_editions.specs.Wishes.{Agrees, Allows, Meets, wish_at, AreMet, IsWithin, Adds, AreWishes, HaveNoRoute, Clashes, HasRouteFor, HasRouteOf}
-use Rattle.fixing_editions.specs.Orders.{IsBehind, IsOrder}
+use Rattle.fixing_editions.specs.Wishes.{Allows, Meets, wish_at, IsWithin, Adds, AreWishes, HaveNoRoute, Clashes, HasRouteFor, HasRouteOf}
+use Rattle.fixing_editions.specs.Orders.{IsOrder}
 use Rattle.fixing_editions.specs.Sweeps.{MayEnd, Keeps, HasWay}
-use Rattle.fixing_editions.proofs.Places.{at_contains, contains_at, contains_none}
+use Rattle.fixing_editions.proofs.Places.{at_contains, contains_at}
 use Rattle.fixing_editions.proofs.Joining.{after_contains}
-use Rattle.fixing_editions.proofs.Sweeping.{taken_more, at_taken}
+use Rattle.fixing_editions.proofs.Sweeping.{taken_more}
 
 -- ---- the last is the entry
 

@@ -1,8 +1,8 @@
 -- What a fixing adds to the wishes of its train.
-use Rattle.std.proofs.Common.{◌≡◌, ℕ, zero, suc, ◌+◌, ◌<◌, ◌≤◌, ◌⊎◌, List, [], ◌∷◌, ◌++◌, length, take, get_or, set, replicate, Option, Some, None, true, false, refl, sym, ap, subst, ◌∙◌, inl, inr, arith}
-use Rattle.std.specs.Prelude.{nat_eq, Contains, All, ◌↔◌}
-use Rattle.std.proofs.lemmas.Bool.{cases_Bool, cases_lt, eqb-true, eqb-false}
-use Rattle.std.proofs.lemmas.Option.{none-some, same_Some}
+use Rattle.std.proofs.Common.{◌≡◌, ℕ, zero, suc, ◌+◌, ◌<◌, ◌≤◌, List, [], ◌∷◌, ◌++◌, length, take, get_or, set, replicate, Some, refl, sym, subst, ◌∙◌, inl, inr, arith}
+use Rattle.std.specs.Prelude.{nat_eq, Contains, All}
+use Rattle.std.proofs.lemmas.Bool.{cases_Bool, eqb-true, eqb-false}
+use Rattle.std.proofs.lemmas.Option.{none-some}
 use Rattle.std.proofs.lemmas.List.{length-set, length-replicate, get_or-set_same, get_or-set_other, take_more}
 use Rattle.std.proofs.lemmas.List.Elements.{All-nil, All-push, All-pop, All-take}
 use Rattle.disp_model.specs.declared.fixing.Fixing.{Fixing}
@@ -12,7 +12,7 @@ use Rattle.disp_model.proofs.Paths.{IsIn, contains_in}
 use Rattle.fixing_editions.specs.declared.train_fixings.Numbered.{Numbered}
 use Rattle.fixing_editions.specs.declared.wishes.Wish.{Wish}
 use Rattle.fixing_editions.specs.declared.wishes.Wish.TheVariants.{Free, Visited, Followed}
-use Rattle.fixing_editions.specs.Wishes.{op_of, Agrees, Meets, wish_at, AreMet, Joins, IsWithin, Adds, AreWishes, Clashes, HaveNoRoute}
+use Rattle.fixing_editions.specs.Wishes.{op_of, Agrees, Meets, wish_at, AreMet, Joins, Adds, AreWishes, Clashes, HaveNoRoute}
 
 -- what is followed is there
 after_in : (o n : ℕ) (route : List ℕ) → after o route ≡ Some n → IsIn o route

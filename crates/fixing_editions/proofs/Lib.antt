@@ -4,5 +4,6 @@ mod Joining
 mod Owning
 mod Places
 mod Searching
+mod SmallProblems
 mod Stepping
 mod Sweeping

@@ -1,20 +1,18 @@
 -- What each train's own fixings say is what all fixings say of it.
-use Rattle.std.proofs.Common.{◌≡◌, ℕ, zero, suc, ◌+◌, ◌<◌, ◌≤◌, ◌⊎◌, List, [], ◌∷◌, ◌++◌, length, get_or, take, Option, Some, None, Bool, true, false, cond, refl, sym, ap, subst, ◌∙◌, inl, inr, arith}
+use Rattle.std.proofs.Common.{◌≡◌, ℕ, suc, ◌+◌, List, [], ◌∷◌, ◌++◌, length, Option, Some, None, Bool, true, false, refl, sym, ap, ◌∙◌, inl, inr, arith}
 use Rattle.std.specs.Prelude.{nat_eq, All, ◌↔◌, ◌&&◌}
 use Rattle.std.specs.Option.{option_map}
 use Rattle.std.proofs.lemmas.Bool.{cases_Bool, eqb-true, eqb-false, eq-eqb, false≢true}
 use Rattle.std.proofs.lemmas.List.Elements.{All-nil, All-cons, All-head, All-tail, All-push, All-pop}
-use Rattle.disp_model.specs.declared.train.Op.{Op}
 use Rattle.disp_model.specs.declared.fixing.Fixing.{Fixing}
 use Rattle.disp_model.specs.declared.fixing.Fixing.TheVariants.{Started, Chosen}
 use Rattle.disp_model.specs.declared.problem.Problem.{Problem}
-use Rattle.disp_model.specs.declared.decision.Decision.{Decision}
 use Rattle.disp_model.specs.Valid.{train_at}
 use Rattle.disp_model.specs.Walks.{fixed_start}
 use Rattle.disp_model.specs.Routes.{AgreesWithFixing, AgreesWithDecision, HasRoute}
 use Rattle.disp_model.specs.Replies.{is_same, number_of, fixed_next}
 use Rattle.fixing_editions.specs.declared.train_fixings.Numbered.{Numbered}
-use Rattle.fixing_editions.specs.Own.{train_of, own_of, number_in, or_else, start_by, start_in, next_by, next_in}
+use Rattle.fixing_editions.specs.Own.{train_of, own_of, number_in, start_in, next_in}
 use Rattle.fixing_editions.specs.Wishes.{Agrees, HasRouteOf}
 use Rattle.fixing_editions.proofs.Joining.{AgreesWith}
 

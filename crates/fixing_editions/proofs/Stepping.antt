@@ -1,12 +1,12 @@
 -- A search after one step.
-use Rattle.std.proofs.Common.{◌≡◌, ℕ, ◌<◌, List, [], ◌∷◌, ◌++◌, length, sym, ap, subst, ◌∙◌, arith, true}
+use Rattle.std.proofs.Common.{◌≡◌, ℕ, ◌<◌, List, [], length, ap, subst, arith}
 use Rattle.std.specs.Prelude.{Contains}
 use Rattle.std.proofs.lemmas.List.{length_push}
 use Rattle.disp_model.specs.declared.train.Operation.{Operation}
-use Rattle.disp_model.specs.Train.{next_of, IsSuccessor}
+use Rattle.disp_model.specs.Train.{IsSuccessor}
 use Rattle.disp_model.specs.WellFormed.{IsAcyclic}
 use Rattle.fixing_editions.specs.declared.order.Search.{Search}
-use Rattle.fixing_editions.specs.Orders.{IsOpened, IsSearch, IsAt, Searches, Opens, Closes, Steps, unopened, toil_of}
+use Rattle.fixing_editions.specs.Orders.{IsOpened, IsSearch, IsAt, Searches, Opens, Closes, Steps}
 use Rattle.fixing_editions.proofs.Searching.{step_opens, opens_first, closes, opened_kept, fewer_unopened}
 
 pub opens_step : (train : List Operation) (old new : Search) (at s : ℕ) → Searches train old → IsAt old.path.items at → IsSuccessor train at s → s < length train → (IsOpened old.opened.items s → ⊥) → Opens s old new → Steps train old new

@@ -1,17 +1,17 @@
 -- What is held of the operations of an order, one after another.
 use Rattle.std.proofs.Common.{◌≡◌, ◌≢◌, ℕ, zero, suc, ◌+◌, ◌<◌, ◌≤◌, ◌⊎◌, List, [], ◌∷◌, ◌++◌, length, take, get_or, set, replicate, cond, Option, Some, None, Bool, true, false, refl, sym, ap, subst, ◌∙◌, inl, inr, arith}
 use Rattle.std.specs.Prelude.{nat_eq, slice_get, Contains, IsTrue, ◌↔◌}
-use Rattle.std.proofs.lemmas.Bool.{cases_Bool, cases_lt, eqb-true, eqb-false, false≢true}
+use Rattle.std.proofs.lemmas.Bool.{cases_Bool, eqb-true, eqb-false}
 use Rattle.std.proofs.lemmas.Option.{none-some, same_Some, slice_get-get_or}
 use Rattle.std.proofs.lemmas.List.{length-set, length_push, take_more, get_or_default}
 use Rattle.std.proofs.lemmas.List.Elements.{Contains-append_left, Contains-push, Contains-push_cases}
 use Rattle.disp_model.specs.declared.train.Operation.{Operation}
-use Rattle.disp_model.specs.Train.{next_of, IsSuccessor, IsExit, GoesOn}
+use Rattle.disp_model.specs.Train.{next_of, GoesOn}
 use Rattle.fixing_editions.specs.declared.wishes.Wish.{Wish}
 use Rattle.fixing_editions.specs.declared.wishes.Wish.TheVariants.{Free, Visited, Followed}
-use Rattle.fixing_editions.specs.Wishes.{Allows, wish_at}
+use Rattle.fixing_editions.specs.Wishes.{wish_at}
 use Rattle.fixing_editions.specs.Orders.{IsBehind}
-use Rattle.fixing_editions.specs.Sweeps.{MayEnd, CanEnd, CanGoOn, Keeps, HasWay, IsHeld, counted}
+use Rattle.fixing_editions.specs.Sweeps.{CanEnd, CanGoOn, Keeps, HasWay, IsHeld, counted}
 use Rattle.fixing_editions.proofs.Searching.{next_at}
 use Rattle.fixing_editions.proofs.Places.{at_contains, contains_at, contains_none}
 

@@ -1,12 +1,11 @@
 -- Parts of a reply, for private clauses.
-use Rattle.std.specs.Prelude.{◌≡◌, ℕ, ◌<◌, ◌≤◌, List, Option, Some, None, MatchOption, IfSome, slice_get}
-use Rattle.disp_model.specs.declared.train.Op.{Op}
+use Rattle.std.specs.Prelude.{◌≡◌, ℕ, ◌<◌, ◌≤◌, List, Some, None, MatchOption, IfSome, slice_get}
 use Rattle.disp_model.specs.declared.train.Operation.{Operation}
 use Rattle.disp_model.specs.declared.fixing.Fixing.{Fixing}
 use Rattle.disp_model.specs.declared.fixing.Fixing.TheVariants.{Started}
 use Rattle.disp_model.specs.declared.problem.Problem.{Problem}
 use Rattle.disp_model.specs.declared.reply.Reply.{Reply}
-use Rattle.disp_model.specs.declared.reply.Reply.TheVariants.{Accepted, Known, Refused}
+use Rattle.disp_model.specs.declared.reply.Reply.TheVariants.{Known, Refused}
 use Rattle.disp_model.specs.declared.reply.Refusal.{Refusal}
 use Rattle.disp_model.specs.declared.reply.Refusal.TheVariants.{NoTrain, NoOperation, StartedAt}
 use Rattle.disp_model.specs.Walks.{fixed_start}

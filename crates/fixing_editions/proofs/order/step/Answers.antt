@@ -1,11 +1,11 @@
-use Rattle.std.proofs.Common.{◌≡◌, ℕ, ◌+◌, ◌<◌, ◌≤◌, List, length, get_or, set, Bool, true, false, Some, sym, ap, subst, ◌∙◌, arith}
+use Rattle.std.proofs.Common.{◌≡◌, ℕ, ◌<◌, ◌≤◌, length, get_or, false, Some, sym, subst, ◌∙◌, arith}
 use Rattle.std.specs.Prelude.{slice_get}
 use Rattle.std.proofs.lemmas.Bool.{false≢true}
 use Rattle.std.proofs.lemmas.List.{get_or_read}
-use Rattle.disp_model.specs.Train.{next_of, IsSuccessor}
+use Rattle.disp_model.specs.Train.{next_of}
 use Rattle.fixing_editions.specs.Orders.{IsOpened}
 use Rattle.fixing_editions.proofs.Places.{contains_at}
-use Rattle.fixing_editions.proofs.Searching.{at_within, successor_at, successor_within, past_all, in_order, passes, step_opens, closes, all_passed, opened_kept, fewer_unopened, fewer_unpassed, next_at}
+use Rattle.fixing_editions.proofs.Searching.{at_within, successor_at, successor_within, past_all, in_order, passes, all_passed, fewer_unpassed, next_at}
 use Rattle.fixing_editions.proofs.Stepping.{opens_step, closes_step}
 use Rattle.fixing_editions.proofs.order.step.Goals as goal
 

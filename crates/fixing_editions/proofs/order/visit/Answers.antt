@@ -1,7 +1,6 @@
-use Rattle.std.proofs.Common.{◌≡◌, ◌<◌, ◌∙◌, ℕ, length, get_or, false, sym, arith}
+use Rattle.std.proofs.Common.{◌≡◌, ◌<◌, ◌∙◌, length, get_or, false, sym, arith}
 use Rattle.std.proofs.lemmas.Bool.{false≢true}
 use Rattle.std.proofs.lemmas.List.{get_or_read}
-use Rattle.fixing_editions.specs.Orders.{IsOpened}
 use Rattle.fixing_editions.proofs.Stepping.{first_step}
 use Rattle.fixing_editions.proofs.order.visit.Goals as goal
 

@@ -1,4 +1,4 @@
-use Rattle.std.proofs.Common.{◌≡◌, Some, None, refl, inr, sym}
+use Rattle.std.proofs.Common.{Some, None, refl, inr}
 use Rattle.disp_model.specs.Train.{IsSuccessor}
 use Rattle.disp_model.specs.Valid.{train_at}
 use Rattle.disp_model.specs.declared.fixing.Fixing.TheVariants.{Chosen}

@@ -1,14 +1,11 @@
-use Rattle.std.proofs.Common.{◌≡◌, ◌∙◌, List, [], get_or, refl, ap, subst, sym, inl, inr}
-use Rattle.std.specs.Prelude.{All, length, IsTrue, ◌↔◌, ◌<◌}
-use Rattle.std.proofs.lemmas.Bool.{false≢true}
+use Rattle.std.proofs.Common.{◌≡◌, ◌∙◌, List, [], get_or, ap}
+use Rattle.std.specs.Prelude.{IsTrue, ◌↔◌}
 use Rattle.std.proofs.lemmas.List.{get_or_default}
 use Rattle.disp_model.specs.declared.train.Operation.{Operation}
 use Rattle.disp_model.specs.Valid.{train_at}
-use Rattle.disp_model.specs.Routes.{HasRoute}
 use Rattle.fixing_editions.specs.Own.{own_of}
 use Rattle.fixing_editions.specs.Wishes.{HasRouteOf}
 use Rattle.fixing_editions.proofs.Accepting.{inside_of, closes_none, closes_full, closes_accepted}
-use Rattle.fixing_editions.proofs.Owning.{routes_are}
 use Rattle.fixing_editions.proofs.reply.reply_to_new.Goals as goal
 
 pub has_route-requires-clause-inside : goal.has_route-requires-clause-inside

@@ -1,4 +1,3 @@
-use Rattle.std.proofs.Common.{arith}
 use Rattle.std.proofs.lemmas.Bool.{false≢true}
 use Rattle.fixing_editions.proofs.Entered.{no_wishes_no_route, clash_no_route, routes_agree}
 use Rattle.fixing_editions.proofs.route_left.has_route.Goals as goal

@@ -2,7 +2,6 @@
 use Rattle.std.proofs.Common.{◌≡◌, ◌+◌, ℕ, take, Some}
 use Rattle.std.specs.Prelude.{IsTrue, ◌↔◌, slice_get}
 use Rattle.fixing_editions.specs.Sweeps.{HasWay, IsHeld}
-use Rattle.fixing_editions.proofs.Sweeping.{IsNext}
 use Rattle.fixing_editions.proofs.route_left.sweep.Given as goal
 
 abbrev pub invariant-loop-number : goal.invariant-loop-number

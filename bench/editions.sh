@@ -1,0 +1,237 @@
+#!/usr/bin/env bash
+# Seconds in which the fixings of trains of two operations are accepted, one of each operation, in one run:
+#     bench/editions.sh [TRAINS]        32 768, where it is left out
+# The program is proved, and built as the shipped one is, in a scratch folder that goes away. The proofs take some
+# two minutes, and less where crates/fixing_editions has been checked.
+set -eu
+trains=${1:-32768}
+top=$(cd "$(dirname "$0")/.." && pwd)
+scratch=$(mktemp -d)
+trap 'rm -rf "$scratch"' EXIT
+cd "$scratch"
+printf 'disp_model:\nfixing_editions: disp_model\neditions_bench: disp_model fixing_editions\n' > crates.txt
+for crate in disp_model fixing_editions; do
+  mkdir -p crates/$crate
+  cp -r "$top"/crates/$crate/{src,specs,proofs} crates/$crate/
+done
+mkdir -p crates/editions_bench/{src,specs,proofs/copies,proofs/problem_of}
+cd crates/editions_bench
+cat > src/main.rt <<PROGRAM
+//! Times the asking of fixings.
+#![tactic(auto)]
+
+ghost use Rattle.std.specs.Prelude.{◌≡◌, ◌<◌, ◌∷◌, [], IfOk, All, None, length};
+ghost use Rattle.editions_bench.specs.Pair.{pair};
+
+use disp_model::{Copied, Fixing, List, Memory, Operation, Problem, Refusal, Reply, Train};
+use fixing_editions::Editions;
+use std::alloc::Global;
+use std::io;
+use std::rt::Clock;
+use std::time::Instant;
+
+fn operation(alloc: Global, next: &[u32]) -> Result<Operation, Memory>
+    ensures { IfOk result (λ o. o ≡ record { lower = 0; upper = None; min = 0; listings = []; next = next.now }) }
+{
+    Ok(Operation {
+        lower: 0,
+        upper: None,
+        min: 0,
+        listings: List::new(alloc),
+        next: List::from_vec(Vec::from_slice(alloc, next)?),
+    })
+}
+
+// A train of two operations.
+fn train(alloc: Global) -> Result<Train, Memory>
+    ensures { IfOk result (λ t. t ≡ pair) }
+{
+    let first = operation(alloc, &[1])?;
+    let exit = operation(alloc, &[])?;
+    Ok(List::from_vec(vec![in alloc; first, exit]?))
+}
+
+// So many trains alike.
+fn copies(alloc: Global, train: &Train, count: u32) -> Result<List<Train>, Memory>
+    ensures { IfOk result (λ ts. (length ts ≡ count) × All (λ t. t ≡ train.now) ts) }
+{
+    let mut trains = List::new(alloc);
+    for _ in 0..count {
+        trains.push(train.copy()?)?;
+    }
+    Ok(trains)
+}
+
+fn problem_of(alloc: Global, count: u32) -> Result<Problem, Memory>
+    requires fits { count < 65536 }
+{
+    let train = train(alloc)?;
+    let trains = copies(alloc, &train, count)?;
+    Ok(Problem {
+        trains,
+        components: List::new(alloc),
+        names: List::new(alloc),
+    })
+}
+
+// How many of the fixings are accepted with the numbers 1, 2, .., and how many are refused as too many.
+fn ask_all(editions: &mut Editions, count: u32) -> Result<(u32, u32), Memory>
+    requires fits { count < 65536 }
+{
+    let mut accepted = 0u32;
+    let mut full = 0u32;
+    for at_train in 0..u64::from(count) {
+        for at_op in 0..2 {
+            let fixing = Fixing::Started {
+                at_train,
+                at_op,
+                time: 0,
+            };
+            let reply = editions.ask(fixing)?;
+            if reply == Reply::Accepted(accepted.saturating_add(1)) {
+                accepted = accepted.saturating_add(1);
+            }
+            if reply == Reply::Refused(Refusal::Full(65535)) {
+                full = full.saturating_add(1);
+            }
+        }
+    }
+    Ok((accepted, full))
+}
+
+fn measure(rt: &(impl Clock + Print + AllocGlobal), count: u32) -> io::Result<()>
+    requires fits { count < 65536 }
+{
+    let Ok(problem) = problem_of(rt.alloc(), count) else {
+        return println!(rt; "no memory is left");
+    };
+    let start = Instant::now(rt)?;
+    let Ok(mut editions) = Editions::new(rt.alloc(), &problem) else {
+        return println!(rt; "no memory is left");
+    };
+    let Ok((accepted, full)) = ask_all(&mut editions, count) else {
+        return println!(rt; "no memory is left");
+    };
+    let seconds = start.elapsed(rt)?.as_secs_f64();
+    println!(rt; "{count} trains, {accepted} accepted, {full} too many: {seconds:.3} s")
+}
+
+fn main(rt: HostRuntime) -> io::Result<()> {
+    measure(&rt, $trains)
+}
+PROGRAM
+cat > specs/Lib.antt <<'PROOF'
+pub mod Pair
+PROOF
+cat > specs/Pair.antt <<'PROOF'
+-- A train of two operations.
+use Rattle.std.specs.Prelude.{List, [], ◌∷◌, None}
+use Rattle.disp_model.specs.declared.train.Operation.{Operation}
+
+abbrev pub pair : List Operation
+pair = record { lower = 0; upper = None; min = 0; listings = []; next = 1 ∷ [] } ∷ record { lower = 0; upper = None; min = 0; listings = []; next = [] } ∷ []
+PROOF
+cat > proofs/Lib.antt <<'PROOF'
+pub mod Formed
+PROOF
+cat > proofs/Formed.antt <<'PROOF'
+-- A problem of trains of two operations is well formed.
+use Rattle.std.proofs.Common.{◌≡◌, ◌≢◌, ℕ, zero, suc, ◌+◌, ◌*◌, ◌<◌, ◌≤◌, List, [], ◌∷◌, length, Some, None, refl, sym, subst, ap, ◌∙◌, arith, rules}
+use Rattle.std.specs.Prelude.{slice_get, Contains, All}
+use Rattle.std.proofs.lemmas.List.Elements.{All-from_recursion}
+use Rattle.std.proofs.lemmas.List.Sums.{sum_by-cons}
+use Rattle.disp_model.specs.declared.train.Operation.{Operation}
+use Rattle.disp_model.specs.Train.{IsSuccessor, IsEntry, IsExit}
+use Rattle.disp_model.specs.WellFormed.{LeadsTo, IsAcyclic, IsWellFormed, HasFitNumbers, RefersInside, operation_count}
+use Rattle.editions_bench.specs.Pair.{pair}
+
+one_in : (a s : ℕ) → Contains (a ∷ []) s → s ≡ a
+one_in a s (zero, lt, e) = sym e
+one_in a s (suc k, lt, e) = absurd (omega (arith, lt))
+
+none_in : (s : ℕ) → Contains [] s → ⊥
+none_in s (k, lt, e) = omega (arith, lt)
+
+up : (o s : ℕ) → IsSuccessor pair o s → o < s
+up zero s h = let same : s ≡ 1 = one_in 1 s h in omega (arith, same)
+up (suc zero) s h = absurd (none_in s h)
+up (suc (suc o)) s h = absurd (none_in s h)
+
+climbs : (n o s : ℕ) → LeadsTo pair n o s → o < s
+climbs zero o s h = up o s h
+climbs (suc n) o s (p, step, more) = omega (arith, up o p step, climbs n p s more)
+
+enters : (o : ℕ) → IsEntry pair o → o ≡ 0
+enters zero h = refl
+enters (suc zero) h = absurd (h.first 0 (0, omega arith, refl))
+enters (suc (suc o)) h = absurd (let there : suc (suc o) < 2 = h.there in omega (arith, there))
+
+leaves : (o : ℕ) → IsExit pair o → o ≡ 1
+leaves zero h = absurd (grind (arith, h.last))
+leaves (suc zero) h = refl
+leaves (suc (suc o)) h = absurd (let there : suc (suc o) < 2 = h.there in omega (arith, there))
+
+acyclic : IsAcyclic pair
+acyclic = record { entered = omega arith; one_entry = λ o p one other. enters o one ∙ sym (enters p other); one_exit = λ o p one other. leaves o one ∙ sym (leaves p other); no_cycle = λ n o back. omega (arith, climbs n o o back) }
+
+all_alike : (P : List Operation → Type 0) (trains : List (List Operation)) → All (λ t. t ≡ pair) trains → P pair → All P trains
+all_alike P trains alike here k d lt = subst P (sym (alike k d lt)) here
+
+counted : (trains : List (List Operation)) → All (λ t. t ≡ pair) trains → operation_count trains ≡ length trains * 2
+counted [] alike = omega arith
+counted (t ∷ trains) alike =
+    let here : length t ≡ 2 = ap (λ (l : List Operation). length l) (alike 0 t (omega arith)) in
+    let rest : operation_count trains ≡ length trains * 2 = counted trains (λ k d lt. alike (suc k) d (omega (arith, lt))) in
+    rw (sum_by-cons (λ x. length x) t trains) (omega (arith, here, rest))
+
+one_once : (a i j s : ℕ) → i < j → slice_get (a ∷ []) i ≡ Some s → slice_get (a ∷ []) j ≢ Some s
+one_once a i zero s lt at there = omega (arith, lt)
+one_once a i (suc j) s lt at there = absurd cc
+
+no_name : (i j : ℕ) (other : List ℕ) → i < j → slice_get {X = List ℕ} [] i ≡ Some other → slice_get {X = List ℕ} [] j ≢ Some other
+no_name i j other lt at there = absurd cc
+
+fit : All HasFitNumbers pair
+fit = search rules
+
+refers : All (RefersInside 2 0) pair
+refers = search (rules, one_once)
+
+pub formed : (trains : List (List Operation)) → length trains < 65536 → All (λ t. t ≡ pair) trains → IsWellFormed trains [] []
+formed trains fits alike = record {
+  numbers = all_alike (All HasFitNumbers) trains alike fit;
+  references = all_alike (λ t. All (RefersInside (length t) 0) t) trains alike refers;
+  acyclic = all_alike IsAcyclic trains alike acyclic;
+  named = λ k d lt. absurd (omega (arith, lt));
+  distinct = no_name;
+  trains_fit = omega (arith, fits);
+  operations_fit = rw (counted trains alike) (omega (arith, fits));
+  components_fit = omega arith;
+  costs_fit = omega arith;
+}
+PROOF
+cat > proofs/copies/Invariants.antt <<'PROOF'
+use Rattle.std.proofs.Common.{◌≡◌, length, All}
+use Rattle.editions_bench.proofs.copies.Given as goal
+
+abbrev pub invariant-loop : goal.invariant-loop
+invariant-loop l = record {
+  long : length l.trains ≡ l.counter;
+  alike : All (λ t. t ≡ l.train) l.trains;
+}
+PROOF
+cat > proofs/problem_of/Answers.antt <<'PROOF'
+use Rattle.std.proofs.Common.{◌≡◌, List, subst, sym, ◌∙◌, arith}
+use Rattle.std.specs.Prelude.{All}
+use Rattle.disp_model.specs.declared.train.Operation.{Operation}
+use Rattle.editions_bench.proofs.Formed.{formed}
+use Rattle.editions_bench.specs.Pair.{pair}
+use Rattle.editions_bench.proofs.problem_of.Goals as goal
+
+pub invariant_of-result : goal.invariant_of-result
+invariant_of-result c =
+    let trains = c.in_ok-trains.trains in
+    let alike : All (λ t. t ≡ pair) trains = λ k d lt. c.in_ok-trains.ensures.1 k d lt ∙ c.in_ok-train.ensures in
+    record { well_formed = rw (c.new.ensures, c.new-2.ensures) (formed trains (omega (arith, c.in_ok-trains.ensures.0, c.requires.fits)) alike) }
+PROOF
+rt run 2> log || { cat log; exit 1; }
