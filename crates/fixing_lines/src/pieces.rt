@@ -110,7 +110,6 @@ fn push_best(text: &mut String, best: Option<u64>) -> Result<(), Memory>
 }
 
 /// Adds where the search stands.
-#[tactic(auto, using(crate::proofs::Joined::joined))]
 pub(crate) fn push_standing(text: &mut String, standing: Standing) -> Result<(), Memory>
     ensures { OnOk result (Adds (string_bytes text.old) (string_bytes text.new) (standing_text standing)) }
 {
