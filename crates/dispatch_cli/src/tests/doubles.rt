@@ -1,6 +1,6 @@
 // A run on files in memory, and shelves that always refuse.
 use crate::dispatch;
-use disp_outside::{FetchNo, OpenGate, PutNo, Shelf, SteadyShelf, SteadySink};
+use disp_outside::{FeedNo, FetchNo, OpenGate, PutNo, Shelf, SteadyFeed, SteadyShelf, SteadySink};
 use std::alloc::Global;
 use std::test::Fail;
 
@@ -29,6 +29,8 @@ pub(crate) fn solve(rt: &HostRuntime, bytes: &[u8]) -> Result<(u8, Vec<u8>), Fai
 pub(crate) struct LongShelf;
 
 impl Shelf for LongShelf {
+    type Feed = SteadyFeed;
+
     ghost use Rattle.std.specs.Prelude.{None, ⊤};
 
     ghost knows = { λ _ _. ⊤ };
@@ -46,6 +48,12 @@ impl Shelf for LongShelf {
     fn put(&mut self, _alloc: Global, _name: &str, _bytes: &[u8]) -> Result<(), PutNo> {
         Err(PutNo::Memory)
     }
+
+    fn feed(&mut self, _alloc: Global, _name: &str) -> Result<SteadyFeed, FeedNo> {
+        Err(FeedNo::Memory)
+    }
+
+    fn close(&mut self, _feed: SteadyFeed) {}
 }
 
 // There is never room for a file.
@@ -53,6 +61,8 @@ impl Shelf for LongShelf {
 pub(crate) struct FullShelf;
 
 impl Shelf for FullShelf {
+    type Feed = SteadyFeed;
+
     ghost use Rattle.std.specs.Prelude.{None, ⊤};
 
     ghost knows = { λ _ _. ⊤ };
@@ -70,4 +80,10 @@ impl Shelf for FullShelf {
     fn put(&mut self, _alloc: Global, _name: &str, _bytes: &[u8]) -> Result<(), PutNo> {
         Err(PutNo::Memory)
     }
+
+    fn feed(&mut self, _alloc: Global, _name: &str) -> Result<SteadyFeed, FeedNo> {
+        Err(FeedNo::Memory)
+    }
+
+    fn close(&mut self, _feed: SteadyFeed) {}
 }

@@ -7,8 +7,12 @@ use std::process::Abort;
 use std::test::Fail;
 
 // Two trains that share r: one holds it for 10, the other for 4. Each costs the start of its second operation.
-const TWO: &str =
+pub(crate) const TWO: &str =
     r#"{"trains":[[{"min_duration":10,"resources":[{"resource":"r"}],"successors":[1]},{}],[{"min_duration":4,"resources":[{"resource":"r"}],"successors":[1]},{}]],"objective":[{"type":"op_delay","train":0,"operation":1,"coeff":1},{"type":"op_delay","train":1,"operation":1,"coeff":1}]}"#;
+
+// Its solution of cost 18.
+pub(crate) const SECOND: &str =
+    r#"{"events":[{"operation":0,"time":0,"train":1},{"operation":1,"time":4,"train":1},{"operation":0,"time":4,"train":0},{"operation":1,"time":14,"train":0}],"objective_value":18}"#;
 
 // The same with a release time of 3.
 const RELEASED: &str =

@@ -32,8 +32,12 @@ returns-in-Ok-clause-no g c =
     let new = g.S.Shelf.reading_faults c.judge_files.new.shelf in
     let fixings = option_map (λ name. name.now) c.args.fixings in
     let file : IsProblemFile holds c.args.problem.now c.in-Ok.problem = rw (← c.as_str.ensures) c.in-Ok.ensures.ok in
-    IfErr-weaker c.judge_files.result _ _ (λ cause h. inr (c.in-Ok.problem, file, stops_judging holds mid_holds old mid new c.in-Ok.problem fixings c.args.solution.now cause c.in-Ok.ensures.reads.held
-    (never_falls c.as_str.result.now old mid c.in-Ok.ensures.reads.counted c.in-Ok.ensures.reads.others) (rw (← c.as_str-in-Ok.ensures) h))) c.judge_files.ensures.no
+    IfErr-weaker c.judge_files.result _ _ (λ cause h. inr (
+      c.in-Ok.problem,
+      file,
+      stops_judging holds mid_holds old mid new c.in-Ok.problem fixings c.args.solution.now cause c.in-Ok.ensures.reads.held
+          (never_falls c.as_str.result.now old mid c.in-Ok.ensures.reads.counted c.in-Ok.ensures.reads.others) (rw (← c.as_str-in-Ok.ensures) h),
+    )) c.judge_files.ensures.no
 
 pub returns-in-Ok-clause-reads : goal.returns-in-Ok-clause-reads
 returns-in-Ok-clause-reads g c =
