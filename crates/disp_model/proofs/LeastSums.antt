@@ -146,9 +146,6 @@ pub train_arc_exists : (problem : Problem) (fixings : List Fixing) (decisions : 
     → (arc_length : ℕ) × IsTrainArc problem fixings decisions u v arc_length
 train_arc_exists problem fixings decisions u v n same leads one other = from_list (allowed_routes problem fixings decisions u.train one.train)
   where
-    acyclic : IsAcyclic (train_at problem u.train)
-    acyclic = problem.well_formed.acyclic u.train [] one.train
-
     has_both : (route : List ℕ) → IsAllowed problem fixings decisions u.train route → (total : ℕ) × Passes (train_at problem u.train) route u.op v.op total
     has_both route allowed =
         passes_both (train_at problem u.train) route u.op v.op n (problem.well_formed.acyclic u.train [] one.train) allowed.is_route leads (is_in u.op route (one.each_has route allowed))

@@ -26,7 +26,7 @@ use Rattle.disp_model.proofs.Paths.{IsIn, is_in, contains_in, in_or_not, never_a
 abbrev pub Decided : Type 0 → Type 0
 Decided P = P ⊎ (P → ⊥)
 
-contained_or_not : (o : ℕ) (ops : List ℕ) → Decided (Contains ops o)
+pub contained_or_not : (o : ℕ) (ops : List ℕ) → Decided (Contains ops o)
 contained_or_not o ops = elim (in_or_not o ops) [ inl h ↦ inl (contains_in o ops h) | inr n ↦ inr (λ h. n (is_in o ops h)) ]
 
 pub same_option : (a b : Option ℕ) → Decided (a ≡ b)
@@ -68,11 +68,11 @@ all_or_not P each (x ∷ xs) = elim (each x) [
 
 -- ---- whether a list is a route
 
-below : ℕ → List ℕ
+pub below : ℕ → List ℕ
 below zero = []
 below (suc n) = n ∷ below n
 
-contains_below : (n k : ℕ) → k < n → Contains (below n) k
+pub contains_below : (n k : ℕ) → k < n → Contains (below n) k
 unfolding below
 contains_below zero k lt = absurd (omega arith)
 contains_below (suc n) k lt = elim (cases_Bool (nat_eq n k)) [
@@ -85,10 +85,10 @@ nothing_behind [] p s le (k, lt, e) = omega arith
 nothing_behind (o ∷ train) zero s le next = omega arith
 nothing_behind (o ∷ train) (suc p) s le next = nothing_behind train p s (omega arith) next
 
-within_train : (train : List Operation) (p s : ℕ) → IsSuccessor train p s → p < length train
+pub within_train : (train : List Operation) (p s : ℕ) → IsSuccessor train p s → p < length train
 within_train train p s next = elim (cases_lt p (length train)) [ inl lt ↦ lt | inr le ↦ absurd (nothing_behind train p s le next) ]
 
-is_entry_or_not : (train : List Operation) (o : ℕ) → Decided (IsEntry train o)
+pub is_entry_or_not : (train : List Operation) (o : ℕ) → Decided (IsEntry train o)
 is_entry_or_not train o =
     elim (cases_lt o (length train)) [
       | inl lt ↦ elim (all_or_not (λ p. IsSuccessor train p o → ⊥) (λ p. denied (contained_or_not o (next_of train p))) (below (length train))) [
@@ -102,7 +102,7 @@ empty_or_not : (l : List ℕ) → Decided (l ≡ [])
 empty_or_not [] = inl refl
 empty_or_not (x ∷ l) = inr (λ e. absurd cc)
 
-is_exit_or_not : (train : List Operation) (o : ℕ) → Decided (IsExit train o)
+pub is_exit_or_not : (train : List Operation) (o : ℕ) → Decided (IsExit train o)
 is_exit_or_not train o =
     elim (cases_lt o (length train)) [
       | inl lt ↦ elim (empty_or_not (next_of train o)) [ inl none ↦ inl (record { there = lt; last = none }) | inr n ↦ inr (λ exit. n exit.last) ]
@@ -174,7 +174,7 @@ each_within train o [] goes q (inr h) = absurd h
 each_within train o (s ∷ rest) goes q (inl e) = let lt = within_train train o s goes.0 in omega (arith, lt, e)
 each_within train o (s ∷ rest) goes q (inr h) = each_within train s rest goes.1 q h
 
-not_among : (o : ℕ) (rest : List ℕ) → (IsIn o rest → ⊥) → AllByRecursion (λ y. nat_eq o y ≡ false) rest
+pub not_among : (o : ℕ) (rest : List ℕ) → (IsIn o rest → ⊥) → AllByRecursion (λ y. nat_eq o y ≡ false) rest
 not_among o [] n = tt
 not_among o (s ∷ rest) n = (elim (cases_Bool (nat_eq o s)) [ inl is ↦ absurd (n (inl (sym (eqb-true o s is)))) | inr is ↦ is ], not_among o rest (λ h. n (inr h)))
 
@@ -183,14 +183,14 @@ unfolding IsDistinct
 route_distinct train o [] acyclic goes = (tt, tt)
 route_distinct train o (s ∷ rest) acyclic goes = (not_among o (s ∷ rest) (λ h. never_again train o (s ∷ rest) acyclic goes h), route_distinct train s rest acyclic goes.1)
 
-any_is_in : (q : ℕ) (xs : List ℕ) → list_any (nat_eq q) xs ≡ true → IsIn q xs
+pub any_is_in : (q : ℕ) (xs : List ℕ) → list_any (nat_eq q) xs ≡ true → IsIn q xs
 any_is_in q [] h = absurd (false≢true h)
 any_is_in q (x ∷ xs) h = elim (cases_Bool (nat_eq q x)) [ inl is ↦ inl (sym (eqb-true q x is)) | inr is ↦ inr (any_is_in q xs (later is)) ]
   where
     later : nat_eq q x ≡ false → list_any (nat_eq q) xs ≡ true
     later is = rw is at h
 
-route_fits : (train : List Operation) (o : ℕ) (rest : List ℕ) → IsAcyclic train → GoesOn train o rest → length (o ∷ rest) ≤ length train
+pub route_fits : (train : List Operation) (o : ℕ) (rest : List ℕ) → IsAcyclic train → GoesOn train o rest → length (o ∷ rest) ≤ length train
 route_fits train o rest acyclic goes = length-le_from_distinct_below (o ∷ rest) (length train) (route_distinct train o rest acyclic goes) (λ q h. each_within train o rest goes q (any_is_in q (o ∷ rest) h))
 
 -- every list that may be a route of the train

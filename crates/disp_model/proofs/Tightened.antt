@@ -16,7 +16,7 @@ use Rattle.disp_model.specs.declared.reply.Refusal.TheVariants.{NoTrain, NoOpera
 use Rattle.disp_model.specs.declared.problem.Problem.{Problem}
 use Rattle.disp_model.specs.Valid.{train_at}
 use Rattle.disp_model.specs.Routes.{AgreesWithFixing, IsAllowed, HasRoute, HasNoRoute, IsForced}
-use Rattle.disp_model.specs.Arcs.{IsTrainArc, IsReleaseArc}
+use Rattle.disp_model.specs.Arcs.{IsReleaseArc}
 use Rattle.disp_model.specs.Walks.{fixed_start, lower_of, upper_of}
 use Rattle.disp_model.specs.Replies.{Row, RepliesToStart, IsReply}
 
@@ -41,10 +41,6 @@ still_forced problem fixings more decisions o forced left = record {
 
 pub still_none : (problem : Problem) (fixings more : List Fixing) (decisions : List Decision) → HasNoRoute problem fixings decisions → HasNoRoute problem (fixings ++ more) decisions
 still_none problem fixings more decisions none = (none.0, none.1, λ left. none.2 (left.0, routes_before problem fixings more decisions none.0 left.0 left.1))
-
-pub train_arc_grows : (problem : Problem) (fixings more : List Fixing) (decisions : List Decision) (u v : Op) (before behind : ℕ) → IsTrainArc problem fixings decisions u v before → IsTrainArc problem (fixings ++ more) decisions u v behind → before ≤ behind
-train_arc_grows problem fixings more decisions u v before behind old new =
-    old.least new.reached.0 behind (routes_before problem fixings more decisions u.train new.reached.0 new.reached.1) new.reached.2
 
 pub release_arc_stays : (problem : Problem) (fixings more : List Fixing) (decisions : List Decision) (n b : Op) (arc_length : ℕ) → IsReleaseArc problem fixings decisions n b arc_length → HasRoute problem (fixings ++ more) decisions n.train → IsReleaseArc problem (fixings ++ more) decisions n b arc_length
 release_arc_stays problem fixings more decisions n b arc_length arc left = record {

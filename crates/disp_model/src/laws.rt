@@ -14,11 +14,12 @@ ghost use Rattle.disp_model.specs.declared.tree.TreeNode.{TreeNode};
 ghost use Rattle.disp_model.specs.declared.tree.Leaf.{Leaf as TreeLeaf};
 ghost use Rattle.disp_model.specs.declared.tree.Verdict.{Verdict};
 ghost use Rattle.disp_model.specs.declared.tree.Verdict.TheVariants.{Optimal, Infeasible};
+ghost use Rattle.disp_model.specs.Train.{IsEntry, IsExit};
 ghost use Rattle.disp_model.specs.WellFormed.{horizon};
 ghost use Rattle.disp_model.specs.Plan.{operations_of};
 ghost use Rattle.disp_model.specs.Fixing.{after};
 ghost use Rattle.disp_model.specs.Cost.{cost_at, cost_of, IsInfeasible};
-ghost use Rattle.disp_model.specs.Valid.{IsValid};
+ghost use Rattle.disp_model.specs.Valid.{train_at, IsValid};
 ghost use Rattle.disp_model.specs.Follows.{Follows};
 ghost use Rattle.disp_model.specs.Routes.{Starts, IsAllowed, HasRoute, HasNoRoute, IsForced};
 ghost use Rattle.disp_model.specs.Arcs.{IsArc, IsLongestArc};
@@ -27,6 +28,14 @@ ghost use Rattle.disp_model.specs.Nodes.{IsDead, IsBound};
 ghost use Rattle.disp_model.specs.Trees.{IsChoice, children_of, HaveDistinct, WalksCost, LeafHolds, Accepts};
 ghost use Rattle.disp_model.specs.Replies.{IsReply, IsEdition};
 ghost use Rattle.disp_model.specs.Earliest.{HaveOneRoute, IsEarliest, IsPicked};
+
+/// Each train of a problem has one entry and one exit.
+pub fn trains_have_ends()
+    ensures entry { (problem : Problem) (t : ℕ) → t < length problem.trains
+        → (o : ℕ) × IsEntry (train_at problem t) o × ((p : ℕ) → IsEntry (train_at problem t) p → p ≡ o) }
+    ensures exit { (problem : Problem) (t : ℕ) → t < length problem.trains
+        → (o : ℕ) × IsExit (train_at problem t) o × ((p : ℕ) → IsExit (train_at problem t) p → p ≡ o) }
+{}
 
 /// Branching covers: a valid plan that follows the decisions follows them with one of the choice's
 /// children added.

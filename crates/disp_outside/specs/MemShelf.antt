@@ -55,3 +55,14 @@ pub record KeepsFile (old new : MemShelf) (name : List ℕ) : Type 0 where
   pub broken : broken_calls new name ≡ broken_calls old name
   pub lines : broken_lines new name ≡ broken_lines old name
   pub calls : call_count new name ≡ call_count old name
+
+-- the puttings are as they were, those that were and those that are to fail
+pub record KeepsPuts (old new : MemShelf) : Type 0 where
+  pub broken : broken_puts new ≡ broken_puts old
+  pub count : put_count new ≡ put_count old
+
+-- the name's file was not read yet, and no reading of it and no call of a feed of it is to fail
+pub record HasNoBreaks (shelf : MemShelf) (name : List ℕ) : Type 0 where
+  pub broken : broken_calls shelf name ≡ []
+  pub lines : broken_lines shelf name ≡ []
+  pub calls : call_count shelf name ≡ 0

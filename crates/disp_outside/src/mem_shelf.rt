@@ -23,7 +23,7 @@ pub struct MemShelf {
 }
 
 impl MemShelf {
-    ghost use Rattle.disp_outside.specs.MemShelf.{held_file, broken_calls, broken_lines, call_count, broken_puts, put_count, reading_faults, putting_faults, KnowsName, KeepsFile};
+    ghost use Rattle.disp_outside.specs.MemShelf.{held_file, broken_calls, broken_lines, call_count, broken_puts, put_count, reading_faults, putting_faults, KnowsName, KeepsFile, KeepsPuts};
 
     /// A shelf of no files.
     pub fn new(alloc: Global) -> Self
@@ -56,7 +56,7 @@ impl MemShelf {
         ensures faults { (other : List ℕ) → reading_faults self.new other ≡ reading_faults self.old other }
         ensures put_faults { (other : List ℕ) → putting_faults self.new other ≡ putting_faults self.old other }
         ensures names { (other : List ℕ) → KnowsName self.new other ↔ KnowsName self.old other }
-        ensures puts { (broken_puts self.new ≡ broken_puts self.old) × (put_count self.new ≡ put_count self.old) }
+        ensures puts { KeepsPuts self.old self.new }
     {
         self.set_file(name, bytes, broken)
     }
@@ -86,6 +86,7 @@ impl MemShelf {
     /// Makes the puttings of these numbers fail, counted from 1 over all names.
     pub fn break_puts(&mut self, calls: &[u64]) -> Result<(), AllocError>
         ensures calls { OnOk result (broken_puts self.new ≡ calls.now) }
+        ensures err { OnErr result (broken_puts self.new ≡ broken_puts self.old) }
         ensures puts { put_count self.new ≡ put_count self.old }
         ensures files { (name : List ℕ) → KeepsFile self.old self.new name }
         ensures faults { (name : List ℕ) → reading_faults self.new name ≡ reading_faults self.old name }
@@ -137,7 +138,7 @@ impl MemShelf {
 }
 
 impl Shelf for MemShelf {
-    ghost use Rattle.disp_outside.specs.MemShelf.{held_file, broken_calls, broken_lines, call_count, broken_puts, put_count, reading_faults, putting_faults, KnowsName, NextBreaks, NextPutBreaks, KeepsFile};
+    ghost use Rattle.disp_outside.specs.MemShelf.{held_file, broken_calls, broken_lines, call_count, broken_puts, put_count, reading_faults, putting_faults, KnowsName, NextBreaks, NextPutBreaks, KeepsFile, KeepsPuts, HasNoBreaks};
     ghost use Rattle.disp_outside.specs.MemFeed.{feed_name, lines_left, fault_count, has_ended, broken_calls as feed_broken, call_count as feed_calls};
 
     type Feed = MemFeed;
@@ -169,8 +170,11 @@ impl Shelf for MemShelf {
         ensures breaks { IsErrOf result FetchNo.Failed → NextBreaks self.old name.now }
         ensures broken { NextBreaks self.old name.now → IsErrOf result FetchNo.Failed ⊎ IsErrOf result FetchNo.Memory }
         ensures calls { OnSome (held_file self.old name.now) (IsCounted result (call_count self.old name.now) (call_count self.new name.now)) }
+        ensures once { IsErrOf result FetchNo.Failed → reading_faults self.new name.now ≡ reading_faults self.old name.now + 1 }
         ensures list { broken_calls self.new name.now ≡ broken_calls self.old name.now }
+        ensures line_lists { broken_lines self.new name.now ≡ broken_lines self.old name.now }
         ensures others { (other : List ℕ) → other ≢ name.now → KeepsFile self.old self.new other }
+        ensures puts { KeepsPuts self.old self.new }
     {
         self.faults.make_room(alloc, name)?;
         let Some(file) = self.files.get_mut(name) else {
@@ -210,7 +214,10 @@ impl Shelf for MemShelf {
         // It fails exactly in the calls of the list, and then the file stays.
         ensures breaks { IsErrOf result PutNo.Failed → NextPutBreaks self.old }
         ensures broken { NextPutBreaks self.old → IsErrOf result PutNo.Failed ⊎ IsErrOf result PutNo.Memory }
-        ensures stays { IsErrOf result PutNo.Failed → held_file self.new name.now ≡ held_file self.old name.now }
+        ensures stays { IsErrOf result PutNo.Failed → KeepsFile self.old self.new name.now }
+        ensures memory_file { IsErrOf result PutNo.Memory → KeepsFile self.old self.new name.now }
+        ensures once { IsErrOf result PutNo.Failed → putting_faults self.new name.now ≡ putting_faults self.old name.now + 1 }
+        ensures afresh { IsOk result → HasNoBreaks self.new name.now }
         ensures calls { (IsErrOf result PutNo.Memory → put_count self.new ≡ put_count self.old) × (IsErrOf result PutNo.Memory ⊎ (put_count self.new ≡ put_count self.old + 1)) }
         ensures list { broken_puts self.new ≡ broken_puts self.old }
         ensures others { (other : List ℕ) → other ≢ name.now → KeepsFile self.old self.new other }
@@ -258,6 +265,10 @@ impl Shelf for MemShelf {
         // The feed fails in the calls that the file's list names.
         ensures line_list { IfOk result (λ feed. broken_lines self.old name.now ≡ feed_broken feed) }
         ensures first_line { IfOk result (λ feed. feed_calls feed ≡ 0) }
+
+        ensures once { IsErrOf result FeedNo.Failed → reading_faults self.new name.now ≡ reading_faults self.old name.now + 1 }
+        ensures line_lists { broken_lines self.new name.now ≡ broken_lines self.old name.now }
+        ensures puts { KeepsPuts self.old self.new }
     {
         self.faults.make_room(alloc, name)?;
         let Some(file) = self.files.get_mut(name) else {
@@ -277,7 +288,19 @@ impl Shelf for MemShelf {
         }
     }
 
-    fn close(&mut self, feed: MemFeed) {
+    fn close(&mut self, feed: MemFeed)
+        requires { KnowsName self.old (feed_name feed) }
+        ensures failed { (0 < fault_count feed) ↔ (reading_faults self.old (feed_name feed) < reading_faults self.new (feed_name feed)) }
+        ensures counted { reading_faults self.old (feed_name feed) ≤ reading_faults self.new (feed_name feed) }
+        ensures other_counts { (other : List ℕ) → other ≢ feed_name feed → reading_faults self.new other ≡ reading_faults self.old other }
+        ensures putting_counts { (other : List ℕ) → putting_faults self.new other ≡ putting_faults self.old other }
+        ensures held { (other : List ℕ) → Some (held_file self.new other) ≡ Some (held_file self.old other) }
+        ensures known { (other : List ℕ) → KnowsName self.new other ↔ KnowsName self.old other }
+
+        ensures once { 0 < fault_count feed → reading_faults self.new (feed_name feed) ≡ reading_faults self.old (feed_name feed) + 1 }
+        ensures files { (other : List ℕ) → KeepsFile self.old self.new other }
+        ensures puts { KeepsPuts self.old self.new }
+    {
         if let Some(ticket) = feed.into_fault() {
             self.faults.add_closed(ticket);
         }

@@ -68,7 +68,9 @@ impl Sink for MemSink {
         ensures unbroken { OnOk result (next_break self.old ≡ None) }
         ensures broken { IsErrOf result WriteNo.Failed → IsSomeAnd (next_break self.old) (λ sent.
             written_bytes self.new ≡ written_bytes self.old ++ take sent bytes.now) }
+        ensures once { IsErrOf result WriteNo.Failed → fault_count self.new ≡ fault_count self.old + 1 }
         ensures calls { IsErrOf result WriteNo.Memory ⊎ (call_count self.new ≡ call_count self.old + 1) }
+        ensures uncalled { IsErrOf result WriteNo.Memory → call_count self.new ≡ call_count self.old }
         ensures list { broken_writes self.new ≡ broken_writes self.old }
     {
         let Some(call) = self.calls.checked_add(1) else {

@@ -1,5 +1,5 @@
 // A sink over a writer, such as standard output.
-ghost use Rattle.std.specs.Prelude.{◌≡◌, ◌≤◌, ◌<◌, ◌↔◌, [], OnOk, IsErrOf};
+ghost use Rattle.std.specs.Prelude.{◌≡◌, ◌≤◌, ◌<◌, ◌+◌, ◌↔◌, [], OnOk, IsErrOf};
 ghost use Rattle.std.specs.Io.KnownBytes.{append_known, Appends, Keeps};
 ghost use Rattle.disp_outside.specs.Sink.{WritesPart, PutsOut};
 
@@ -47,6 +47,7 @@ impl<W: Write + Send> Sink for StandardOutput<W> {
         ensures failed { IsErrOf result WriteNo.Failed ↔ (fault_count self.old < fault_count self.new) }
         ensures counted { fault_count self.old ≤ fault_count self.new }
 
+        ensures once { IsErrOf result WriteNo.Failed → fault_count self.new ≡ fault_count self.old + 1 }
         ensures empty { bytes.now ≡ [] → ¬ IsErrOf result WriteNo.Failed }
 
         // What the writer gets.
