@@ -1,6 +1,6 @@
 -- The files of the system.
 use Rattle.std.specs.Prelude.{ℕ, List}
-use Rattle.disp_outside.specs.Faults.{Knows, fault_count}
+use Rattle.fault_counts.specs.Faults.{Knows, fault_count}
 use Rattle.disp_outside.specs.declared.file_shelf.FileShelf.{FileShelf}
 
 module _ {R : Type 0} where

@@ -3,8 +3,8 @@ ghost use Rattle.std.specs.Prelude.{◌≡◌, ◌<◌, false, None, IfSome, IfN
 
 use crate::feed_state::FeedState;
 use crate::read_ahead::ReadAhead;
-use crate::ticket::Ticket;
 use crate::{Feed, FeedLine, LineBuf};
+use fault_counts::Ticket;
 use std::io::Read;
 
 /// The lines that a reader gives, such as a file of the system or a named pipe. It tells nothing of them.

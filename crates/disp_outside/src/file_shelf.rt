@@ -2,11 +2,10 @@
 ghost use Rattle.std.specs.Prelude.{◌≡◌, ◌≤◌, ◌-◌, ◌^◌, min, false, None, List, ℕ, length, IfOk};
 ghost use Rattle.disp_outside.specs.FileFeed.{feed_name, fault_count as feed_faults, has_ended};
 
-use crate::faults::FaultCounts;
 use crate::reading::read_whole;
-use crate::ticket::Ticket;
 use crate::writing::write_whole;
 use crate::{FeedNo, FetchNo, FileFeed, PutNo, Shelf};
+use fault_counts::{FaultCounts, Ticket};
 use std::alloc::Global;
 use std::fs;
 use std::io::ErrorKind;

@@ -1,11 +1,18 @@
 // One line of a feed.
-ghost use Rattle.std.specs.Prelude.{◌≡◌, ◌≤◌, ◌+◌, ◌↔◌, ◌++◌, IsTrue, true, false, [], List, ℕ, length, take};
+ghost use Rattle.std.specs.Prelude.{◌≡◌, ◌≤◌, ◌+◌, ◌==◌, ◌↔◌, ◌++◌, IsTrue, true, false, [], List, ℕ, length, take, position};
 ghost use Rattle.std.specs.Io.BufRead.{strip_last};
 
 use std::marker::Model;
 
 /// How many bytes a line has at most, before its LF.
 pub const MOST_LINE_BYTES: usize = 256;
+
+/// Where the first LF is.
+pub fn line_feed_at(bytes: &[u8]) -> Option<usize>
+    ensures { result ≡ position (λ byte. byte == 10) bytes.now }
+{
+    bytes.iter().position(|byte| *byte == b'\n')
+}
 
 /// Room for the bytes of one line.
 #[derive(Drop)]
@@ -41,8 +48,8 @@ impl LineBuf {
         &self.bytes[..self.count]
     }
 
-    // Makes these the bytes of the line.
-    pub(crate) fn set(&mut self, bytes: &[u8])
+    /// Makes these the bytes of the line.
+    pub fn set(&mut self, bytes: &[u8])
         requires { length bytes.now ≤ 256 }
         ensures { self.new ≡ bytes.now }
     {

@@ -1,9 +1,8 @@
 // Lines out of a reader that gives some bytes at a time.
 ghost use Rattle.std.specs.Prelude.{◌≡◌, ◌≤◌, ◌<◌};
 
-use crate::mem_lines::line_feed_at;
 use crate::turns::MOST_TURNS;
-use crate::{FeedLine, LineBuf};
+use crate::{FeedLine, LineBuf, line_feed_at};
 use std::io::{ErrorKind, Read};
 
 // How many bytes one read asks for at most.

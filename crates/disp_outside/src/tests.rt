@@ -1,5 +1,4 @@
-// What a caller can say through the bounds, and the shelves and sinks at work.
-mod callers;
+// Files of the system, line by line and whole, and a writer that halts.
 mod feeds;
 mod shelves;
 mod sinks;

@@ -1,9 +1,0 @@
--- Files in memory whose readings never fail.
-use Rattle.std.specs.Prelude.{ℕ, List, []}
-use Rattle.std.specs.Option.{option_map_or}
-use Rattle.std.specs.BTreeMap.{get_by_text}
-use Rattle.disp_outside.specs.declared.steady_shelf.SteadyShelf.{SteadyShelf}
-
--- what the name's file holds, and nothing where none was placed
-abbrev pub held_bytes : SteadyShelf → List ℕ → List ℕ
-held_bytes shelf name = option_map_or (λ file. file.items) (get_by_text shelf.files name) []

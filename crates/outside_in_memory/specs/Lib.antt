@@ -1,0 +1,9 @@
+pub mod BrokenWrite
+pub mod MemFeed
+pub mod MemFile
+pub mod MemLines
+pub mod MemShelf
+pub mod MemSink
+pub mod SteadyFeed
+pub mod SteadyShelf
+pub mod SteadySink
