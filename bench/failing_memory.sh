@@ -77,7 +77,7 @@ def is_front(printed, answer):
     return any(answer.startswith(printed[:k]) and b"memory\n".startswith(printed[k:]) for k in range(len(printed) + 1))
 
 
-wrong = 0
+wrong, all_whole, all_short = 0, 0, 0
 for words, status in rows:
     answer = run(words, 0, False)
     if answer[0] != status:
@@ -97,6 +97,8 @@ for words, status in rows:
                 wrong += 1
                 print("%s, %d%s: %r" % (words, failing, " and on" if on else "", got[:3]))
             failing += 1
-        print("%s: %s fail%s: %d whole, %d want of memory" % (words, "all from one on" if on else "one call", "" if on else "s", whole, short))
+        print("%s, %s: %d whole, %d want of memory" % (words, "all from one on fail" if on else "one call fails", whole, short))
+        all_whole, all_short = all_whole + whole, all_short + short
+print("in all: %d whole, %d want of memory, %d else" % (all_whole, all_short, wrong))
 sys.exit(1 if wrong else 0)
 PYTHON
