@@ -15,15 +15,17 @@ use Rattle.dispatch_cli.specs.declared.cause.Cause.{Cause}
 use Rattle.dispatch_cli.specs.declared.cause.Cause.TheVariants.{Words, Failed, TooLong, NoProblem, NoSolution, BadLine, Choices, Memory}
 use Rattle.dispatch_cli.specs.declared.cause.Input.TheVariants as input
 use Rattle.dispatch_cli.specs.Outside.{Holdings, Counts, Outside, IsFile, HoldsTooMuch, ReadsOne, Reads, Is, IsOfThree}
-use Rattle.dispatch_cli.specs.Files.{IsProblemFile, IsSolutionFile, IsRefusedLine, AreFixings}
+use Rattle.dispatch_cli.specs.Files.{IsProblemFile, IsSolutionFile, IsRefusedLine, AreFixings, HasFixings}
 use Rattle.disp_outside.specs.Lines.{HasLinesOf}
 use Rattle.disp_model.specs.declared.fixing.Fixing.{Fixing}
 use Rattle.fixing_files.specs.declared.take.LineNo.{LineNo}
 use Rattle.dispatch_cli.specs.declared.cause.Input.{Input}
 use Rattle.dispatch_cli.specs.Solving.{IsForChoices}
 use Rattle.dispatch_cli.specs.Answers.{IsAnswer, IsJudgedFile}
-use Rattle.dispatch_cli.specs.Causes.{StopsSolve, StopsSolution, StopsFixings, StopsJudging, StopsVerify, IsBadFile, name_in, StopsTask, Stops, CountsTask, status_of}
-use Rattle.dispatch_cli.specs.Endings.{Fails, PutFails, WriteFails, Halts}
+use Rattle.dispatch_cli.specs.Causes.{StopsSolve, StopsSolution, StopsFixings, StopsJudging, StopsVerify, IsBadFile, name_in, TakesProblem, StopsTask, Stops, CountsTask, status_of}
+use Rattle.std.specs.List.{concat}
+use Rattle.dispatch_cli.specs.declared.answer.Put.{Put}
+use Rattle.dispatch_cli.specs.Endings.{Fails, GivesUp, PutsNothing, PutKeeps, PutFails, WriteFails, WriteGivesUp, PutGivesUp, Halts}
 
 -- the problem of a file is not solved for its choices alone
 pub stops_by_choices : (holds : Holdings) (old new : Counts) (name : List ℕ) (problem : Problem) (cause : Cause) → IsProblemFile holds name problem → IsForChoices problem cause → StopsSolve holds old new name cause
@@ -83,17 +85,25 @@ refused_before holds mid problem name number reason same h = record { told = h.t
 long_before : (holds mid : Holdings) (name : List ℕ) → mid name ≡ holds name → HoldsTooMuch mid name → HoldsTooMuch holds name
 long_before holds mid name same h = subst (λ (found : Option (Option (List ℕ))). IfSome found (λ file. IsSomeAnd file (λ bytes. MOST_FILE_BYTES < length bytes))) same h
 
+-- fixings that were taken behind another reading
+pub fixings_before : (holds mid : Holdings) (problem : Problem) (name : Option (List ℕ)) (fixings : List Fixing) → ((other : List ℕ) → mid other ≡ holds other) → AreFixings mid problem name fixings → AreFixings holds problem name fixings
+fixings_before holds mid problem None fixings same h = h
+fixings_before holds mid problem (Some name) fixings same h = record { told = h.told; lines = lines_before holds mid name h.told (same name) h.lines; taken = h.taken; edition = h.edition }
+
+has_fixings_before : (holds mid : Holdings) (problem : Problem) (name : Option (List ℕ)) → ((other : List ℕ) → mid other ≡ holds other) → HasFixings mid problem name → HasFixings holds problem name
+has_fixings_before holds mid problem name same h = (h.0, fixings_before holds mid problem name h.0 same h.1)
+
 -- what stopped the judging of a solution without fixings, or behind their reading
-pub stops_solution : (holds mid_holds : Holdings) (old mid new : Counts) (problem : Problem) (fixings : Option (List ℕ)) (name : List ℕ) (cause : Cause) → ((other : List ℕ) → mid_holds other ≡ holds other)
-    → ((other : List ℕ) → old other ≤ mid other) → StopsSolution mid_holds mid new name cause → StopsJudging holds old new problem fixings name cause
-stops_solution holds mid_holds old mid new problem fixings name (Failed which) same counted (is, lt) = rw is (omega (arith, counted name, lt))
-stops_solution holds mid_holds old mid new problem fixings name (TooLong which) same counted (is, long) = (is, long_before holds mid_holds name (same name) long)
-stops_solution holds mid_holds old mid new problem fixings name (NoSolution refusal) same counted bad = bad_before holds mid_holds name _ (same name) bad
-stops_solution holds mid_holds old mid new problem fixings name Memory same counted stops = tt
-stops_solution holds mid_holds old mid new problem fixings name (Words text) same counted stops = absurd stops
-stops_solution holds mid_holds old mid new problem fixings name (NoProblem refusal) same counted stops = absurd stops
-stops_solution holds mid_holds old mid new problem fixings name (BadLine number reason) same counted stops = absurd stops
-stops_solution holds mid_holds old mid new problem fixings name Choices same counted stops = absurd stops
+pub stops_solution : (holds mid_holds : Holdings) (old mid new : Counts) (problem : Problem) (fixings : Option (List ℕ)) (name : List ℕ) (cause : Cause) → HasFixings holds problem fixings
+    → ((other : List ℕ) → mid_holds other ≡ holds other) → ((other : List ℕ) → old other ≤ mid other) → StopsSolution mid_holds mid new name cause → StopsJudging holds old new problem fixings name cause
+stops_solution holds mid_holds old mid new problem fixings name (Failed which) taken same counted (is, lt) = rw is (taken, omega (arith, counted name, lt))
+stops_solution holds mid_holds old mid new problem fixings name (TooLong which) taken same counted (is, long) = (is, taken, long_before holds mid_holds name (same name) long)
+stops_solution holds mid_holds old mid new problem fixings name (NoSolution refusal) taken same counted bad = (taken, bad_before holds mid_holds name _ (same name) bad)
+stops_solution holds mid_holds old mid new problem fixings name Memory taken same counted stops = tt
+stops_solution holds mid_holds old mid new problem fixings name (Words text) taken same counted stops = absurd stops
+stops_solution holds mid_holds old mid new problem fixings name (NoProblem refusal) taken same counted stops = absurd stops
+stops_solution holds mid_holds old mid new problem fixings name (BadLine number reason) taken same counted stops = absurd stops
+stops_solution holds mid_holds old mid new problem fixings name Choices taken same counted stops = absurd stops
 
 -- what stopped the reading of the fixings
 pub stops_fixings : (holds : Holdings) (old new : Counts) (problem : Problem) (name solution : List ℕ) (cause : Cause) → StopsFixings holds old new problem name cause → StopsJudging holds old new problem (Some name) solution cause
@@ -111,20 +121,35 @@ pub stops_judging : (holds mid_holds : Holdings) (old mid new : Counts) (problem
     → ((other : List ℕ) → old other ≤ mid other) → StopsJudging mid_holds mid new problem fixings name cause → StopsJudging holds old new problem fixings name cause
 stops_judging holds mid_holds old mid new problem fixings name (Failed input.Problem) same counted stops = absurd stops
 stops_judging holds mid_holds old mid new problem fixings name (Failed input.Fixings) same counted (file, is, lt) = (file, is, omega (arith, counted file, lt))
-stops_judging holds mid_holds old mid new problem fixings name (Failed input.Solution) same counted lt = omega (arith, counted name, lt)
-stops_judging holds mid_holds old mid new problem fixings name (TooLong which) same counted (is, long) = (is, long_before holds mid_holds name (same name) long)
-stops_judging holds mid_holds old mid new problem fixings name (NoSolution refusal) same counted bad = bad_before holds mid_holds name _ (same name) bad
+stops_judging holds mid_holds old mid new problem fixings name (Failed input.Solution) same counted (taken, lt) = (has_fixings_before holds mid_holds problem fixings same taken, omega (arith, counted name, lt))
+stops_judging holds mid_holds old mid new problem fixings name (TooLong which) same counted (is, taken, long) = (is, has_fixings_before holds mid_holds problem fixings same taken, long_before holds mid_holds name (same name) long)
+stops_judging holds mid_holds old mid new problem fixings name (NoSolution refusal) same counted (taken, bad) = (has_fixings_before holds mid_holds problem fixings same taken, bad_before holds mid_holds name _ (same name) bad)
 stops_judging holds mid_holds old mid new problem fixings name (BadLine number reason) same counted (file, is, refused) = (file, is, refused_before holds mid_holds problem file number reason (same file) refused)
 stops_judging holds mid_holds old mid new problem fixings name Memory same counted stops = tt
 stops_judging holds mid_holds old mid new problem fixings name (Words text) same counted stops = absurd stops
 stops_judging holds mid_holds old mid new problem fixings name (NoProblem refusal) same counted stops = absurd stops
 stops_judging holds mid_holds old mid new problem fixings name Choices same counted stops = absurd stops
 
+-- what stopped the solving of a problem's file is what stopped its task
+pub stops_solve : (holds : Holdings) (old new : Counts) (problem : List ℕ) (budget : ℕ) (plan : Option (List ℕ)) (cause : Cause) → StopsSolve holds old new problem cause
+    → StopsTask holds old new (Solve problem budget plan) cause
+stops_solve holds old new problem budget plan (Failed which) (is, lt) = rw is (tt, (problem, refl, lt))
+stops_solve holds old new problem budget plan (TooLong which) (is, long) = rw is (tt, (problem, refl, long))
+stops_solve holds old new problem budget plan (NoProblem refusal) bad = (problem, refl, bad)
+stops_solve holds old new problem budget plan Choices bad = (problem, refl, bad)
+stops_solve holds old new problem budget plan Memory stops = tt
+stops_solve holds old new problem budget plan (Words text) stops = absurd stops
+stops_solve holds old new problem budget plan (NoSolution refusal) stops = absurd stops
+stops_solve holds old new problem budget plan (BadLine number reason) stops = absurd stops
+
+takes_problem : (holds : Holdings) (problem solution : List ℕ) (fixings : Option (List ℕ)) (read : Problem) → IsProblemFile holds problem read → TakesProblem holds (Verify problem solution fixings) read
+takes_problem holds problem solution fixings read file = record { name = problem; named = refl; file = file }
+
 -- what stopped a verification is what stopped its task
 pub stops_verify : (holds : Holdings) (old new : Counts) (problem solution : List ℕ) (fixings : Option (List ℕ)) (cause : Cause) → StopsVerify holds old new problem fixings solution cause
     → StopsTask holds old new (Verify problem solution fixings) cause
-stops_verify holds old new problem solution fixings (Failed which) (inl (is, lt)) = rw is (problem, refl, lt)
-stops_verify holds old new problem solution fixings (TooLong which) (inl (is, long)) = rw is (problem, refl, long)
+stops_verify holds old new problem solution fixings (Failed which) (inl (is, lt)) = rw is (tt, (problem, refl, lt))
+stops_verify holds old new problem solution fixings (TooLong which) (inl (is, long)) = rw is (tt, (problem, refl, long))
 stops_verify holds old new problem solution fixings (NoProblem refusal) (inl bad) = (problem, refl, bad)
 stops_verify holds old new problem solution fixings Memory stops = tt
 stops_verify holds old new problem solution fixings (Words text) (inl stops) = absurd stops
@@ -132,12 +157,12 @@ stops_verify holds old new problem solution fixings (NoSolution refusal) (inl st
 stops_verify holds old new problem solution fixings (BadLine number reason) (inl stops) = absurd stops
 stops_verify holds old new problem solution fixings Choices (inl stops) = absurd stops
 stops_verify holds old new problem solution fixings (Failed input.Problem) (inr (read, file, stops)) = absurd stops
-stops_verify holds old new problem solution fixings (Failed input.Fixings) (inr (read, file, (name, is, lt))) = (name, is, lt)
-stops_verify holds old new problem solution fixings (Failed input.Solution) (inr (read, file, lt)) = (solution, refl, lt)
-stops_verify holds old new problem solution fixings (TooLong which) (inr (read, file, (is, long))) = rw is (solution, refl, long)
-stops_verify holds old new problem solution fixings (NoSolution refusal) (inr (read, file, bad)) = (solution, refl, bad)
+stops_verify holds old new problem solution fixings (Failed input.Fixings) (inr (read, file, (name, is, lt))) = ((read, takes_problem holds problem solution fixings read file), (name, is, lt))
+stops_verify holds old new problem solution fixings (Failed input.Solution) (inr (read, file, (taken, lt))) = ((read, takes_problem holds problem solution fixings read file, taken), (solution, refl, lt))
+stops_verify holds old new problem solution fixings (TooLong which) (inr (read, file, (is, taken, long))) = rw is ((read, takes_problem holds problem solution fixings read file, taken), (solution, refl, long))
+stops_verify holds old new problem solution fixings (NoSolution refusal) (inr (read, file, (taken, bad))) = ((read, takes_problem holds problem solution fixings read file, taken), (solution, refl, bad))
 stops_verify holds old new problem solution fixings (BadLine number reason) (inr (read, file, (name, is, refused))) =
-    record { problem_name = problem; problem_named = refl; problem = read; problem_file = file; name = name; named = is; refused = refused }
+    record { problem = read; takes = takes_problem holds problem solution fixings read file; name = name; named = is; refused = refused }
 stops_verify holds old new problem solution fixings (Words text) (inr (read, file, stops)) = absurd stops
 stops_verify holds old new problem solution fixings (NoProblem refusal) (inr (read, file, stops)) = absurd stops
 stops_verify holds old new problem solution fixings Choices (inr (read, file, stops)) = absurd stops
@@ -151,11 +176,6 @@ judged_file_before holds mid problem fixings name answer same h = record {
   file = record { bytes = h.file.bytes; file = file_before holds mid name h.file.bytes (same name) h.file.file; read = h.file.read };
   judged = h.judged;
 }
-
--- so are fixings
-pub fixings_before : (holds mid : Holdings) (problem : Problem) (name : Option (List ℕ)) (fixings : List Fixing) → ((other : List ℕ) → mid other ≡ holds other) → AreFixings mid problem name fixings → AreFixings holds problem name fixings
-fixings_before holds mid problem None fixings same h = h
-fixings_before holds mid problem (Some name) fixings same h = record { told = h.told; lines = lines_before holds mid name h.told (same name) h.lines; taken = h.taken; edition = h.edition }
 
 -- one reading
 pub reads_of_one : (one : List ℕ) (old new : Counts) (old_puts new_puts : Counts) (old_holds new_holds : Holdings) (Fault : Type 0) → ReadsOne one old new old_puts new_puts old_holds new_holds Fault
@@ -220,6 +240,7 @@ fails_of_answer words old mid new answer journal is_answer same puttings faults 
   put_is = h.put_is;
   fault = rw (← puttings h.put.name) h.fault;
   nothing = h.nothing ∙ written;
+  counted = h.counted ∙ faults;
 }))
 fails_of_answer words old mid new answer journal is_answer same puttings faults written (inr h) = inr (inr (record {
   answer = answer;
@@ -230,6 +251,29 @@ fails_of_answer words old mid new answer journal is_answer same puttings faults 
   part = rw (← written) h.part;
 }))
 
+-- what a name kept behind the run it kept from the start
+kept_before : (put : Option Put) (old mid new : Holdings) → ((name : List ℕ) → mid name ≡ old name) → PutKeeps put mid new → PutKeeps put old new
+kept_before None old mid new same h = h
+kept_before (Some put) old mid new same h = h ∙ same put.name
+
+-- memory ran out at the putting or the writing of an answer; the run before it changed no file and wrote nothing
+pub gives_up_of_answer : (words : List (List ℕ)) (old mid new : Outside) (answer : Answer) (journal : List Entry) → IsAnswer words old.holds answer → journal ≡ answer.journal
+    → ((name : List ℕ) → mid.holds name ≡ old.holds name) → mid.written ≡ old.written → WriteGivesUp answer mid new ⊎ PutGivesUp answer mid new → GivesUp words old new journal
+gives_up_of_answer words old mid new answer journal is_answer same held written (inl h) = record {
+  text = concat answer.lines;
+  due = inl (record { answer = answer; is_answer = is_answer; text_is = refl; journal_is = same; put = h.put });
+  between = h.writes.between;
+  part = rw (← written) h.writes.part;
+  memory = h.writes.memory;
+}
+gives_up_of_answer words old mid new answer journal is_answer same held written (inr h) = record {
+  text = [];
+  due = inr (inl (record { answer = answer; is_answer = is_answer; text_is = refl; journal_is = same; kept = kept_before answer.put old.holds mid.holds new.holds held h.kept }));
+  between = h.writes.between;
+  part = rw (← written) h.writes.part;
+  memory = h.writes.memory;
+}
+
 not_two : ◌≡◌ {A = ℕ} 2 4 → ⊥
 not_two e = cc
 
@@ -238,8 +282,8 @@ not_five e = cc
 
 -- of the causes a reading's fault alone has the status 4
 pub fails_of_stop : (words : List (List ℕ)) (old new : Outside) (cause : Cause) (journal : List Entry) (status : ℕ) → Stops words old.holds old.reading new.reading cause
-    → Halts old.faults new.faults old.written new.written cause status → journal ≡ [] → status ≡ 4 → Fails words old new journal
-fails_of_stop words old new cause journal status stops halts none is = go cause stops halts halts.statuses
+    → Halts old.faults new.faults old.written new.written cause status → PutsNothing old new → journal ≡ [] → status ≡ 4 → Fails words old new journal
+fails_of_stop words old new cause journal status stops halts puts none is = go cause stops halts halts.statuses
   where
     two : (status ≡ 2) ⊎ (status ≡ 5) → Fails words old new journal
     two (inl e) = absurd (not_two (sym e ∙ is))
@@ -253,6 +297,7 @@ fails_of_stop words old new cause journal status stops halts none is = go cause 
       journal_is = none;
       part = halts.part (λ five. not_five (sym five ∙ is));
       whole = halts.whole (λ five. not_five (sym five ∙ is));
+      puts = puts;
     })
     go (Words text) stops halts e = two e
     go (TooLong which) stops halts e = two e

@@ -2,10 +2,13 @@
 use Rattle.std.specs.Prelude.{◌≡◌, ◌≢◌, ◌⊎◌, ℕ, ◌<◌, ◌≤◌, List, [], ◌++◌, codes, Option, Some, None, IfSome}
 use Rattle.disp_model.specs.declared.problem.Problem.{Problem}
 use Rattle.displib_reader.specs.declared.fault.ProblemNo.{ProblemNo}
+use Rattle.displib_reader.specs.declared.fault.ProblemNo.TheVariants as problem_no
 use Rattle.displib_reader.specs.Outcome.{IsReadAs, IsRefused}
 use Rattle.displib_reader.specs.Why.{why_text}
 use Rattle.solution_text.specs.Why as solution
 use Rattle.solution_text.specs.Reading as reading
+use Rattle.solution_text.specs.declared.fault.SolutionNo.{SolutionNo}
+use Rattle.solution_text.specs.declared.fault.SolutionNo.TheVariants as solution_no
 use Rattle.single_routes.specs.Choices.{HasChoices}
 use Rattle.std.specs.Fmt.{decimal}
 use Rattle.fixing_lines.specs.Entries.{refusal_text}
@@ -21,7 +24,7 @@ use Rattle.dispatch_cli.specs.declared.cause.Input.{Input}
 use Rattle.dispatch_cli.specs.declared.cause.Input.TheVariants as input
 use Rattle.dispatch_cli.specs.Outside.{Holdings, Counts, IsFile, HoldsTooMuch}
 use Rattle.dispatch_cli.specs.Texts.{line}
-use Rattle.dispatch_cli.specs.Files.{IsProblemFile, IsRefusedLine}
+use Rattle.dispatch_cli.specs.Files.{IsProblemFile, HasFixings, IsRefusedLine}
 
 -- ---- what is printed
 
@@ -97,23 +100,51 @@ pub record IsReadWithChoices (bytes : List ℕ) : Type 0 where
   pub read : IsReadAs bytes problem
   pub choices : HasChoices problem
 
--- the task gives names for a problem and for fixings, and the line of the fixings' file is not taken
+-- the bytes are refused as a problem for this, which is no want of memory
+abbrev pub IsNoProblem : List ℕ → ProblemNo → Type 0
+IsNoProblem bytes refusal = IsRefused bytes refusal × (refusal ≢ problem_no.Memory)
+
+-- so they are as a solution
+abbrev pub IsNoSolution : List ℕ → SolutionNo → Type 0
+IsNoSolution bytes refusal = reading.IsRefused bytes refusal × (refusal ≢ solution_no.Memory)
+
+-- the task gives a name for a problem, and its file is that of this problem
+pub record TakesProblem (holds : Holdings) (task : Task) (problem : Problem) : Type 0 where
+  pub name : List ℕ
+  pub named : name_in task input.Problem ≡ Some name
+  pub file : IsProblemFile holds name problem
+
+-- the files that are read before that of an input are taken
+abbrev pub ComesTo : Holdings → Task → Input → Type 0
+ComesTo holds task input.Problem = Unit {0}
+ComesTo holds task input.Fixings = (problem : Problem) × TakesProblem holds task problem
+ComesTo holds task input.Solution = (problem : Problem) × TakesProblem holds task problem × HasFixings holds problem (name_in task input.Fixings)
+
+-- the task gives a name for the input, and a reading of it failed
+abbrev pub FailsToRead : Counts → Counts → Task → Input → Type 0
+FailsToRead old new task which = (name : List ℕ) × (name_in task which ≡ Some name) × (old name < new name)
+
+-- the task gives a name for the input, and its file is too long to be read at once; fixings are read line by line
+abbrev pub IsTooLong : Holdings → Task → Input → Type 0
+IsTooLong holds task input.Problem = (name : List ℕ) × (name_in task input.Problem ≡ Some name) × HoldsTooMuch holds name
+IsTooLong holds task input.Solution = (name : List ℕ) × (name_in task input.Solution ≡ Some name) × HoldsTooMuch holds name
+IsTooLong holds task input.Fixings = ⊥
+
+-- the task gives a name for fixings, and a line of their file is not taken for the problem
 pub record HasBadLine (holds : Holdings) (task : Task) (number : ℕ) (why : LineNo) : Type 0 where
-  pub problem_name : List ℕ
-  pub problem_named : name_in task input.Problem ≡ Some problem_name
   pub problem : Problem
-  pub problem_file : IsProblemFile holds problem_name problem
+  pub takes : TakesProblem holds task problem
   pub name : List ℕ
   pub named : name_in task input.Fixings ≡ Some name
   pub refused : IsRefusedLine holds problem name number why
 
--- what stopped a task has happened
+-- what stopped a task has happened, and the files before it are taken
 abbrev pub StopsTask : Holdings → Counts → Counts → Task → Cause → Type 0
 StopsTask holds old new task (Words text) = ⊥
-StopsTask holds old new task (Failed which) = (name : List ℕ) × (name_in task which ≡ Some name) × (old name < new name)
-StopsTask holds old new task (TooLong which) = (name : List ℕ) × (name_in task which ≡ Some name) × HoldsTooMuch holds name
-StopsTask holds old new task (NoProblem refusal) = IsBadInput holds task input.Problem (λ bytes. IsRefused bytes refusal)
-StopsTask holds old new task (NoSolution refusal) = IsBadInput holds task input.Solution (λ bytes. reading.IsRefused bytes refusal)
+StopsTask holds old new task (Failed which) = ComesTo holds task which × FailsToRead old new task which
+StopsTask holds old new task (TooLong which) = ComesTo holds task which × IsTooLong holds task which
+StopsTask holds old new task (NoProblem refusal) = IsBadInput holds task input.Problem (λ bytes. IsNoProblem bytes refusal)
+StopsTask holds old new task (NoSolution refusal) = ComesTo holds task input.Solution × IsBadInput holds task input.Solution (λ bytes. IsNoSolution bytes refusal)
 StopsTask holds old new task (BadLine number why) = HasBadLine holds task number why
 StopsTask holds old new task Choices = IsBadInput holds task input.Problem IsReadWithChoices
 StopsTask holds old new task Memory = Unit {0}
@@ -162,13 +193,13 @@ RefusesWords words _ = ⊥
 
 -- why bytes are no problem
 abbrev pub RefusesProblem : List ℕ → Cause → Type 0
-RefusesProblem bytes (NoProblem refusal) = IsRefused bytes refusal
+RefusesProblem bytes (NoProblem refusal) = IsNoProblem bytes refusal
 RefusesProblem bytes Memory = Unit {0}
 RefusesProblem bytes _ = ⊥
 
 -- why bytes are no solution
 abbrev pub RefusesSolution : List ℕ → Cause → Type 0
-RefusesSolution bytes (NoSolution refusal) = reading.IsRefused bytes refusal
+RefusesSolution bytes (NoSolution refusal) = IsNoSolution bytes refusal
 RefusesSolution bytes Memory = Unit {0}
 RefusesSolution bytes _ = ⊥
 
@@ -176,7 +207,7 @@ RefusesSolution bytes _ = ⊥
 abbrev pub StopsProblem : Holdings → Counts → Counts → List ℕ → Cause → Type 0
 StopsProblem holds old new name (Failed which) = (which ≡ input.Problem) × (old name < new name)
 StopsProblem holds old new name (TooLong which) = (which ≡ input.Problem) × HoldsTooMuch holds name
-StopsProblem holds old new name (NoProblem refusal) = IsBadFile holds name (λ bytes. IsRefused bytes refusal)
+StopsProblem holds old new name (NoProblem refusal) = IsBadFile holds name (λ bytes. IsNoProblem bytes refusal)
 StopsProblem holds old new name Memory = Unit {0}
 StopsProblem holds old new name _ = ⊥
 
@@ -184,7 +215,7 @@ StopsProblem holds old new name _ = ⊥
 abbrev pub StopsSolution : Holdings → Counts → Counts → List ℕ → Cause → Type 0
 StopsSolution holds old new name (Failed which) = (which ≡ input.Solution) × (old name < new name)
 StopsSolution holds old new name (TooLong which) = (which ≡ input.Solution) × HoldsTooMuch holds name
-StopsSolution holds old new name (NoSolution refusal) = IsBadFile holds name (λ bytes. reading.IsRefused bytes refusal)
+StopsSolution holds old new name (NoSolution refusal) = IsBadFile holds name (λ bytes. IsNoSolution bytes refusal)
 StopsSolution holds old new name Memory = Unit {0}
 StopsSolution holds old new name _ = ⊥
 
@@ -193,7 +224,7 @@ abbrev pub StopsSolve : Holdings → Counts → Counts → List ℕ → Cause �
 StopsSolve holds old new name (Words text) = ⊥
 StopsSolve holds old new name (Failed which) = (which ≡ input.Problem) × (old name < new name)
 StopsSolve holds old new name (TooLong which) = (which ≡ input.Problem) × HoldsTooMuch holds name
-StopsSolve holds old new name (NoProblem refusal) = IsBadFile holds name (λ bytes. IsRefused bytes refusal)
+StopsSolve holds old new name (NoProblem refusal) = IsBadFile holds name (λ bytes. IsNoProblem bytes refusal)
 StopsSolve holds old new name (NoSolution refusal) = ⊥
 StopsSolve holds old new name (BadLine number why) = ⊥
 StopsSolve holds old new name Choices = IsBadFile holds name IsReadWithChoices
@@ -206,19 +237,19 @@ StopsFixings holds old new problem name (BadLine number why) = IsRefusedLine hol
 StopsFixings holds old new problem name Memory = Unit {0}
 StopsFixings holds old new problem name _ = ⊥
 
--- a reading of the file of the fixings or of the solution failed
-abbrev pub FailsOf : Counts → Counts → Option (List ℕ) → List ℕ → Input → Type 0
-FailsOf old new fixings solution input.Problem = ⊥
-FailsOf old new fixings solution input.Fixings = (name : List ℕ) × (fixings ≡ Some name) × (old name < new name)
-FailsOf old new fixings solution input.Solution = old solution < new solution
+-- a reading of the file of the fixings failed, or behind them one of the solution's
+abbrev pub FailsOf : Holdings → Counts → Counts → Problem → Option (List ℕ) → List ℕ → Input → Type 0
+FailsOf holds old new problem fixings solution input.Problem = ⊥
+FailsOf holds old new problem fixings solution input.Fixings = (name : List ℕ) × (fixings ≡ Some name) × (old name < new name)
+FailsOf holds old new problem fixings solution input.Solution = HasFixings holds problem fixings × (old solution < new solution)
 
 -- why a solution is not judged for a problem
 abbrev pub StopsJudging : Holdings → Counts → Counts → Problem → Option (List ℕ) → List ℕ → Cause → Type 0
 StopsJudging holds old new problem fixings solution (Words text) = ⊥
-StopsJudging holds old new problem fixings solution (Failed which) = FailsOf old new fixings solution which
-StopsJudging holds old new problem fixings solution (TooLong which) = (which ≡ input.Solution) × HoldsTooMuch holds solution
+StopsJudging holds old new problem fixings solution (Failed which) = FailsOf holds old new problem fixings solution which
+StopsJudging holds old new problem fixings solution (TooLong which) = (which ≡ input.Solution) × HasFixings holds problem fixings × HoldsTooMuch holds solution
 StopsJudging holds old new problem fixings solution (NoProblem refusal) = ⊥
-StopsJudging holds old new problem fixings solution (NoSolution refusal) = IsBadFile holds solution (λ bytes. reading.IsRefused bytes refusal)
+StopsJudging holds old new problem fixings solution (NoSolution refusal) = HasFixings holds problem fixings × IsBadFile holds solution (λ bytes. IsNoSolution bytes refusal)
 StopsJudging holds old new problem fixings solution (BadLine number why) = (name : List ℕ) × (fixings ≡ Some name) × IsRefusedLine holds problem name number why
 StopsJudging holds old new problem fixings solution Choices = ⊥
 StopsJudging holds old new problem fixings solution Memory = Unit {0}

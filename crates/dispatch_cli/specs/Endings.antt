@@ -21,6 +21,11 @@ pub record Answers (words : List (List ℕ)) (old new : Outside) (status : ℕ) 
   pub written : Writes old.written new.written (concat answer.lines)
   pub put : IsPut answer.put new.holds
 
+-- every name holds what it held, and no putting failed
+pub record PutsNothing (old new : Outside) : Type 0 where
+  pub held : (name : List ℕ) → new.holds name ≡ old.holds name
+  pub counts : (name : List ℕ) → new.putting name ≡ old.putting name
+
 -- status 2: the words or a file were refused, and the line for it was written, or some of it where a write failed
 pub record Refuses (words : List (List ℕ)) (old new : Outside) (journal : List Entry) : Type 0 where
   pub cause : Cause
@@ -29,6 +34,7 @@ pub record Refuses (words : List (List ℕ)) (old new : Outside) (journal : List
   pub journal_is : journal ≡ []
   pub part : WritesPart old.written new.written (line_of cause)
   pub whole : new.faults ≡ old.faults → Writes old.written new.written (line_of cause)
+  pub puts : PutsNothing old new
 
 -- a named file could not be read, and the line for it was written, or some of it where a write failed
 pub record CannotRead (words : List (List ℕ)) (old new : Outside) (journal : List Entry) : Type 0 where
@@ -37,6 +43,7 @@ pub record CannotRead (words : List (List ℕ)) (old new : Outside) (journal : L
   pub journal_is : journal ≡ []
   pub part : WritesPart old.written new.written (line_of (Failed which))
   pub whole : new.faults ≡ old.faults → Writes old.written new.written (line_of (Failed which))
+  pub puts : PutsNothing old new
 
 -- the plan could not be put, and nothing was written
 pub record CannotPut (words : List (List ℕ)) (old new : Outside) (journal : List Entry) : Type 0 where
@@ -47,6 +54,7 @@ pub record CannotPut (words : List (List ℕ)) (old new : Outside) (journal : Li
   pub put_is : answer.put ≡ Some put
   pub fault : old.putting put.name < new.putting put.name
   pub nothing : new.written ≡ old.written
+  pub counted : new.faults ≡ old.faults
 
 -- what was to be put is held, and a write of the lines failed
 pub record CannotWrite (words : List (List ℕ)) (old new : Outside) (journal : List Entry) : Type 0 where
@@ -61,12 +69,38 @@ pub record CannotWrite (words : List (List ℕ)) (old new : Outside) (journal : 
 abbrev pub Fails : List (List ℕ) → Outside → Outside → List Entry → Type 0
 Fails words old new journal = CannotRead words old new journal ⊎ (CannotPut words old new journal ⊎ CannotWrite words old new journal)
 
--- what would have been written: the lines of an answer, the line for what stopped the run, or nothing where that was want
--- of memory; and the journal that goes with it
+-- there is something to put, and its name holds what it held
+abbrev pub PutKeeps : Option Put → Holdings → Holdings → Type 0
+PutKeeps None old new = ⊥
+PutKeeps (Some put) old new = new put.name ≡ old put.name
+
+-- the lines of an answer are due, and what was to be put is held
+pub record IsDueAnswer (words : List (List ℕ)) (old new : Outside) (text : List ℕ) (journal : List Entry) : Type 0 where
+  pub answer : Answer
+  pub is_answer : IsAnswer words old.holds answer
+  pub text_is : text ≡ concat answer.lines
+  pub journal_is : journal ≡ answer.journal
+  pub put : IsPut answer.put new.holds
+
+-- nothing is due, since what was to be put of an answer is not, and its name holds what it held
+pub record IsDueUnput (words : List (List ℕ)) (old new : Outside) (text : List ℕ) (journal : List Entry) : Type 0 where
+  pub answer : Answer
+  pub is_answer : IsAnswer words old.holds answer
+  pub text_is : text ≡ []
+  pub journal_is : journal ≡ answer.journal
+  pub kept : PutKeeps answer.put old.holds new.holds
+
+-- the line for what stopped the run is due, or nothing where that was want of memory
+pub record IsDueCause (words : List (List ℕ)) (old new : Outside) (text : List ℕ) (journal : List Entry) : Type 0 where
+  pub cause : Cause
+  pub stops : Stops words old.holds old.reading new.reading cause
+  pub text_is : text ≡ due_line cause
+  pub journal_is : journal ≡ []
+  pub puts : PutsNothing old new
+
+-- what would have been written, and the journal that goes with it
 abbrev pub IsDue : List (List ℕ) → Outside → Outside → List ℕ → List Entry → Type 0
-IsDue words old new text journal =
-    ((answer : Answer) × IsAnswer words old.holds answer × (text ≡ concat answer.lines) × (journal ≡ answer.journal))
-    ⊎ ((cause : Cause) × Stops words old.holds old.reading new.reading cause × (text ≡ due_line cause) × (journal ≡ []))
+IsDue words old new text journal = IsDueAnswer words old new text journal ⊎ (IsDueUnput words old new text journal ⊎ IsDueCause words old new text journal)
 
 -- status 5: some of what would have been written went out, and behind it some of the line for want of memory, once
 pub record GivesUp (words : List (List ℕ)) (old new : Outside) (journal : List Entry) : Type 0 where
@@ -119,6 +153,16 @@ pub record WriteFails (answer : Answer) (old new : Outside) : Type 0 where
   pub fault : old.faults < new.faults
   pub part : WritesPart old.written new.written (concat answer.lines)
 
+-- what was to be put is held, and memory ran out
+pub record WriteGivesUp (answer : Answer) (old new : Outside) : Type 0 where
+  pub put : IsPut answer.put new.holds
+  pub writes : WritesThenGivesUp old.written new.written (concat answer.lines)
+
+-- memory ran out at the putting
+pub record PutGivesUp (answer : Answer) (old new : Outside) : Type 0 where
+  pub kept : PutKeeps answer.put old.holds new.holds
+  pub writes : WritesThenGivesUp old.written new.written []
+
 -- how the putting and the writing of an answer end
 pub record Publishes (answer : Answer) (old new : Outside) (status : ℕ) : Type 0 where
   pub counted : old.faults ≤ new.faults
@@ -127,7 +171,7 @@ pub record Publishes (answer : Answer) (old new : Outside) (status : ℕ) : Type
   pub put : status ≢ 4 → status ≢ 5 → IsPut answer.put new.holds
   pub quiet : status ≢ 4 → status ≢ 5 → new.faults ≡ old.faults
   pub failed : status ≡ 4 → PutFails answer old new ⊎ WriteFails answer old new
-  pub memory : status ≡ 5 → WritesThenGivesUp old.written new.written (concat answer.lines)
+  pub memory : status ≡ 5 → WriteGivesUp answer old new ⊎ PutGivesUp answer old new
 
 -- a name of which nothing is put keeps its count of failed puttings, and what it holds; its count never falls, and rises
 -- only where a putting failed

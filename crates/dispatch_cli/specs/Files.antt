@@ -35,6 +35,10 @@ abbrev pub AreFixings : Holdings → Problem → Option (List ℕ) → List Fixi
 AreFixings holds problem None fixings = fixings ≡ []
 AreFixings holds problem (Some name) fixings = IsFixingsFile holds problem name fixings
 
+-- so some fixings are
+abbrev pub HasFixings : Holdings → Problem → Option (List ℕ) → Type 0
+HasFixings holds problem name = (fixings : List Fixing) × AreFixings holds problem name fixings
+
 -- a line of a name's file is not taken, where the lines are told
 pub record IsRefusedLine (holds : Holdings) (problem : Problem) (name : List ℕ) (number : ℕ) (reason : LineNo) : Type 0 where
   pub told : Option (List (List ℕ))

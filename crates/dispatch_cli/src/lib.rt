@@ -20,6 +20,3 @@ pub use answer::{Answer, Put};
 pub use cause::{Cause, Input};
 pub use done::Done;
 pub use program::dispatch;
-
-#[cfg(test)]
-mod tests;

@@ -2,7 +2,7 @@ ghost use Rattle.std.specs.Prelude.{◌≡◌, ◌≢◌, ◌≤◌, ◌<◌, �
 ghost use Rattle.dispatch_cli.specs.Outside.{outside};
 ghost use Rattle.dispatch_cli.specs.Answers.{IsPut, IsDuePut};
 ghost use Rattle.dispatch_cli.specs.Causes.{CountsReading, IsAnswerStatus};
-ghost use Rattle.dispatch_cli.specs.Endings.{Answers, Refuses, Fails, GivesUp, CountsPutting, Publishes, PutsOnly, PutMisses};
+ghost use Rattle.dispatch_cli.specs.Endings.{Answers, Refuses, Fails, GivesUp, CountsPutting, Publishes, PutsOnly, PutMisses, PutKeeps};
 
 use crate::answer::{Answer, Put};
 use crate::done::Done;
@@ -15,6 +15,7 @@ use std::alloc::Global;
 fn put<S: Shelf>(alloc: Global, shelf: &mut S, put: Option<&Put>) -> Result<(), PutNo>
     ensures ok { IsOk result → IsPut (option_map (λ p. p.now) put.entry) (S.holds shelf.new) }
     ensures failed { IsErrOf result PutNo.Failed → PutMisses (option_map (λ p. p.now) put.entry) (S.putting_faults shelf.old) (S.putting_faults shelf.new) }
+    ensures memory { IsErrOf result PutNo.Memory → PutKeeps (option_map (λ p. p.now) put.entry) (S.holds shelf.old) (S.holds shelf.new) }
     ensures risen { (name : List ℕ) → S.putting_faults shelf.old name < S.putting_faults shelf.new name → IsErrOf result PutNo.Failed }
     ensures others { (name : List ℕ) → PutsOnly (option_map (λ p. p.now) put.entry) (S.holds shelf.old) (S.holds shelf.new) (S.putting_faults shelf.old) (S.putting_faults shelf.new) name }
     ensures readings { (name : List ℕ) → S.reading_faults shelf.new name ≡ S.reading_faults shelf.old name }

@@ -25,11 +25,14 @@ returns-in-Ok-clause-ok g c =
 pub returns-in-Ok-clause-no : goal.returns-in-Ok-clause-no
 returns-in-Ok-clause-no g c =
     let holds = g.S.Shelf.holds c.args.shelf.now in
+    let taken : IsFixingsTaken holds c.args.problem.now c.args.name.now c.in-Ok.editions.problem c.in-Ok.editions.fixings = rw (← c.as_str.ensures) c.in-Ok.ensures.ok in
+    let edition : IsEdition c.args.problem.now c.in-Ok.editions.fixings = rw (← taken.same) c.fixings.ensures.edition in
     let mid_holds = g.S.Shelf.holds c.fixings_file.new.shelf in
     let old = g.S.Shelf.reading_faults c.args.shelf.now in
     let mid = g.S.Shelf.reading_faults c.fixings_file.new.shelf in
     let new = g.S.Shelf.reading_faults c.judge_file.new.shelf in
-    IfErr-weaker c.judge_file.result _ _ (λ cause h. stops_solution holds mid_holds old mid new c.args.problem.now (Some c.args.name.now) c.args.solution.now cause c.in-Ok.ensures.reads.held
+    IfErr-weaker c.judge_file.result _ _ (λ cause h. stops_solution holds mid_holds old mid new c.args.problem.now (Some c.args.name.now) c.args.solution.now cause
+    (c.in-Ok.editions.fixings, record { told = taken.told; lines = taken.lines; taken = taken.taken; edition = edition }) c.in-Ok.ensures.reads.held
     (never_falls c.as_str.result.now old mid c.in-Ok.ensures.reads.counted c.in-Ok.ensures.reads.others) h) c.judge_file.ensures.no
 
 pub returns-in-Ok-clause-reads : goal.returns-in-Ok-clause-reads

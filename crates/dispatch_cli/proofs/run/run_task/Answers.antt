@@ -1,6 +1,6 @@
 use Rattle.std.proofs.Common.{option_map}
 use Rattle.std.proofs.lemmas.Result.{IfErr-weaker}
-use Rattle.dispatch_cli.proofs.Stopped.{counts_of_one, counts_of_three, stops_verify}
+use Rattle.dispatch_cli.proofs.Stopped.{counts_of_one, counts_of_three, stops_solve, stops_verify}
 use Rattle.dispatch_cli.proofs.run.run_task.Goals as goal
 
 pub returns-in-Solve-clause-counts : goal.returns-in-Solve-clause-counts
@@ -15,3 +15,10 @@ returns-in-Verify-clause-no g c =
     let old = g.S.Shelf.reading_faults c.args.shelf.now in
     let new = g.S.Shelf.reading_faults c.run_verify.new.shelf in
     rw c.in-Verify.is (rw (← c.as_ref-in-Verify.ensures.value) (IfErr-weaker c.run_verify.result _ _ (λ cause h. stops_verify holds old new c.in-Verify.problem c.in-Verify.solution _ cause h) c.run_verify.ensures.no))
+
+pub returns-in-Solve-clause-no : goal.returns-in-Solve-clause-no
+returns-in-Solve-clause-no g c =
+    let holds = g.S.Shelf.holds c.args.shelf.now in
+    let old = g.S.Shelf.reading_faults c.args.shelf.now in
+    let new = g.S.Shelf.reading_faults c.run_solve.new.shelf in
+    rw c.in-Solve.is (IfErr-weaker c.run_solve.result _ _ (λ cause h. stops_solve holds old new c.in-Solve.problem c.in-Solve.budget _ cause h) c.run_solve.ensures.no)

@@ -1,5 +1,4 @@
 mod answers;
 mod doubles;
 mod faults;
-mod fixed;
-mod judged;
+mod refusals;

@@ -1,8 +1,9 @@
 // What is printed where the outside fails, and the status.
-use super::doubles::{FullShelf, LongShelf, words_of};
-use crate::{Done, dispatch};
+use super::doubles::{FullShelf, LongShelf};
 use disp_outside::{BrokenWrite, MemShelf, MemSink, OpenGate, Shelf, SteadySink};
+use dispatch_cli::{Done, dispatch};
 use std::test::Fail;
+use word_lists::words_of;
 
 const PROBLEM: &str =
     r#"{"trains":[[{"min_duration":5,"successors":[1]},{}]],"objective":[{"type":"op_delay","train":0,"operation":1,"threshold":3,"coeff":2,"increment":1}]}"#;

@@ -1,10 +1,10 @@
 // What `verify` prints of solutions.
-use super::doubles::words_of;
-use crate::dispatch;
 use disp_outside::{MemShelf, OpenGate, SteadyShelf, SteadySink};
+use dispatch_cli::dispatch;
 use std::alloc::Global;
 use std::process::Abort;
 use std::test::Fail;
+use word_lists::words_of;
 
 // Two trains that share r: one holds it for 10, the other for 4. Each costs the start of its second operation.
 pub(crate) const TWO: &str =

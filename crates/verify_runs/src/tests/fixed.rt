@@ -1,10 +1,10 @@
 // What `verify` prints where the plan is to meet fixings.
-use super::doubles::words_of;
 use super::judged::{SECOND, TWO};
-use crate::dispatch;
 use disp_outside::{MemShelf, OpenGate, SteadySink};
+use dispatch_cli::dispatch;
 use std::process::Abort;
 use std::test::Fail;
+use word_lists::words_of;
 
 // The solution of cost 18 is judged so with a file of fixings.
 fn row(

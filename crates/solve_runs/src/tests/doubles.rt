@@ -1,17 +1,9 @@
 // A run on files in memory, and shelves that always refuse.
-use crate::dispatch;
 use disp_outside::{FeedNo, FetchNo, OpenGate, PutNo, Shelf, SteadyFeed, SteadyShelf, SteadySink};
+use dispatch_cli::dispatch;
 use std::alloc::Global;
 use std::test::Fail;
-
-// The words as the program gets them.
-pub(crate) fn words_of(alloc: Global, words: &[&str]) -> Result<Vec<String>, Fail> {
-    let mut list = Vec::new(alloc);
-    for word in words {
-        list.push(String::from_str(alloc, word)?)?;
-    }
-    Ok(list)
-}
+use word_lists::words_of;
 
 // The status of `solve p` where p holds these bytes, and what was written.
 pub(crate) fn solve(rt: &HostRuntime, bytes: &[u8]) -> Result<(u8, Vec<u8>), Fail> {

@@ -1,0 +1,2 @@
+mod fixed;
+mod judged;
