@@ -8,7 +8,7 @@ use Rattle.fixing_files.specs.declared.take.LineNo.{LineNo}
 use Rattle.fixing_files.specs.declared.take.LineNo.TheVariants as why
 use Rattle.fixing_files.specs.declared.take.FileNo.{FileNo}
 use Rattle.fixing_files.specs.declared.take.FileNo.TheVariants.{Line, Failed, Memory}
-use Rattle.fixing_files.specs.Files.{Takes, TakesAll, TakesFirst, IsAt, Stops, StopsBy, StopsAt, StopsFirst, RefusesNext, RefusesEnd, Refuses}
+use Rattle.fixing_files.specs.Files.{Takes, TakesAll, TakesFirst, IsAt, Stops, StopsBy, StopsAt, StopsFirst, HasFirst, LeavesAt, LeavesFront, Leaves, RefusesNext, RefusesEnd, Refuses}
 
 -- one more line
 pub takes_more : (problem : Problem) (old mid new : List Fixing) (k : ℕ) (lines : List (List ℕ)) (line : List ℕ) (rest : List (List ℕ)) → drop k lines ≡ line ∷ rest
@@ -75,32 +75,75 @@ at_end problem (Some lines) now k old new (left, all) none same =
     let empty : drop k lines ≡ [] = subst (λ (n : Option (List (List ℕ))). IfSome n (λ ls. ls ≡ [])) left none in
     rw same (subst (λ (ls : List (List ℕ)). TakesAll problem [] ls old) (all_taken k lines empty) all)
 
+-- where none is left there are no more lines than were taken
+pub at_few : (problem : Problem) (told now : Option (List (List ℕ))) (k most : ℕ) (fixings : List Fixing) → IsAt problem told now k fixings → IfSome now (λ lines. lines ≡ []) → k ≤ most → IfSome told (λ lines. length lines ≤ most)
+at_few problem None now k most fixings at none le = tt
+at_few problem (Some lines) now k most fixings (left, all) none le =
+    let empty : drop k lines ≡ [] = subst (λ (n : Option (List (List ℕ))). IfSome n (λ ls. ls ≡ [])) left none in
+    omega (arith, le, few k lines empty)
+  where
+    few : (k : ℕ) (lines : List (List ℕ)) → drop k lines ≡ [] → length lines ≤ k
+    few zero [] e = omega arith
+    few zero (x ∷ xs) e = cc
+    few (suc k) [] e = omega arith
+    few (suc k) (x ∷ xs) e = omega (arith, few k xs e)
+
 -- the line that is not taken is the next one
-pub at_stop : (problem : Problem) (told now : Option (List (List ℕ))) (k : ℕ) (fixings : List Fixing) (refusal : FileNo) → IsAt problem told now k fixings → RefusesNext problem fixings now (k + 1) refusal → Refuses problem told refusal
-at_stop problem None now k fixings (Line n reason) at stops = tt
-at_stop problem told now k fixings Failed at stops = tt
-at_stop problem told now k fixings Memory at stops = tt
-at_stop problem (Some lines) now k fixings (Line n reason) (left, all) (number, stops) =
-    go (drop k lines) refl (subst (λ (m : Option (List (List ℕ))). IfSome m (λ ls. StopsFirst problem fixings ls reason)) left stops)
+pub at_stop : (problem : Problem) (told now left : Option (List (List ℕ))) (k : ℕ) (fixings : List Fixing) (refusal : FileNo) → k < MOST_LINES → IsAt problem told now k fixings → RefusesNext problem fixings now left (k + 1) refusal → Refuses problem told refusal
+at_stop problem None now left k fixings (Line n reason) lt at stops = tt
+at_stop problem told now left k fixings Failed lt at stops = tt
+at_stop problem told now left k fixings Memory lt at stops = tt
+at_stop problem (Some lines) now left k fixings (Line n reason) lt (at, all) (number, stops) =
+    go (drop k lines) refl (subst (λ (m : Option (List (List ℕ))). IfSome m (λ ls. StopsFirst problem fixings ls left reason)) at stops)
   where
     by : (reason : LineNo) (line : List ℕ) → slice_get lines k ≡ Some line → Stops problem fixings line reason → StopsBy problem fixings lines k reason
-    by why.Unreadable line there stop = (line, there, stop)
-    by why.Long line there stop = (line, there, stop)
-    by (why.Refused refusal) line there stop = (line, there, stop)
+    by why.Unreadable line there stop = (line, lt, there, stop)
+    by why.Long line there stop = (line, lt, there, stop)
+    by (why.Refused refusal) line there stop = (line, lt, there, stop)
     by why.TooMany line there stop = absurd stop
 
-    go : (rest : List (List ℕ)) → drop k lines ≡ rest → StopsFirst problem fixings rest reason → StopsAt problem lines n reason
+    go : (rest : List (List ℕ)) → drop k lines ≡ rest → StopsFirst problem fixings rest left reason → StopsAt problem lines n reason
     go [] e stop = absurd stop
-    go (line ∷ rest) e stop = record { place = k; counted = number; fixings = fixings; before = all; stops = by reason line (stands_at k lines line rest e) stop }
+    go (line ∷ rest) e stop = record { place = k; counted = number; fixings = fixings; before = all; stops = by reason line (stands_at k lines line rest e) stop.0 }
+
+-- the fixings are those of the lines before it, and those behind it are left
+pub leaves_stop : (problem : Problem) (told now left : Option (List (List ℕ))) (k : ℕ) (old new : List Fixing) (refusal : FileNo) → IsAt problem told now k old → new ≡ old → RefusesNext problem old now left (k + 1) refusal
+    → IfSome told (λ lines. Leaves problem lines left new refusal)
+leaves_stop problem None now left k old new refusal at same stops = tt
+leaves_stop problem (Some lines) now left k old new Failed at same stops = record { count = k; front = rw same at.1 }
+leaves_stop problem (Some lines) now left k old new Memory at same stops = record { count = k; front = rw same at.1 }
+leaves_stop problem (Some lines) now left k old new (Line n reason) (at, all) same (number, stops) =
+    go (drop k lines) refl (subst (λ (m : Option (List (List ℕ))). IfSome m (λ ls. StopsFirst problem old ls left reason)) at stops)
+  where
+    go : (rest : List (List ℕ)) → drop k lines ≡ rest → StopsFirst problem old rest left reason → LeavesAt problem lines left new n
+    go [] e stop = absurd stop
+    go (line ∷ rest) e stop = record { place = k; counted = number; before = rw same all; behind = rw number (stop.1 ∙ ap Some (sym (left_after k lines line rest e))) }
 
 -- a line behind as many as are read
-pub at_too_many : (problem : Problem) (told now : Option (List (List ℕ))) (fixings : List Fixing) (refusal : FileNo) → IsAt problem told now MOST_LINES fixings → RefusesEnd now refusal → Refuses problem told refusal
-at_too_many problem None now fixings (Line n reason) at stops = tt
-at_too_many problem told now fixings Failed at stops = tt
-at_too_many problem told now fixings Memory at stops = tt
-at_too_many problem (Some lines) now fixings (Line n reason) (left, all) (number, is, some) =
-    let more : 0 < length (drop MOST_LINES lines) = subst (λ (m : Option (List (List ℕ))). IfSome m (λ ls. 0 < length ls)) left some in
-    record { place = MOST_LINES; counted = number; fixings = fixings; before = all; stops = rw is (refl, some_left MOST_LINES lines more) }
+pub at_too_many : (problem : Problem) (told now left : Option (List (List ℕ))) (fixings : List Fixing) (refusal : FileNo) → IsAt problem told now MOST_LINES fixings → RefusesEnd now left refusal → Refuses problem told refusal
+at_too_many problem None now left fixings (Line n reason) at stops = tt
+at_too_many problem told now left fixings Failed at stops = tt
+at_too_many problem told now left fixings Memory at stops = tt
+at_too_many problem (Some lines) now left fixings (Line n reason) (at, all) (number, is, first) =
+    let more : HasFirst (drop MOST_LINES lines) left = subst (λ (m : Option (List (List ℕ))). IfSome m (λ ls. HasFirst ls left)) at first in
+    record { place = MOST_LINES; counted = number; fixings = fixings; before = all; stops = rw is (refl, some_left MOST_LINES lines (some (drop MOST_LINES lines) more)) }
+  where
+    some : (rest : List (List ℕ)) → HasFirst rest left → 0 < length rest
+    some [] first = absurd first
+    some (line ∷ rest) first = omega arith
+
+-- all lines behind it are left
+pub leaves_too_many : (problem : Problem) (told now left : Option (List (List ℕ))) (fixings : List Fixing) (refusal : FileNo) → IsAt problem told now MOST_LINES fixings → RefusesEnd now left refusal
+    → IfSome told (λ lines. Leaves problem lines left fixings refusal)
+leaves_too_many problem None now left fixings refusal at stops = tt
+leaves_too_many problem (Some lines) now left fixings Failed at stops = record { count = MOST_LINES; front = at.1 }
+leaves_too_many problem (Some lines) now left fixings Memory at stops = absurd stops
+leaves_too_many problem (Some lines) now left fixings (Line n reason) (at, all) (number, is, first) =
+    go (drop MOST_LINES lines) refl (subst (λ (m : Option (List (List ℕ))). IfSome m (λ ls. HasFirst ls left)) at first)
+  where
+    go : (rest : List (List ℕ)) → drop MOST_LINES lines ≡ rest → HasFirst rest left → LeavesAt problem lines left fixings n
+    go [] e first = absurd first
+    go (line ∷ rest) e first = record { place = MOST_LINES; counted = number; before = all; behind = rw number (first ∙ ap Some (sym (left_after MOST_LINES lines line rest e))) }
 
 -- a number from 1 on, and the lines before it
 pub next_is : (number : ℕ) → 1 ≤ number → (number - 1) + 1 ≡ number

@@ -54,9 +54,9 @@ Stops problem fixings line why.Long = 256 < length (without_end line)
 Stops problem fixings line why.TooMany = ⊥
 Stops problem fixings line (why.Refused refusal) = (length (without_end line) ≤ 256) × StopsText problem fixings (text_of line) (why.Refused refusal)
 
--- there is a line at the place, and it is such
+-- there is a line at the place, among as many as are read, and it is such
 abbrev pub IfSomeLine : List (List ℕ) → ℕ → (List ℕ → Type 0) → Type 0
-IfSomeLine lines place Such = (line : List ℕ) × (slice_get lines place ≡ Some line) × Such line
+IfSomeLine lines place Such = (line : List ℕ) × (place < MOST_LINES) × (slice_get lines place ≡ Some line) × Such line
 
 -- the line at a place is not taken behind these fixings; of one too many only its place tells
 abbrev pub StopsBy : Problem → List Fixing → List (List ℕ) → ℕ → LineNo → Type 0
@@ -79,6 +79,24 @@ Refuses problem told (Line number reason) = IfSome told (λ lines. StopsAt probl
 Refuses problem told Failed = Unit {0}
 Refuses problem told Memory = Unit {0}
 
+-- a feed of these lines was read up to the line of this number and no further, and the fixings are those of the lines before it
+pub record LeavesAt (problem : Problem) (lines : List (List ℕ)) (left : Option (List (List ℕ))) (fixings : List Fixing) (number : ℕ) : Type 0 where
+  pub place : ℕ
+  pub counted : number ≡ place + 1
+  pub before : TakesAll problem [] (take place lines) fixings
+  pub behind : left ≡ Some (drop number lines)
+
+-- the fixings are those of so many first lines
+pub record LeavesFront (problem : Problem) (lines : List (List ℕ)) (fixings : List Fixing) : Type 0 where
+  pub count : ℕ
+  pub front : TakesAll problem [] (take count lines) fixings
+
+-- what is left of a feed of these lines that is not taken, and the fixings then
+abbrev pub Leaves : Problem → List (List ℕ) → Option (List (List ℕ)) → List Fixing → FileNo → Type 0
+Leaves problem lines left fixings (Line number reason) = LeavesAt problem lines left fixings number
+Leaves problem lines left fixings Failed = LeavesFront problem lines fixings
+Leaves problem lines left fixings Memory = LeavesFront problem lines fixings
+
 -- ---- for private clauses
 
 -- why the fixing of the line of this number is not taken
@@ -99,22 +117,27 @@ abbrev pub TakesFirst : Problem → List Fixing → List (List ℕ) → Option (
 TakesFirst problem old [] left new = ⊥
 TakesFirst problem old (line ∷ lines) left new = Takes problem old line new × (left ≡ Some lines)
 
--- the first of the lines is not taken
-abbrev pub StopsFirst : Problem → List Fixing → List (List ℕ) → LineNo → Type 0
-StopsFirst problem fixings [] reason = ⊥
-StopsFirst problem fixings (line ∷ lines) reason = Stops problem fixings line reason
+-- the first of the lines is not taken, and the others are left
+abbrev pub StopsFirst : Problem → List Fixing → List (List ℕ) → Option (List (List ℕ)) → LineNo → Type 0
+StopsFirst problem fixings [] left reason = ⊥
+StopsFirst problem fixings (line ∷ lines) left reason = Stops problem fixings line reason × (left ≡ Some lines)
 
 -- why the next line, of this number, is not taken
-abbrev pub RefusesNext : Problem → List Fixing → Option (List (List ℕ)) → ℕ → FileNo → Type 0
-RefusesNext problem fixings told number (Line n reason) = (n ≡ number) × IfSome told (λ lines. StopsFirst problem fixings lines reason)
-RefusesNext problem fixings told number Failed = Unit {0}
-RefusesNext problem fixings told number Memory = Unit {0}
+abbrev pub RefusesNext : Problem → List Fixing → Option (List (List ℕ)) → Option (List (List ℕ)) → ℕ → FileNo → Type 0
+RefusesNext problem fixings told left number (Line n reason) = (n ≡ number) × IfSome told (λ lines. StopsFirst problem fixings lines left reason)
+RefusesNext problem fixings told left number Failed = Unit {0}
+RefusesNext problem fixings told left number Memory = Unit {0}
+
+-- there is a first line, and the others are left
+abbrev pub HasFirst : List (List ℕ) → Option (List (List ℕ)) → Type 0
+HasFirst [] left = ⊥
+HasFirst (line ∷ lines) left = left ≡ Some lines
 
 -- why the end is not there
-abbrev pub RefusesEnd : Option (List (List ℕ)) → FileNo → Type 0
-RefusesEnd told (Line n reason) = (n ≡ MOST_LINES + 1) × (reason ≡ why.TooMany) × IfSome told (λ lines. 0 < length lines)
-RefusesEnd told Failed = Unit {0}
-RefusesEnd told Memory = Unit {0}
+abbrev pub RefusesEnd : Option (List (List ℕ)) → Option (List (List ℕ)) → FileNo → Type 0
+RefusesEnd told left (Line n reason) = (n ≡ MOST_LINES + 1) × (reason ≡ why.TooMany) × IfSome told (λ lines. HasFirst lines left)
+RefusesEnd told left Failed = Unit {0}
+RefusesEnd told left Memory = ⊥
 
 -- how far reading has come: so many lines are taken, and the others are left
 abbrev pub IsAt : Problem → Option (List (List ℕ)) → Option (List (List ℕ)) → ℕ → List Fixing → Type 0

@@ -5,3 +5,6 @@
 mod take;
 
 pub use take::{FileNo, LineNo, take_fixings};
+
+#[cfg(test)]
+mod tests;

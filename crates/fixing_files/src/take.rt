@@ -1,7 +1,8 @@
-ghost use Rattle.std.specs.Prelude.{◌≡◌, ◌≤◌, ◌<◌, ◌↔◌, [], false, true, Ok, IfErr, IfSome, OnOk, IsErrOf, MatchOption};
+ghost use Rattle.std.specs.Prelude.{◌≡◌, ◌≤◌, ◌<◌, ◌↔◌, [], false, true, length, Ok, IfErr, IfSome, OnOk, OnErr, IsErrOf, MatchOption};
+ghost use Rattle.disp_model.specs.declared.limits.TheConstants.{MOST_LINES};
 ghost use Rattle.disp_model.specs.declared.fixing.Fixing.{Fixing};
 ghost use Rattle.fixing_lines.specs.Requests.{IsAsked};
-ghost use Rattle.fixing_files.specs.Files.{TakesFixing, RefusesFixing, TakesText, RefusesText, TakesFirst, RefusesNext, RefusesEnd, TakesAll, Refuses};
+ghost use Rattle.fixing_files.specs.Files.{TakesFixing, RefusesFixing, TakesText, RefusesText, TakesFirst, RefusesNext, RefusesEnd, TakesAll, Refuses, Leaves};
 
 use disp_model::{Fixing, MOST_LINES, Memory, Refusal, Reply};
 use disp_outside::{Feed, FeedLine, LineBuf};
@@ -57,6 +58,7 @@ fn fixing_of(line: &[u8]) -> Option<Fixing>
 fn ask_for(editions: &mut Editions, fixing: Fixing, number: u64) -> Result<(), FileNo>
     ensures problem { editions.new.problem ≡ editions.old.problem }
     ensures ok { OnOk result (TakesFixing editions.old.problem editions.old.fixings fixing editions.new.fixings) }
+    ensures same { OnErr result (editions.new.fixings ≡ editions.old.fixings) }
     ensures no { IfErr result (RefusesFixing editions.old.problem editions.old.fixings fixing number) }
 {
     match editions.ask(fixing)? {
@@ -70,6 +72,7 @@ fn ask_for(editions: &mut Editions, fixing: Fixing, number: u64) -> Result<(), F
 fn take_line(editions: &mut Editions, line: &[u8], number: u64) -> Result<(), FileNo>
     ensures problem { editions.new.problem ≡ editions.old.problem }
     ensures ok { OnOk result (TakesText editions.old.problem editions.old.fixings line.now editions.new.fixings) }
+    ensures same { OnErr result (editions.new.fixings ≡ editions.old.fixings) }
     ensures no { IfErr result (RefusesText editions.old.problem editions.old.fixings line.now number) }
 {
     match fixing_of(line) {
@@ -90,7 +93,9 @@ fn take_next<F: Feed>(
     ensures given { result ≡ Ok false → IfSome (F.lines feed.old) (λ lines. TakesFirst editions.old.problem editions.old.fixings lines (F.lines feed.new) editions.new.fixings) }
     ensures open { result ≡ Ok false → F.has_ended feed.new ≡ false }
     ensures end { result ≡ Ok true → IfSome (F.lines feed.old) (λ lines. lines ≡ []) × (editions.new.fixings ≡ editions.old.fixings) }
-    ensures no { IfErr result (RefusesNext editions.old.problem editions.old.fixings (F.lines feed.old) number) }
+    ensures ended { result ≡ Ok true → F.has_ended feed.new ≡ true }
+    ensures no { IfErr result (RefusesNext editions.old.problem editions.old.fixings (F.lines feed.old) (F.lines feed.new) number) }
+    ensures same { OnErr result (editions.new.fixings ≡ editions.old.fixings) }
     ensures failed { IsErrOf result FileNo.Failed ↔ (F.faults feed.old < F.faults feed.new) }
     ensures counted { F.faults feed.old ≤ F.faults feed.new }
     ensures name { F.name feed.new ≡ F.name feed.old }
@@ -110,7 +115,8 @@ fn take_next<F: Feed>(
 fn see_end<F: Feed>(feed: &mut F, line: &mut LineBuf) -> Result<(), FileNo>
     requires { F.has_ended feed.old ≡ false }
     ensures ok { OnOk result (IfSome (F.lines feed.old) (λ lines. lines ≡ [])) }
-    ensures no { IfErr result (RefusesEnd (F.lines feed.old)) }
+    ensures ended { OnOk result (F.has_ended feed.new ≡ true) }
+    ensures no { IfErr result (RefusesEnd (F.lines feed.old) (F.lines feed.new)) }
     ensures failed { IsErrOf result FileNo.Failed ↔ (F.faults feed.old < F.faults feed.new) }
     ensures counted { F.faults feed.old ≤ F.faults feed.new }
     ensures name { F.name feed.new ≡ F.name feed.old }
@@ -127,14 +133,18 @@ fn see_end<F: Feed>(feed: &mut F, line: &mut LineBuf) -> Result<(), FileNo>
 /// # Errors
 ///
 /// `Line` with the number of the first line that asks for no fixing (an empty one and `show` too), has more
-/// than 256 bytes, asks for a fixing that is refused, or is the line 1048577, and why; `Failed` exactly where
-/// the feed failed. The fixings then are those of the lines before.
+/// than 256 bytes, asks for a fixing that is refused, or is the line 1048577, and why: the fixings then are
+/// those of the lines before, and no line behind is read. `Failed` exactly where the feed failed; then, and
+/// where memory ran out, the fixings are those of the first so many lines.
 pub fn take_fixings<F: Feed>(feed: &mut F, editions: &mut Editions) -> Result<(), FileNo>
     requires new { editions.old.fixings ≡ [] }
     requires open { F.has_ended feed.old ≡ false }
     ensures problem { editions.new.problem ≡ editions.old.problem }
     ensures ok { OnOk result (IfSome (F.lines feed.old) (λ lines. TakesAll editions.old.problem [] lines editions.new.fixings)) }
+    ensures few { OnOk result (IfSome (F.lines feed.old) (λ lines. length lines ≤ MOST_LINES)) }
+    ensures ended { OnOk result (F.has_ended feed.new ≡ true) }
     ensures no { IfErr result (Refuses editions.old.problem (F.lines feed.old)) }
+    ensures left { IfErr result (λ no. IfSome (F.lines feed.old) (λ lines. Leaves editions.old.problem lines (F.lines feed.new) editions.new.fixings no)) }
 
     // A fault is told exactly where it is counted.
     ensures failed { IsErrOf result FileNo.Failed ↔ (F.faults feed.old < F.faults feed.new) }

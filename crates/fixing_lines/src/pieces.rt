@@ -1,10 +1,11 @@
-ghost use Rattle.std.specs.Prelude.{◌≡◌, ◌++◌, OnOk, codes, string_bytes};
+ghost use Rattle.std.specs.Prelude.{◌≡◌, ◌++◌, IfOk, OnOk, OnErr, codes, string_bytes};
 ghost use Rattle.std.specs.Fmt.{decimal};
 ghost use Rattle.solution_text.specs.Texts.{Adds};
 ghost use Rattle.fixing_lines.specs.Requests.{fixing_text};
 ghost use Rattle.fixing_lines.specs.Entries.{refusal_text, reply_text, unasked_text, mark_text, best_text, standing_text, verdict_text, line_text};
 
 use disp_model::{Fixing, Mark, Memory, Refusal, Reply, Standing, Unasked, Verdict};
+use std::alloc::Global;
 
 /// Adds a text.
 pub(crate) fn push_text(text: &mut String, piece: &str) -> Result<(), Memory>
@@ -41,22 +42,36 @@ pub(crate) fn push_fixing(text: &mut String, fixing: Fixing) -> Result<(), Memor
     Ok(())
 }
 
-/// Adds why a fixing is refused.
-pub fn push_refusal(text: &mut String, refusal: Refusal) -> Result<(), Memory>
-    ensures { OnOk result (Adds (string_bytes text.old) (string_bytes text.new) (refusal_text refusal)) }
+/// Why a fixing is refused.
+fn refusal_text(alloc: Global, refusal: Refusal) -> Result<String, Memory>
+    ensures { IfOk result (λ text. string_bytes text ≡ refusal_text refusal) }
 {
     match refusal {
-        Refusal::NoTrain => write!(text, "NoTrain")?,
-        Refusal::NoOperation => write!(text, "NoOperation")?,
-        Refusal::NoSuccessor => write!(text, "NoSuccessor")?,
-        Refusal::TooLarge => write!(text, "TooLarge")?,
-        Refusal::BelowLower(lower) => write!(text, "BelowLower {lower}")?,
-        Refusal::AboveUpper(upper) => write!(text, "AboveUpper {upper}")?,
-        Refusal::StartedAt(time) => write!(text, "StartedAt {time}")?,
-        Refusal::ChosenIs(next) => write!(text, "ChosenIs {next}")?,
-        Refusal::NoRoute => write!(text, "NoRoute")?,
-        Refusal::Full(most) => write!(text, "Full {most}")?,
+        Refusal::NoTrain => Ok(String::from_str(alloc, "NoTrain")?),
+        Refusal::NoOperation => Ok(String::from_str(alloc, "NoOperation")?),
+        Refusal::NoSuccessor => Ok(String::from_str(alloc, "NoSuccessor")?),
+        Refusal::TooLarge => Ok(String::from_str(alloc, "TooLarge")?),
+        Refusal::BelowLower(lower) => Ok(format!(in alloc; "BelowLower {lower}")?),
+        Refusal::AboveUpper(upper) => Ok(format!(in alloc; "AboveUpper {upper}")?),
+        Refusal::StartedAt(time) => Ok(format!(in alloc; "StartedAt {time}")?),
+        Refusal::ChosenIs(next) => Ok(format!(in alloc; "ChosenIs {next}")?),
+        Refusal::NoRoute => Ok(String::from_str(alloc, "NoRoute")?),
+        Refusal::Full(most) => Ok(format!(in alloc; "Full {most}")?),
     }
+}
+
+/// Adds why a fixing is refused: the name of the variant and its number, as `BelowLower 5`.
+///
+/// # Errors
+///
+/// Where memory runs out the text is as before.
+pub fn push_refusal(text: &mut String, refusal: Refusal) -> Result<(), Memory>
+    ensures ok { OnOk result (Adds (string_bytes text.old) (string_bytes text.new) (refusal_text refusal)) }
+    ensures err { OnErr result (string_bytes text.new ≡ string_bytes text.old) }
+{
+    let alloc = *text.allocator();
+    let piece = refusal_text(alloc, refusal)?;
+    text.push_str(piece.as_str())?;
     Ok(())
 }
 

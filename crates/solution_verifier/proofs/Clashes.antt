@@ -1,7 +1,8 @@
 -- The first clash among events, kept as one event after another is compared with those behind it; and what it says of the plan.
-use Rattle.std.proofs.Common.{◌≡◌, ℕ, ◌+◌, ◌<◌, ◌≤◌, List, Option, Some, None, refl, subst, arith, inl, inr}
-use Rattle.std.specs.Prelude.{MatchOption}
+use Rattle.std.proofs.Common.{◌≡◌, ℕ, zero, suc, ◌+◌, ◌-◌, ◌<◌, ◌≤◌, List, take, get_or, Option, Some, None, refl, sym, subst, ◌∙◌, arith, inl, inr}
+use Rattle.std.specs.Prelude.{MatchOption, slice_get}
 use Rattle.std.proofs.lemmas.Bool.{cases_lt}
+use Rattle.std.proofs.lemmas.Option.{same_Some, slice_get_within, slice_get-get_or}
 use Rattle.disp_model.specs.declared.plan.Event.{Event}
 use Rattle.disp_model.specs.declared.train.Operation.{Operation}
 use Rattle.disp_model.specs.declared.problem.Problem.{Problem}
@@ -12,7 +13,9 @@ use Rattle.solution_verifier.specs.declared.clash.Clash.{Clash}
 use Rattle.solution_verifier.specs.Judged.{IsLast}
 use Rattle.solution_verifier.specs.Held.{IsSound}
 use Rattle.solution_verifier.specs.First.{IsHeld, IsComplete}
-use Rattle.solution_verifier.specs.Answered.{Passes, IsFirstHeldOf, IsLeastClash, IsFirstClash, KeepsRules}
+use Rattle.solution_verifier.specs.Answered.{RisesUntil, Passes, IsFirstHeldOf, IsLeastClash, IsFirstClash, KeepsRules}
+use Rattle.solution_verifier.specs.Rules.{time_rises}
+use Rattle.solution_verifier.proofs.Holding.{take_one_more}
 
 -- each event before a place lets each behind it pass, up to a bound
 abbrev pub PassBefore : Problem → List Event → ℕ → ℕ → Type 0
@@ -35,6 +38,27 @@ least_clash problem plan place limit bound clash within before held = record {
   bounded = omega (arith, held.bounded, within);
   lesser = λ h less. before h clash.event (omega (arith, held.holder_is, less)) (omega (arith, held.clashes.order, less)) held.bounded;
 }
+
+-- times do not fall before the bound, where each event keeps its rules
+rises_by : (problem : Problem) (plan : List Event) (bound : ℕ) → ((k : ℕ) → k < bound → KeepsRules problem plan k) → (n j : ℕ) (e f : Event) → j + n < bound → slice_get plan j ≡ Some e → slice_get plan (j + n) ≡ Some f → e.time ≤ f.time
+rises_by problem plan bound rules zero j e f lt at_j at_k =
+    let same : j + 0 ≡ j = omega arith in
+    let one : e ≡ f = same_Some e f (sym at_j ∙ rw same at at_k) in
+    rw one (omega arith)
+rises_by problem plan bound rules (suc n) j e f lt at_j at_k =
+    let m = j + n in
+    let next : j + suc n ≡ m + 1 = omega arith in
+    let there : slice_get plan (m + 1) ≡ Some f = rw next at at_k in
+    let g = get_or plan m f in
+    let at_m : slice_get plan m ≡ Some g = slice_get-get_or plan m f (omega (arith, slice_get_within plan (m + 1) f there)) in
+    let step : g.time ≤ f.time = rules (m + 1) (omega (arith, lt)) f time_rises there g (take m plan, take_one_more plan m g at_m) in
+    omega (arith, step, rises_by problem plan bound rules n j e g (omega (arith, lt)) at_j at_m)
+
+pub rises_until : (problem : Problem) (plan : List Event) (bound : ℕ) → ((k : ℕ) → k < bound → KeepsRules problem plan k) → RisesUntil plan bound
+rises_until problem plan bound rules j k e f le lt at_j at_k =
+    let steps : j + (k - j) ≡ k = omega (arith, le) in
+    let at : slice_get plan (j + (k - j)) ≡ Some f = rw steps at_k in
+    rises_by problem plan bound rules (k - j) j e f (omega (arith, le, lt)) at_j at
 
 pub sound_at : (problem : Problem) (plan : List Event) (k : ℕ) → KeepsRules problem plan k → ((h : ℕ) → h < k → Passes problem plan h k) → IsSound problem plan k
 sound_at problem plan k rules pass e at = record { rules = λ rule. rules e rule at; free = λ i d less there. pass i less d e there at }

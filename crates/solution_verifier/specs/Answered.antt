@@ -1,5 +1,5 @@
 -- What the steps of judging a plan answer.
-use Rattle.std.specs.Prelude.{◌≡◌, ◌⊎◌, ℕ, ◌<◌, List, length, Some, slice_get, take}
+use Rattle.std.specs.Prelude.{◌≡◌, ◌⊎◌, ℕ, ◌<◌, ◌≤◌, List, length, Some, slice_get, take}
 use Rattle.disp_model.specs.declared.plan.Event.{Event}
 use Rattle.disp_model.specs.declared.train.Listing.{Listing}
 use Rattle.disp_model.specs.declared.problem.Problem.{Problem}
@@ -10,6 +10,10 @@ use Rattle.solution_verifier.specs.Judged.{fault_of}
 use Rattle.solution_verifier.specs.Rules.{Rule, Keeps}
 use Rattle.solution_verifier.specs.Held.{LetsPass, IsHeldBy}
 use Rattle.solution_verifier.specs.First.{Breaks, IsHeld, IsComplete}
+
+-- times do not fall along the events before a bound
+abbrev pub RisesUntil : List Event → ℕ → Type 0
+RisesUntil plan bound = (j k : ℕ) (e f : Event) → j ≤ k → k < bound → slice_get plan j ≡ Some e → slice_get plan k ≡ Some f → e.time ≤ f.time
 
 -- the event at position i lets the event at j pass, where both are there
 abbrev pub Passes : Problem → List Event → ℕ → ℕ → Type 0

@@ -4,7 +4,7 @@ ghost use Rattle.disp_model.specs.declared.train.Listing.{Listing};
 ghost use Rattle.disp_model.specs.Train.{next_of, duration_of};
 ghost use Rattle.disp_model.specs.Valid.{train_at};
 ghost use Rattle.solution_verifier.specs.Held.{HasPassed, ended, listings_at};
-ghost use Rattle.solution_verifier.specs.Answered.{Passes, IsFirstListing, IsFirstHeldOf, IsFirstClash};
+ghost use Rattle.solution_verifier.specs.Answered.{RisesUntil, Passes, IsFirstListing, IsFirstHeldOf, IsFirstClash};
 
 use crate::clash::Clash;
 use crate::event::operation_of;
@@ -38,6 +38,13 @@ fn has_passed(end: Option<u128>, release: u32, time: u64) -> bool
     }
 }
 
+/// Whether the release times of all listings have passed since the end.
+fn all_passed(listings: &[Listing], end: Option<u128>, time: u64) -> bool
+    ensures { IsTrue result ↔ All (λ l. HasPassed end l.release time) listings.now }
+{
+    listings.iter().all(|listing| has_passed(end, listing.release, time))
+}
+
 /// The first resource listed that others list too, at a time when its release time has not passed.
 fn held_resource(
     listings: &[Listing],
@@ -68,10 +75,12 @@ fn own_end(problem: &Problem, event: &Event) -> Option<u128>
     }
 }
 
-/// The first event before a bound that the event at a place holds a resource against.
+/// The first event before a bound that the event at a place holds a resource against. Once all that it
+/// lists is released it holds nothing against any later event.
 fn first_held(problem: &Problem, events: &[Event], place: usize, bound: usize) -> Option<Clash>
     requires place { place < bound }
     requires bound { bound ≤ length events.now }
+    requires order { RisesUntil events.now bound }
     ensures { MatchOption result ((k : ℕ) → place < k → k < bound → Passes problem.now events.now place k) (IsFirstHeldOf problem.now events.now place bound) }
 {
     let holder = events[place];
@@ -79,6 +88,9 @@ fn first_held(problem: &Problem, events: &[Event], place: usize, bound: usize) -
     let mut end = own_end(problem, &holder);
     for later in place + 1..bound {
         let event = events[later];
+        if all_passed(listings, end, event.time) {
+            return None;
+        }
         if event.train == holder.train {
             end = end.or(Some(u128::from(event.time)));
             continue;
@@ -97,7 +109,8 @@ fn first_held(problem: &Problem, events: &[Event], place: usize, bound: usize) -
 
 /// The first event before a bound that an event holds a resource against, and the first that does.
 pub(crate) fn first_clash(problem: &Problem, events: &[Event], bound: usize) -> Option<Clash>
-    requires { bound ≤ length events.now }
+    requires bound { bound ≤ length events.now }
+    requires order { RisesUntil events.now bound }
     ensures { MatchOption result ((h k : ℕ) → h < k → k < bound → Passes problem.now events.now h k) (IsFirstClash problem.now events.now bound) }
 {
     let mut found = None;

@@ -1,4 +1,4 @@
-use crate::write_entry;
+use crate::{push_refusal, write_entry};
 use disp_model::{Entry, Event, Fixing, List, Mark, Refusal, Reply, Standing, Unasked, Verdict};
 use std::alloc::Global;
 use std::process::Abort;
@@ -158,5 +158,20 @@ fn the_other_words_of_the_journal(rt: HostRuntime) -> Result<(), Fail> {
         splits: List::new(alloc),
     };
     expect(&rt, alloc, &grown, "")?;
+    Ok(())
+}
+
+#[test]
+fn a_refusal_is_added_to_a_text(rt: HostRuntime) -> Result<(), Fail> {
+    let alloc = rt.alloc();
+    for (refusal, wanted) in [
+        (Refusal::NoSuccessor, "refused NoSuccessor"),
+        (Refusal::AboveUpper(4), "refused AboveUpper 4"),
+        (Refusal::ChosenIs(2), "refused ChosenIs 2"),
+    ] {
+        let mut text = String::from_str(alloc, "refused ")?;
+        push_refusal(&mut text, refusal)?;
+        assert_eq!(rt; text.as_str(), wanted);
+    }
     Ok(())
 }

@@ -4,11 +4,22 @@ use Rattle.std.specs.Option.{option_or}
 use Rattle.std.proofs.lemmas.Option.{slice_get-get_or}
 use Rattle.disp_model.specs.declared.plan.Event.{Event}
 use Rattle.solution_verifier.specs.Held.{LetsPass, ended_in}
-use Rattle.solution_verifier.proofs.Holding.{ended_own, ended_other, passes_from, passes_more, lets_pass, held_by}
+use Rattle.solution_verifier.proofs.Holding.{ended_own, ended_other, passes_from, passes_more, lets_pass, held_by, all_let_pass}
 use Rattle.solution_verifier.proofs.held.first_held.Goals as goal
 
 abbrev no_event : Event
 no_event = record { time = 0; train = 0; operation = 0 }
+
+pub returns-then-all_passed : goal.returns-then-all_passed
+returns-then-all_passed c =
+    let events = c.args.events.now in
+    let i = c.args.place in
+    let j = c.loop-later.later in
+    let at_i = slice_get-get_or events i no_event (omega arith) in
+    let at_j = slice_get-get_or events j no_event (omega arith) in
+    let lt : i < j = omega arith in
+    all_let_pass c.args.problem.now events i j c.args.bound (get_or events i no_event) (get_or events j no_event) _ _ lt c.requires.bound c.requires.order at_i at_j c.listings_of-listings.ensures c.loop-later.invariant.end (c.if-all_passed.ensures.0 refl)
+    c.loop-later.invariant.passes
 
 pub loop-later-preserved-then-event-holder : goal.loop-later-preserved-then-event-holder
 loop-later-preserved-then-event-holder c =
