@@ -64,9 +64,6 @@ any_contains o (x ∷ xs) e = by (nat_eq o x) refl (any_contains o xs)
     by true is rest = (0, omega arith, sym (eqb-true o x is))
     by false is rest = let r = rest (rw is at e) in (suc r.0, omega (arith, r.1), r.2)
 
-next_more : (p : Operation) (train : List Operation) (k : ℕ) → next_of (p ∷ train) (suc k) ≡ next_of train k
-next_more p train k = refl
-
 -- an operation that is named is a successor
 named_is_successor : (train : List Operation) (o : ℕ) → is_named train o ≡ true → (p : ℕ) × IsSuccessor train p o
 named_is_successor [] o e = absurd cc

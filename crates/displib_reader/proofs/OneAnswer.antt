@@ -17,7 +17,7 @@ use Rattle.displib_reader.specs.Field.{members_at}
 use Rattle.displib_reader.specs.Counts.{too_many}
 use Rattle.displib_reader.specs.Graphs.{entry_count, exit_count, first_not_one, HasNoCycle, IsOnCycle, IsFirstLoop}
 use Rattle.displib_reader.specs.Types.{first_unknown}
-use Rattle.displib_reader.specs.ProblemOf.{trains_of, components_of}
+use Rattle.displib_reader.specs.ProblemOf.{trains_of, components_of, IsProblemOf}
 use Rattle.displib_reader.specs.Outcome.{broken_at, IsLinked, greatest_sum, KeepsRules, Breaks, BreaksFirst, IsNoJson, IsReadAs, IsRefused}
 use Rattle.displib_reader.proofs.Distinct.{at_all}
 
@@ -208,3 +208,9 @@ read_is_not_refused bytes problem why a b = by (refused_cases bytes why b)
     by (inl (e, none)) = absurd (none a.value a.json)
     by (inr (inl e)) = e
     by (inr (inr q)) = refuse q (breaks_chain a.value why (subst (λ d. Breaks d why) (same_value bytes q.value a.value q.json a.json) q.breaks))
+
+-- one problem is read of a text
+pub problems_agree : (bytes : List ℕ) (problem other : Problem) → IsReadAs bytes problem → IsReadAs bytes other → (problem.trains ≡ other.trains) × (problem.components ≡ other.components) × (problem.names ≡ other.names)
+problems_agree bytes problem other a b =
+    let is : IsProblemOf b.value problem = subst (λ d. IsProblemOf d problem) (same_value bytes a.value b.value a.json b.json) a.problem_is in
+    (same_Some problem.trains other.trains (sym is.trains ∙ b.problem_is.trains), same_Some problem.components other.components (sym is.components ∙ b.problem_is.components), sym is.names ∙ b.problem_is.names)

@@ -1,5 +1,5 @@
 -- Texts that were added one after another.
-use Rattle.std.proofs.Common.{◌≡◌, ℕ, ◌+◌, ◌<◌, List, [], ◌++◌, length, take, get_or, sym, ap, ◌∙◌, append_assoc, append-nil}
+use Rattle.std.proofs.Common.{ℕ, ◌+◌, ◌<◌, List, [], ◌++◌, length, take, get_or, ap, ◌∙◌, append_assoc}
 use Rattle.std.specs.Prelude.{codes}
 use Rattle.std.specs.List.{flat_map}
 use Rattle.std.proofs.lemmas.List.{flat_map_more, take_more}
@@ -9,14 +9,6 @@ use Rattle.solution_text.specs.Texts.{Adds, event_text, next_event_text}
 -- one more text behind those that were added
 pub joined : {before text more added piece : List ℕ} → Adds before text added → Adds text more piece → Adds before more (added ++ piece)
 joined {before} {text} {more} {added} {piece} first second = record { is = second.is ∙ ap (λ (t : List ℕ). t ++ piece) first.is ∙ append_assoc before added piece }
-
--- nothing was added
-pub nothing_added : (text : List ℕ) → Adds text text []
-nothing_added text = record { is = sym (append-nil text) }
-
--- what was made from nothing
-pub from_nothing : {text more added piece : List ℕ} → text ≡ added → Adds text more piece → more ≡ added ++ piece
-from_nothing {text} {more} {added} {piece} first second = second.is ∙ ap (λ (t : List ℕ). t ++ piece) first
 
 -- one more event behind those that were added
 pub more_events : {before text then now : List ℕ} (plan : List Event) (i : ℕ) (d : Event) → i < length plan → Adds before text (flat_map next_event_text (take i plan)) → Adds text then (codes ",") → Adds then now (event_text (get_or plan i d))

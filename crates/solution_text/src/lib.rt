@@ -18,7 +18,7 @@ mod why;
 mod write;
 
 pub use fault::SolutionNo;
-pub use laws::written_is_read;
+pub use laws::{answers_exclude_each_other, written_is_read};
 pub use place::{EventKey, SolutionPlace};
 pub use read::read_solution;
 pub use write::write_solution;

@@ -58,11 +58,12 @@ fn there_are_at_most_65535_trains(rt: HostRuntime) -> Result<(), Fail> {
 #[test]
 fn there_are_at_most_1048575_operations(rt: HostRuntime) -> Result<(), Fail> {
     let alloc = rt.alloc();
+    // Over all trains: the first one has one of them.
     let text = repeated(
         alloc,
-        r#"{"trains":[["#,
+        r#"{"trains":[[{}],["#,
         "{}",
-        1048576,
+        1048575,
         r#"]],"objective":[]}"#,
     )?;
     expect(&rt, alloc, text.as_str(), "TooMany operations 1048576")?;
@@ -78,5 +79,19 @@ fn a_train_of_a_million_operations_is_read(rt: HostRuntime) -> Result<(), Fail> 
     }
     text.push_str(r#"{}]],"objective":[]}"#)?;
     expect(&rt, alloc, text.as_str(), "accepted")?;
+    Ok(())
+}
+
+#[test]
+fn there_are_at_most_1048575_components(rt: HostRuntime) -> Result<(), Fail> {
+    let alloc = rt.alloc();
+    let text = repeated(
+        alloc,
+        r#"{"trains":[[{}]],"objective":["#,
+        r#"{"type":"op_delay","train":0,"operation":0}"#,
+        1048576,
+        "]}",
+    )?;
+    expect(&rt, alloc, text.as_str(), "TooMany components 1048576")?;
     Ok(())
 }

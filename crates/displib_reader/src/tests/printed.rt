@@ -1,5 +1,6 @@
 use crate::{ComponentKey, Kind, ListingKey, OperationKey, Place, ProblemNo};
-use std::alloc::Global;
+use std::alloc::{AllocError, Global};
+use std::error::Error;
 use std::process::Abort;
 use std::test::Fail;
 
@@ -48,5 +49,31 @@ fn refusals_are_printed_with_numbers_and_places(rt: HostRuntime) -> Result<(), F
         "UnknownObjective 3",
     )?;
     expect_text(&rt, alloc, ProblemNo::Memory, "Memory")?;
+    Ok(())
+}
+
+/// The message of an error, by the bound that programs have.
+fn message<E: Error>(alloc: Global, error: &E) -> Result<String, AllocError> {
+    format!(in alloc; "{error}")
+}
+
+/// Want of memory as an error, by the bounds that `?` has.
+fn starved<E: From<AllocError> + From<disp_model::Memory>>(in_model: bool) -> E {
+    if in_model {
+        E::from(disp_model::Memory)
+    } else {
+        E::from(AllocError)
+    }
+}
+
+#[test]
+fn refusals_are_errors(rt: HostRuntime) -> Result<(), Fail> {
+    let alloc = rt.alloc();
+    let text = message(alloc, &ProblemNo::Loop(2, 3))?;
+    assert_eq!(rt; text.as_str(), "operation 3 of train 2 lies on a cycle");
+    let exits = message(alloc, &ProblemNo::NotOneExit(1, 4))?;
+    assert_eq!(rt; exits.as_str(), "train 1 has 4 exits");
+    assert_eq!(rt; starved::<ProblemNo>(true), ProblemNo::Memory);
+    assert_eq!(rt; starved::<ProblemNo>(false), ProblemNo::Memory);
     Ok(())
 }

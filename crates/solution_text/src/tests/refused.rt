@@ -1,4 +1,7 @@
 use super::expect;
+use crate::SolutionNo;
+use std::alloc::{AllocError, Global};
+use std::error::Error;
 use std::test::Fail;
 
 #[test]
@@ -109,4 +112,31 @@ fn there_are_at_most_1048575_events(rt: HostRuntime) -> Result<(), Fail> {
     text.push_str(event)?;
     text.push_str("]}")?;
     expect(&rt, alloc, text.as_str(), "TooMany 1048576")
+}
+
+/// The message of an error, by the bound that programs have.
+fn message<E: Error>(alloc: Global, error: &E) -> Result<String, AllocError> {
+    format!(in alloc; "{error}")
+}
+
+/// Want of memory as an error, by the bounds that `?` has.
+fn starved<E: From<AllocError> + From<disp_model::Memory>>(in_model: bool) -> E {
+    if in_model {
+        E::from(disp_model::Memory)
+    } else {
+        E::from(AllocError)
+    }
+}
+
+#[test]
+fn refusals_are_errors(rt: HostRuntime) -> Result<(), Fail> {
+    let alloc = rt.alloc();
+    let text = message(alloc, &SolutionNo::TooMany(1048576))?;
+    assert_eq!(rt; text.as_str(), "too many events: 1048576");
+    assert_eq!(rt; starved::<SolutionNo>(true), SolutionNo::Memory);
+    assert_eq!(rt; starved::<SolutionNo>(false), SolutionNo::Memory);
+    let mut printed = String::from_str(alloc, "solution: ")?;
+    SolutionNo::Memory.write(&mut printed)?;
+    assert_eq!(rt; printed.as_str(), "solution: Memory");
+    Ok(())
 }
