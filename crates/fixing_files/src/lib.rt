@@ -5,6 +5,3 @@
 mod take;
 
 pub use take::{FileNo, LineNo, take_fixings};
-
-#[cfg(test)]
-mod tests;

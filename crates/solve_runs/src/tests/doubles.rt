@@ -1,5 +1,6 @@
 // A run on files in memory, and shelves that always refuse.
-use disp_outside::{FeedNo, FetchNo, OpenGate, PutNo, Shelf, SteadyFeed, SteadyShelf, SteadySink};
+use disp_outside::{FeedNo, FetchNo, OpenGate, PutNo, Shelf};
+use outside_in_memory::{SteadyFeed, SteadyShelf, SteadySink};
 use dispatch_cli::dispatch;
 use std::alloc::Global;
 use std::test::Fail;

@@ -1,6 +1,7 @@
 // What `verify` prints where the plan is to meet fixings.
 use super::judged::{SECOND, TWO};
-use disp_outside::{MemShelf, OpenGate, SteadySink};
+use disp_outside::OpenGate;
+use outside_in_memory::{MemShelf, SteadySink};
 use dispatch_cli::dispatch;
 use std::process::Abort;
 use std::test::Fail;

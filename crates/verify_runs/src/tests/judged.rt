@@ -1,5 +1,6 @@
 // What `verify` prints of solutions.
-use disp_outside::{MemShelf, OpenGate, SteadyShelf, SteadySink};
+use disp_outside::OpenGate;
+use outside_in_memory::{MemShelf, SteadyShelf, SteadySink};
 use dispatch_cli::dispatch;
 use std::alloc::Global;
 use std::process::Abort;
