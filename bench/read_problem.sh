@@ -1,7 +1,8 @@
 #!/usr/bin/env bash
 # Solves problems of 1, 10 and 100 MB with the built program, and reads the same files by Python's
 # `json.load`, in one run: plain ones, ones with resources and latest starts, ones with choices, and
-# ones whose first fault stands at the end (a number that is not whole, a loop, an unknown type).
+# ones whose first fault stands at the end (a number that is not whole, a loop in a short train or in one
+# long train, an unknown type).
 # Prints seconds, peak memory, and the ratios of the two.
 # Build first: (cd crates/dispatch && rt run -- solve data/problem.json)
 set -eu
@@ -17,33 +18,35 @@ program, folder = sys.argv[1:3]
 sizes = [int(word) for word in sys.argv[3:]] or [1, 10, 100]
 
 
-def next_of(kind, k, last):
+def next_of(kind, k, back):
     """Where operation k of a train goes on: a fork at each tenth where there are choices, and back where there is a loop."""
-    if kind == "loop" and last and k == 998:
+    if k == back:
         return "%d,%d" % (k + 1, k - 1)
     if kind == "choices" and k % 10 == 0:
         return "%d,%d" % (k + 1, k + 2)
     return "%d" % (k + 1)
 
 
-def operation(kind, t, k, last):
-    if kind == "plain":
+def operation(kind, t, k, back):
+    if kind in ("plain", "late loop"):
         listed, latest = "", "null"
     else:
         shared = "block%d" % (k % 50) if kind == "choices" else "block%d of %d" % (k % 50, t)
         listed, latest = '{"resource":"%s","release_time":%d}' % (shared, k % 7), "2000000000"
     return '{"start_lb":%d,"start_ub":%s,"min_duration":%d,"resources":[%s],"successors":[%s]}' % (
-        1000000000 + k * 3, latest, 1000 + k % 60, listed, next_of(kind, k, last))
+        1000000000 + k * 3, latest, 1000 + k % 60, listed, next_of(kind, k, back))
 
 
 def write_problem(path, kind, size):
-    """Trains of 1000 operations, with a component on each tenth, up to about so many bytes. What is wrong stands last."""
+    """Trains of 1000 operations, or one train, with components, up to about so many bytes. What is wrong stands last."""
+    length = size // 100 if kind == "late loop" else 1000
     with open(path, "w") as file:
         file.write('{"trains":[')
         trains, components, written = 0, [], 0
         while written < size * 0.9:
-            last = written + 100000 >= size * 0.9
-            operations = ",".join(operation(kind, trains, k, last) for k in range(999))
+            last = written + 100 * length >= size * 0.9
+            back = length - 2 if "loop" in kind and last else None
+            operations = ",".join(operation(kind, trains, k, back) for k in range(length - 1))
             text = ("," if trains else "") + "[" + operations + ',{"start_lb":7}]'
             file.write(text)
             written += len(text)
@@ -63,7 +66,7 @@ def write_problem(path, kind, size):
 
 
 # The kinds of problems, and the status with which the program ends.
-KINDS = {"plain": 0, "resources": 0, "choices": 2, "number": 2, "loop": 2, "type": 2}
+KINDS = {"plain": 0, "resources": 0, "choices": 2, "number": 2, "loop": 2, "late loop": 2, "type": 2}
 
 
 def measure(words):

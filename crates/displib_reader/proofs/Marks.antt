@@ -9,7 +9,7 @@ use Rattle.std.proofs.Common.{set}
 use Rattle.std.proofs.lemmas.Option.{same_Some, none-some, slice_get-get_or}
 use Rattle.std.proofs.lemmas.List.Sums.{sum_by-cons}
 use Rattle.disp_model.specs.declared.train.Operation.{Operation}
-use Rattle.disp_model.specs.Train.{next_of, IsSuccessor, IsEntry, IsExit}
+use Rattle.disp_model.specs.Train.{IsSuccessor, IsEntry, IsExit}
 use Rattle.displib_reader.specs.Graphs.{is_named, entry_count, exit_count, marked}
 
 -- ---- a count of one

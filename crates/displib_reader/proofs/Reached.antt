@@ -1,5 +1,5 @@
 -- What is marked on the way from an operation, and what ranks that rise say of cycles.
-use Rattle.std.proofs.Common.{◌≡◌, ℕ, zero, suc, ◌+◌, ◌<◌, ◌⊎◌, List, [], ◌∷◌, ◌++◌, length, get_or, set, replicate, Option, Some, None, Bool, true, false, not, cond, refl, sym, ap, subst, ◌∙◌, inl, inr, arith}
+use Rattle.std.proofs.Common.{◌≡◌, ℕ, zero, suc, ◌+◌, ◌<◌, ◌≤◌, ◌⊎◌, List, [], ◌∷◌, ◌++◌, length, get_or, set, replicate, Option, Some, None, Bool, true, false, not, cond, refl, sym, ap, subst, ◌∙◌, inl, inr, arith}
 use Rattle.std.specs.Prelude.{◌↔◌, nat_eq, slice_get, slice_index, Contains, All}
 use Rattle.std.proofs.lemmas.Bool.{eq-eqb, eqb-true, false≢true, cases_lt}
 use Rattle.std.proofs.lemmas.Option.{same_Some, slice_get_within, slice_get-get_or}
@@ -9,7 +9,7 @@ use Rattle.disp_model.specs.declared.train.Operation.{Operation}
 use Rattle.disp_model.specs.Train.{next_of, IsSuccessor}
 use Rattle.disp_model.specs.WellFormed.{LeadsTo}
 use Rattle.displib_reader.specs.Graphs.{IsOnCycle, HasNoCycle, AreInside}
-use Rattle.displib_reader.specs.Ranks.{IsAbove, Rises}
+use Rattle.displib_reader.specs.Ranks.{IsAbove, IsNotBelow, Rises, RisesBefore, NeverFalls}
 use Rattle.displib_reader.specs.Reach.{IsReached, IsMarked, unmarked, Visits, AreReached}
 use Rattle.displib_reader.proofs.Marks.{count_cons}
 
@@ -246,6 +246,31 @@ rises_along train ranks (suc n) o s rises (p, one, rest) =
     let first = rises_step train ranks o p rises one in
     let later = rises_along train ranks n p s rises rest in
     omega (arith, first, later)
+
+keeps_step : (train : List Operation) (ranks : List ℕ) (o s : ℕ) → NeverFalls train ranks → IsSuccessor train o s → slice_index ranks o ≤ slice_index ranks s
+keeps_step train ranks o s keeps h =
+    let p = successor_within train o s h in
+    All-contains (IsNotBelow ranks (slice_index ranks o)) p.0.next s (keeps o p.0 p.1) p.2
+
+keeps_along : (train : List Operation) (ranks : List ℕ) (n o s : ℕ) → NeverFalls train ranks → LeadsTo train n o s → slice_index ranks o ≤ slice_index ranks s
+keeps_along train ranks zero o s keeps h = keeps_step train ranks o s keeps h
+keeps_along train ranks (suc n) o s keeps (p, one, rest) =
+    let first = keeps_step train ranks o p keeps one in
+    let later = keeps_along train ranks n p s keeps rest in
+    omega (arith, first, later)
+
+before_step : (train : List Operation) (ranks : List ℕ) (v o s : ℕ) → RisesBefore train ranks v → o < v → IsSuccessor train o s → slice_index ranks o < slice_index ranks s
+before_step train ranks v o s rises lt h =
+    let p = successor_within train o s h in
+    All-contains (IsAbove ranks (slice_index ranks o)) p.0.next s (rises o p.0 lt p.1) p.2
+
+-- ranks that never fall, and rise behind each operation before this one: none before it lies on a cycle
+pub none_before : (train : List Operation) (ranks : List ℕ) (v : ℕ) → NeverFalls train ranks → RisesBefore train ranks v → (o : ℕ) → o < v → IsOnCycle train o → ⊥
+none_before train ranks v keeps rises o lt (zero, one) = let up = before_step train ranks v o o rises lt one in omega (arith, up)
+none_before train ranks v keeps rises o lt (suc n, (p, one, rest)) =
+    let up = before_step train ranks v o p rises lt one in
+    let back = keeps_along train ranks n p o keeps rest in
+    omega (arith, up, back)
 
 pub rises_has_no_cycle : (train : List Operation) (ranks : List ℕ) → Rises train ranks → HasNoCycle train
 rises_has_no_cycle train ranks rises = λ o way. omega (arith, rises_along train ranks way.0 o o rises way.1)

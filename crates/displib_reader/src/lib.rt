@@ -20,6 +20,7 @@ mod objective;
 mod operation;
 mod place;
 mod problem;
+mod ranks;
 mod rule;
 mod train;
 mod unread;

@@ -6,6 +6,7 @@ use std::process::Abort;
 use std::test::Fail;
 
 mod accepted;
+mod cycles;
 mod limits;
 mod places;
 mod printed;

@@ -1,14 +1,13 @@
-use Rattle.std.proofs.Common.{◌∙◌, sym, arith, below_more}
-use Rattle.std.proofs.lemmas.Bool.{false≢true}
-use Rattle.displib_reader.specs.Graphs.{IsOnCycle}
-use Rattle.displib_reader.proofs.Reached.{rises_has_no_cycle, none_below}
+use Rattle.std.proofs.Common.{◌≡◌, ◌∙◌, sym, subst}
+use Rattle.displib_reader.specs.Ranks.{NeverFalls}
+use Rattle.displib_reader.proofs.Reached.{rises_has_no_cycle, none_before}
 use Rattle.displib_reader.proofs.cycle.first_on_cycle.Goals as goal
 
-pub returns-then-rise-clause-none : goal.returns-then-rise-clause-none
-returns-then-rise-clause-none c = rises_has_no_cycle c.args.train.now c.deref.result.now (c.rise.ensures c.if-rise.true)
+pub returns-in_default-clause-none : goal.returns-in_default-clause-none
+returns-in_default-clause-none c = rises_has_no_cycle c.args.train.now c.deref.result.now c.in_default.ensures.none
 
-pub loop-o-preserved : goal.loop-o-preserved
-loop-o-preserved c = below_more (λ p. IsOnCycle c.args.train.now p → ⊥) c.loop-o.o c.loop-o.invariant (λ way. false≢true (sym c.if-branch.false ∙ c.in_ok-is_on_cycle.ensures.1 way))
-
-pub returns-clause-none : goal.returns-clause-none
-returns-clause-none c = none_below c.args.train.now (λ p lt. c.loop-o.invariant p (omega arith))
+pub returns-then-branch-clause-found : goal.returns-then-branch-clause-found
+returns-then-branch-clause-found c =
+    let same : c.deref-2.result.now ≡ c.deref.result.now = c.deref-2.ensures.value ∙ sym c.deref.ensures.value in
+    let keeps : NeverFalls c.args.train.now c.deref.result.now = subst (λ ranks. NeverFalls c.args.train.now ranks) same (c.never_falls.ensures c.if-never_falls.true) in
+    record { on = c.in_ok-is_on_cycle.ensures.0 c.if-branch.true; least = none_before c.args.train.now c.deref.result.now c.in-Some.o keeps c.in-Some.ensures.found.1 }
