@@ -5,17 +5,11 @@
 # two minutes, and less where crates/fixing_editions has been checked.
 set -eu
 trains=${1:-32768}
-top=$(cd "$(dirname "$0")/.." && pwd)
-scratch=$(mktemp -d)
-trap 'rm -rf "$scratch"' EXIT
-cd "$scratch"
-printf 'disp_model:\nfixing_editions: disp_model\neditions_bench: disp_model fixing_editions\n' > crates.txt
-for crate in disp_model fixing_editions; do
-  mkdir -p crates/$crate
-  cp -r "$top"/crates/$crate/{src,specs,proofs} crates/$crate/
-done
-mkdir -p crates/editions_bench/{src,specs,proofs/copies,proofs/problem_of}
-cd crates/editions_bench
+. "$(dirname "$0")/scratch.sh"
+open_scratch editions_bench 'disp_model:
+fixing_editions: disp_model
+editions_bench: disp_model fixing_editions' disp_model fixing_editions
+mkdir -p proofs/problem_of
 cat > src/main.rt <<PROGRAM
 //! Times the asking of fixings.
 #![tactic(auto)]
@@ -49,17 +43,6 @@ fn train(alloc: Global) -> Result<Train, Memory>
     let first = operation(alloc, &[1])?;
     let exit = operation(alloc, &[])?;
     Ok(List::from_vec(vec![in alloc; first, exit]?))
-}
-
-// So many trains alike.
-fn copies(alloc: Global, train: &Train, count: u32) -> Result<List<Train>, Memory>
-    ensures { IfOk result (λ ts. (length ts ≡ count) × All (λ t. t ≡ train.now) ts) }
-{
-    let mut trains = List::new(alloc);
-    for _ in 0..count {
-        trains.push(train.copy()?)?;
-    }
-    Ok(trains)
 }
 
 fn problem_of(alloc: Global, count: u32) -> Result<Problem, Memory>
@@ -120,6 +103,7 @@ fn main(rt: HostRuntime) -> io::Result<()> {
     measure(&rt, $trains)
 }
 PROGRAM
+add_copies
 cat > specs/Lib.antt <<'PROOF'
 pub mod Pair
 PROOF
@@ -210,16 +194,6 @@ formed trains fits alike = record {
   costs_fit = omega arith;
 }
 PROOF
-cat > proofs/copies/Invariants.antt <<'PROOF'
-use Rattle.std.proofs.Common.{◌≡◌, length, All}
-use Rattle.editions_bench.proofs.copies.Given as goal
-
-abbrev pub invariant-loop : goal.invariant-loop
-invariant-loop l = record {
-  long : length l.trains ≡ l.counter;
-  alike : All (λ t. t ≡ l.train) l.trains;
-}
-PROOF
 cat > proofs/problem_of/Answers.antt <<'PROOF'
 use Rattle.std.proofs.Common.{◌≡◌, List, subst, sym, ◌∙◌, arith}
 use Rattle.std.specs.Prelude.{All}
@@ -234,4 +208,4 @@ invariant_of-result c =
     let alike : All (λ t. t ≡ pair) trains = λ k d lt. c.in_ok-trains.ensures.1 k d lt ∙ c.in_ok-train.ensures in
     record { well_formed = rw (c.new.ensures, c.new-2.ensures) (formed trains (omega (arith, c.in_ok-trains.ensures.0, c.requires.fits)) alike) }
 PROOF
-rt run 2> log || { cat log; exit 1; }
+run_scratch

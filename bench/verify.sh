@@ -5,17 +5,11 @@
 # as the shipped one is, in a scratch folder that goes away. The proofs take some two minutes, and less where
 # crates/solution_verifier has been checked.
 set -eu
-top=$(cd "$(dirname "$0")/.." && pwd)
-scratch=$(mktemp -d)
-trap 'rm -rf "$scratch"' EXIT
-cd "$scratch"
-printf 'disp_model:\nsolution_verifier: disp_model serde_json thiserror\nverify_bench: disp_model solution_verifier\n' > crates.txt
-for crate in disp_model solution_verifier; do
-  mkdir -p crates/$crate
-  cp -r "$top"/crates/$crate/{src,specs,proofs} crates/$crate/
-done
-mkdir -p crates/verify_bench/{src,specs} crates/verify_bench/proofs/{corridor,copies,name_all,problem_of}
-cd crates/verify_bench
+. "$(dirname "$0")/scratch.sh"
+open_scratch verify_bench 'disp_model:
+solution_verifier: disp_model serde_json thiserror
+verify_bench: disp_model solution_verifier' disp_model solution_verifier
+mkdir -p proofs/{corridor,name_all,problem_of}
 cat > src/main.rt <<'PROGRAM'
 //! Times the judging of valid solutions.
 #![tactic(auto)]
@@ -69,17 +63,6 @@ fn corridor(alloc: Global, blocks: u32) -> Result<Train, Memory>
         train.push(block(alloc, place, blocks)?)?;
     }
     Ok(train)
-}
-
-// So many trains alike.
-fn copies(alloc: Global, train: &Train, count: u32) -> Result<List<Train>, Memory>
-    ensures { IfOk result (λ ts. (length ts ≡ count) × All (λ t. t ≡ train.now) ts) }
-{
-    let mut trains = List::new(alloc);
-    for _ in 0..count {
-        trains.push(train.copy()?)?;
-    }
-    Ok(trains)
 }
 
 // A name for each block.
@@ -156,6 +139,7 @@ fn main(rt: HostRuntime) -> io::Result<()> {
     measure(&rt, 2000, 24)
 }
 PROGRAM
+add_copies
 cat > specs/Lib.antt <<'PROOF'
 pub mod Corridor
 PROOF
@@ -328,16 +312,6 @@ loop-place-preserved c =
       each = subst (λ (l : List Operation). (k : ℕ) (o : Operation) → slice_get l k ≡ Some o → IsBlock blocks k o) (sym more) (push_each (IsBlock blocks) train new inv.each here);
     }
 PROOF
-cat > proofs/copies/Invariants.antt <<'PROOF'
-use Rattle.std.proofs.Common.{◌≡◌, length, All}
-use Rattle.verify_bench.proofs.copies.Given as goal
-
-abbrev pub invariant-loop : goal.invariant-loop
-invariant-loop l = record {
-  long : length l.trains ≡ l.counter;
-  alike : All (λ t. t ≡ l.train) l.trains;
-}
-PROOF
 cat > proofs/name_all/Invariants.antt <<'PROOF'
 use Rattle.std.proofs.Common.{◌≡◌, ◌+◌, ◌∷◌, [], ℕ, List, length, Some}
 use Rattle.std.specs.Prelude.{slice_get}
@@ -365,4 +339,4 @@ invariant_of-result c =
           (formed c.args.blocks c.args.count c.in_ok-train.train trains names c.requires.few c.requires.fits c.in_ok-train.ensures c.in_ok-trains.ensures.0 c.in_ok-trains.ensures.1 c.in_ok-names.ensures);
     }
 PROOF
-rt run 2> log || { cat log; exit 1; }
+run_scratch

@@ -8,7 +8,7 @@ use Rattle.fixing_files.specs.declared.take.LineNo.{LineNo}
 use Rattle.fixing_files.specs.declared.take.LineNo.TheVariants as why
 use Rattle.fixing_files.specs.declared.take.FileNo.{FileNo}
 use Rattle.fixing_files.specs.declared.take.FileNo.TheVariants.{Line, Failed, Memory}
-use Rattle.fixing_files.specs.Files.{Takes, TakesAll, TakesFirst, IsAt, Stops, StopsBy, StopsAt, StopsFirst, HasFirst, LeavesAt, LeavesFront, Leaves, RefusesNext, RefusesEnd, Refuses}
+use Rattle.fixing_files.specs.Files.{Takes, TakesAll, TakesFirst, IsAt, Stops, StopsBy, StopsAt, StopsFirst, HasFirst, LeavesAt, Leaves, RefusesNext, RefusesEnd, Refuses}
 
 -- one more line
 pub takes_more : (problem : Problem) (old mid new : List Fixing) (k : ℕ) (lines : List (List ℕ)) (line : List ℕ) (rest : List (List ℕ)) → drop k lines ≡ line ∷ rest

@@ -1,5 +1,5 @@
 -- Files of fixings: each line asks for a fixing, which is accepted or known.
-use Rattle.std.specs.Prelude.{◌≡◌, ℕ, ◌+◌, ◌<◌, ◌≤◌, List, [], ◌∷◌, length, take, drop, Option, Some, None, IfSome, slice_get}
+use Rattle.std.specs.Prelude.{◌≡◌, ℕ, ◌+◌, ◌<◌, ◌≤◌, List, [], ◌∷◌, length, take, drop, Option, Some, IfSome, slice_get}
 use Rattle.disp_outside.specs.Lines.{text_of, without_end}
 use Rattle.disp_model.specs.declared.limits.TheConstants.{MOST_LINES}
 use Rattle.disp_model.specs.declared.fixing.Fixing.{Fixing}

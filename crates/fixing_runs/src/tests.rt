@@ -66,7 +66,11 @@ fn the_first_other_line_is_named(rt: HostRuntime) -> Result<(), Fail> {
         ("\nstarted 0 0 7\n", 1, LineNo::Unreadable),
         ("started 0 0 7\nshow\nbogus\n", 2, LineNo::Unreadable),
         ("started 0 0 7\r", 1, LineNo::Unreadable),
-        ("started 0 0 7\nstarted 0 0 7\nstarted 0 0 8\n\n", 3, refused),
+        (
+            "started 0 0 7\nstarted 0 0 7\nstarted 0 0 8\n\n",
+            3,
+            refused,
+        ),
     ] {
         let (answer, fixings) = taken(alloc, bytes.as_bytes(), &[])?;
         assert_eq!(rt; answer, Err(FileNo::Line(number, why)), "{bytes}");

@@ -42,7 +42,9 @@ fn has_passed(end: Option<u128>, release: u32, time: u64) -> bool
 fn all_passed(listings: &[Listing], end: Option<u128>, time: u64) -> bool
     ensures { IsTrue result ↔ All (λ l. HasPassed end l.release time) listings.now }
 {
-    listings.iter().all(|listing| has_passed(end, listing.release, time))
+    listings
+        .iter()
+        .all(|listing| has_passed(end, listing.release, time))
 }
 
 /// The first resource listed that others list too, at a time when its release time has not passed.

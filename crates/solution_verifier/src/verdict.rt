@@ -20,8 +20,9 @@ fn judge_cost(cost: u128, stated: Option<u64>) -> Result<u128, Fault>
 }
 
 /// The cost of a plan that is valid for a problem and fixings, where the stated cost, if there is one, is
-/// that. It takes no memory, and a time that grows at most with the square of the number of events where
-/// events list few resources.
+/// that. It takes no memory. Of each event it looks at those behind it until all that it holds is released,
+/// and at those before it back to its train's last one; for each train, fixing and component it goes along
+/// the plan once.
 ///
 /// # Errors
 ///

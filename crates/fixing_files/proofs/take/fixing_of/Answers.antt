@@ -1,4 +1,4 @@
-use Rattle.std.proofs.Common.{◌≡◌, ◌⊎◌, ◌∙◌, inl, inr, refl, sym}
+use Rattle.std.proofs.Common.{◌≡◌, ◌⊎◌, inl, inr, refl}
 use Rattle.disp_model.specs.declared.fixing.Fixing.{Fixing}
 use Rattle.fixing_lines.specs.declared.request.Request.{Request}
 use Rattle.fixing_lines.specs.declared.request.Request.TheVariants.{Ask, Show, Unreadable}

@@ -1,9 +1,8 @@
-use Rattle.std.proofs.Common.{◌≡◌, ℕ, ◌-◌, ◌+◌, subst, sym, refl, rules, arith, true, false}
+use Rattle.std.proofs.Common.{◌≡◌, ◌-◌, refl, rules, arith, true, false}
 use Rattle.std.specs.Prelude.{Ok}
 use Rattle.std.proofs.lemmas.Result.{on_ok_weaker, IfErr-weaker}
-use Rattle.fixing_files.specs.Files.{IsAt, RefusesNext}
 use Rattle.disp_model.specs.declared.limits.TheConstants.{MOST_LINES}
-use Rattle.fixing_files.proofs.Lines.{at_stop, leaves_stop, at_end, at_few, at_more, at_too_many, leaves_too_many, next_is, then_is}
+use Rattle.fixing_files.proofs.Lines.{at_stop, leaves_stop, at_end, at_few, at_more, leaves_too_many, next_is, then_is}
 use Rattle.fixing_files.proofs.take.take_fixings.Goals as goal
 
 pub loop-number-preserved : goal.loop-number-preserved
