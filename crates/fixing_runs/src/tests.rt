@@ -1,9 +1,9 @@
 // Files in memory, taken line by line.
 
 use disp_model::{Fixing, List, Memory, Operation, Problem, Refusal};
-use outside_in_memory::MemFeed;
 use fixing_editions::Editions;
 use fixing_files::{FileNo, LineNo, take_fixings};
+use outside_in_memory::MemFeed;
 use std::alloc::Global;
 use std::test::Fail;
 

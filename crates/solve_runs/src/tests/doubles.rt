@@ -1,7 +1,7 @@
 // A run on files in memory, and shelves that always refuse.
 use disp_outside::{FeedNo, FetchNo, OpenGate, PutNo, Shelf};
-use outside_in_memory::{SteadyFeed, SteadyShelf, SteadySink};
 use dispatch_cli::dispatch;
+use outside_in_memory::{SteadyFeed, SteadyShelf, SteadySink};
 use std::alloc::Global;
 use std::test::Fail;
 use word_lists::words_of;

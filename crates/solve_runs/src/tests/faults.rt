@@ -1,8 +1,8 @@
 // What is printed where the outside fails, and the status.
 use super::doubles::{FullShelf, LongShelf};
 use disp_outside::{OpenGate, Shelf};
-use outside_in_memory::{BrokenWrite, MemShelf, MemSink, SteadySink};
 use dispatch_cli::{Done, dispatch};
+use outside_in_memory::{BrokenWrite, MemShelf, MemSink, SteadySink};
 use std::test::Fail;
 use word_lists::words_of;
 

@@ -1,8 +1,8 @@
 // What is printed for texts and words that are refused, and for problems with choices.
 use super::doubles::solve;
 use disp_outside::OpenGate;
-use outside_in_memory::{SteadyShelf, SteadySink};
 use dispatch_cli::dispatch;
+use outside_in_memory::{SteadyShelf, SteadySink};
 use std::process::Abort;
 use std::test::Fail;
 use word_lists::words_of;

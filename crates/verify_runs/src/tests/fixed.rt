@@ -1,8 +1,8 @@
 // What `verify` prints where the plan is to meet fixings.
 use super::judged::{SECOND, TWO};
 use disp_outside::OpenGate;
-use outside_in_memory::{MemShelf, SteadySink};
 use dispatch_cli::dispatch;
+use outside_in_memory::{MemShelf, SteadySink};
 use std::process::Abort;
 use std::test::Fail;
 use word_lists::words_of;

@@ -1,7 +1,7 @@
 // What `verify` prints of solutions.
 use disp_outside::OpenGate;
-use outside_in_memory::{MemShelf, SteadyShelf, SteadySink};
 use dispatch_cli::dispatch;
+use outside_in_memory::{MemShelf, SteadyShelf, SteadySink};
 use std::alloc::Global;
 use std::process::Abort;
 use std::test::Fail;
