@@ -1,6 +1,5 @@
 -- What solves a problem without choices is its answer.
-use Rattle.std.proofs.Common.{◌≡◌, ◌⊎◌, ℕ, zero, suc, List, [], ◌∷◌, Option, Some, None, refl, inl, inr, sym, subst, take, ap}
-use Rattle.std.specs.Prelude.{slice_get}
+use Rattle.std.proofs.Common.{◌≡◌, ℕ, zero, suc, List, [], Option, Some, None, refl, inl, sym, subst, take}
 use Rattle.disp_model.specs.declared.entry.Entry.{Entry}
 use Rattle.disp_model.specs.declared.entry.Entry.TheVariants.{Settled}
 use Rattle.disp_model.specs.declared.tree.Verdict.TheVariants as verdict
@@ -10,14 +9,13 @@ use Rattle.disp_model.specs.declared.entry.Standing.{Standing}
 use Rattle.disp_model.specs.declared.entry.Mark.TheVariants as mark
 use Rattle.disp_model.specs.declared.problem.Problem.{Problem}
 use Rattle.disp_model.specs.History.{IsStanding, last_plan, edition_of}
-use Rattle.disp_model.specs.Legal.{IsLegal, IsLegalEntry, IsLegalPlan, IsLegalVerdict, HasBranchesOf}
+use Rattle.disp_model.specs.Legal.{IsLegal, IsLegalEntry, IsLegalPlan, HasBranchesOf}
 use Rattle.disp_model.specs.Replay.{grown_by}
 use Rattle.single_routes.specs.declared.solved.Solved.{Solved}
 use Rattle.single_routes.specs.declared.solved.Solved.TheVariants.{Optimal, Infeasible}
 use Rattle.single_routes.specs.Choices.{HasChoices}
 use Rattle.single_routes.specs.Solution.{Solves, IsBest, IsNone}
 use Rattle.dispatch_cli.specs.declared.answer.Answer.{Answer}
-use Rattle.dispatch_cli.specs.declared.answer.Put.{Put}
 use Rattle.dispatch_cli.specs.Journals.{journal_of, Promises}
 use Rattle.dispatch_cli.specs.Texts.{answer_lines}
 use Rattle.dispatch_cli.specs.Answers.{IsSolved, put_of, status_of_mark}

@@ -15,7 +15,7 @@ use Rattle.dispatch_cli.specs.declared.cause.Cause.{Cause}
 use Rattle.dispatch_cli.specs.declared.cause.Cause.TheVariants.{Words, Failed, TooLong, NoProblem, NoSolution, BadLine, Choices, Memory}
 use Rattle.dispatch_cli.specs.declared.cause.Input.TheVariants as input
 use Rattle.dispatch_cli.specs.Outside.{Holdings, Counts, Outside, IsFile, HoldsTooMuch, ReadsOne, Reads, Is, IsOfThree}
-use Rattle.dispatch_cli.specs.Files.{IsProblemFile, IsSolutionFile, IsRefusedLine, AreFixings, HasFixings}
+use Rattle.dispatch_cli.specs.Files.{IsProblemFile, IsRefusedLine, AreFixings, HasFixings}
 use Rattle.disp_outside.specs.Lines.{HasLinesOf}
 use Rattle.disp_model.specs.declared.fixing.Fixing.{Fixing}
 use Rattle.fixing_files.specs.declared.take.LineNo.{LineNo}

@@ -1,6 +1,5 @@
 -- The journal of a problem without choices, and what a mark promises.
-use Rattle.std.specs.Prelude.{◌≡◌, ℕ, List, [], ◌∷◌}
-use Rattle.disp_model.specs.declared.plan.Event.{Event}
+use Rattle.std.specs.Prelude.{List, [], ◌∷◌}
 use Rattle.disp_model.specs.declared.fixing.Fixing.{Fixing}
 use Rattle.disp_model.specs.declared.tree.Verdict.TheVariants as verdict
 use Rattle.disp_model.specs.declared.entry.Entry.{Entry}

@@ -1,5 +1,5 @@
 -- What is made of what solves a problem without choices. For private clauses.
-use Rattle.std.specs.Prelude.{◌≡◌, ℕ, List, [], ◌∷◌, Option, Some, None, Result, Ok, Err, IfErr}
+use Rattle.std.specs.Prelude.{ℕ, List, [], ◌∷◌, Option, Some, None, Result, IfErr}
 use Rattle.disp_model.specs.declared.problem.Problem.{Problem}
 use Rattle.single_routes.specs.declared.solved.Solved.{Solved}
 use Rattle.single_routes.specs.declared.solved.Solved.TheVariants.{Optimal, Infeasible}

@@ -1,4 +1,5 @@
 mod answers;
 mod doubles;
 mod faults;
+mod limits;
 mod refusals;

@@ -1,4 +1,4 @@
-// A run on files in memory, and shelves that always refuse.
+// A run on files in memory, and a shelf that always refuses.
 use disp_outside::{FeedNo, FetchNo, OpenGate, PutNo, Shelf};
 use dispatch_cli::dispatch;
 use outside_in_memory::{SteadyFeed, SteadyShelf, SteadySink};
@@ -17,43 +17,13 @@ pub(crate) fn solve(rt: &HostRuntime, bytes: &[u8]) -> Result<(u8, Vec<u8>), Fai
     Ok((done.status, out.written().to_vec(alloc)?))
 }
 
-// Every file is too long.
+// No file is given: each is too long, or there is never room for one.
 #[derive(Drop)]
-pub(crate) struct LongShelf;
-
-impl Shelf for LongShelf {
-    type Feed = SteadyFeed;
-
-    ghost use Rattle.std.specs.Prelude.{None, ⊤};
-
-    ghost knows = { λ _ _. ⊤ };
-
-    ghost holds = { λ _ _. None };
-
-    ghost reading_faults = { λ _ _. 0 };
-
-    ghost putting_faults = { λ _ _. 0 };
-
-    fn fetch(&mut self, _alloc: Global, _name: &str, _limit: u64) -> Result<Vec<u8>, FetchNo> {
-        Err(FetchNo::TooLong)
-    }
-
-    fn put(&mut self, _alloc: Global, _name: &str, _bytes: &[u8]) -> Result<(), PutNo> {
-        Err(PutNo::Memory)
-    }
-
-    fn feed(&mut self, _alloc: Global, _name: &str) -> Result<SteadyFeed, FeedNo> {
-        Err(FeedNo::Memory)
-    }
-
-    fn close(&mut self, _feed: SteadyFeed) {}
+pub(crate) struct ClosedShelf {
+    pub(crate) all_too_long: bool,
 }
 
-// There is never room for a file.
-#[derive(Drop)]
-pub(crate) struct FullShelf;
-
-impl Shelf for FullShelf {
+impl Shelf for ClosedShelf {
     type Feed = SteadyFeed;
 
     ghost use Rattle.std.specs.Prelude.{None, ⊤};
@@ -67,6 +37,9 @@ impl Shelf for FullShelf {
     ghost putting_faults = { λ _ _. 0 };
 
     fn fetch(&mut self, _alloc: Global, _name: &str, _limit: u64) -> Result<Vec<u8>, FetchNo> {
+        if self.all_too_long {
+            return Err(FetchNo::TooLong);
+        }
         Err(FetchNo::Memory)
     }
 

@@ -1,5 +1,5 @@
 // What is printed where the outside fails, and the status.
-use super::doubles::{FullShelf, LongShelf};
+use super::doubles::ClosedShelf;
 use disp_outside::{OpenGate, Shelf};
 use dispatch_cli::{Done, dispatch};
 use outside_in_memory::{BrokenWrite, MemShelf, MemSink, SteadySink};
@@ -27,11 +27,15 @@ fn a_file_that_cannot_be_had_is_told(rt: HostRuntime) -> Result<(), Fail> {
     let mut missing = MemShelf::new(alloc);
     let mut broken = MemShelf::new(alloc);
     broken.place("p", PROBLEM.as_bytes(), &[1])?;
+    let mut long = ClosedShelf { all_too_long: true };
+    let mut full = ClosedShelf {
+        all_too_long: false,
+    };
     let rows = [
         (run(&rt, &mut missing)?, 4, "problem: Failed\n"),
         (run(&rt, &mut broken)?, 4, "problem: Failed\n"),
-        (run(&rt, &mut LongShelf)?, 2, "problem: TooLong\n"),
-        (run(&rt, &mut FullShelf)?, 5, "memory\n"),
+        (run(&rt, &mut long)?, 2, "problem: TooLong\n"),
+        (run(&rt, &mut full)?, 5, "memory\n"),
     ];
     for (got, status, line) in rows {
         assert_eq!(rt; got.0.status, status, "{line}");

@@ -1,4 +1,4 @@
-use Rattle.std.proofs.Common.{◌≡◌, ℕ, List, [], None, refl, inr, arith}
+use Rattle.std.proofs.Common.{[], None, refl, inr, arith}
 use Rattle.std.proofs.lemmas.Result.{IfOk-weaker, IfErr-weaker}
 use Rattle.dispatch_cli.specs.Outside.{Is, IsOfTwo}
 use Rattle.dispatch_cli.proofs.Stopped.{stops_solution, reads_of_one, reads_among}

@@ -1,4 +1,4 @@
-use Rattle.std.proofs.Common.{◌≡◌, ◌⊎◌, ℕ, List, Option, Some, ap, sym, inl, inr}
+use Rattle.std.proofs.Common.{◌⊎◌, ℕ, List, Some, ap, sym, inl, inr}
 use Rattle.std.proofs.lemmas.Result.{IfOk-weaker, IfErr-weaker}
 use Rattle.disp_model.specs.Replies.{IsEdition}
 use Rattle.dispatch_cli.specs.Outside.{Is, IsOfTwo}

@@ -1,4 +1,3 @@
-use Rattle.std.proofs.Common.{option_map}
 use Rattle.std.proofs.lemmas.Result.{IfErr-weaker}
 use Rattle.dispatch_cli.proofs.Stopped.{counts_of_one, counts_of_three, stops_solve, stops_verify}
 use Rattle.dispatch_cli.proofs.run.run_task.Goals as goal

@@ -1,4 +1,4 @@
-use Rattle.std.proofs.Common.{◌≡◌, ◌⊎◌, ℕ, List, Option, option_map, inl, inr}
+use Rattle.std.proofs.Common.{option_map, inl, inr}
 use Rattle.std.proofs.lemmas.Result.{IfOk-weaker, IfErr-weaker}
 use Rattle.dispatch_cli.specs.Files.{IsProblemFile}
 use Rattle.dispatch_cli.specs.Outside.{Is, IsOfTwo, IsOfThree}
