@@ -1,10 +1,11 @@
 -- What files are read as.
-use Rattle.std.specs.Prelude.{◌≡◌, ℕ, List, [], Option, Some, None, IfSome}
+use Rattle.std.specs.Prelude.{◌≡◌, ℕ, ◌≤◌, List, [], length, Option, Some, None, IfSome}
 use Rattle.disp_outside.specs.Lines.{HasLinesOf}
 use Rattle.disp_model.specs.declared.fixing.Fixing.{Fixing}
 use Rattle.disp_model.specs.Replies.{IsEdition}
 use Rattle.disp_model.specs.declared.plan.Event.{Event}
 use Rattle.disp_model.specs.declared.problem.Problem.{Problem}
+use Rattle.disp_model.specs.declared.limits.TheConstants.{MOST_LINES}
 use Rattle.displib_reader.specs.Outcome.{IsReadAs}
 use Rattle.solution_text.specs.Reading as reading
 use Rattle.fixing_files.specs.declared.take.LineNo.{LineNo}
@@ -23,11 +24,15 @@ pub record IsSolutionFile (holds : Holdings) (name : List ℕ) (plan : List Even
   pub file : IsFile holds name bytes
   pub read : reading.IsReadAs bytes plan stated
 
+-- the lines are not too many, and all are taken
+abbrev pub TakesLines : Problem → List (List ℕ) → List Fixing → Type 0
+TakesLines problem lines fixings = (length lines ≤ MOST_LINES) × TakesAll problem [] lines fixings
+
 -- the lines of a name's file, where they are told, are all taken, and these fixings are an edition's
 pub record IsFixingsFile (holds : Holdings) (problem : Problem) (name : List ℕ) (fixings : List Fixing) : Type 0 where
   pub told : Option (List (List ℕ))
   pub lines : HasLinesOf (holds name) told
-  pub taken : IfSome told (λ lines. TakesAll problem [] lines fixings)
+  pub taken : IfSome told (λ lines. TakesLines problem lines fixings)
   pub edition : IsEdition problem fixings
 
 -- the fixings of a file, if there is one; else there are none
@@ -52,4 +57,4 @@ pub record IsFixingsTaken (holds : Holdings) (problem : Problem) (name : List �
   pub same : asked ≡ problem
   pub told : Option (List (List ℕ))
   pub lines : HasLinesOf (holds name) told
-  pub taken : IfSome told (λ lines. TakesAll problem [] lines fixings)
+  pub taken : IfSome told (λ lines. TakesLines problem lines fixings)

@@ -1,12 +1,11 @@
-ghost use Rattle.std.specs.Prelude.{◌≡◌, ◌≤◌, ◌<◌, ◌↔◌, [], false, IfOk, IfErr, IfSome, IsErrAnd, MatchResult, Err};
+ghost use Rattle.std.specs.Prelude.{◌≡◌, ◌≤◌, ◌<◌, ◌↔◌, false, IfOk, IfErr, IfSome, IsErrAnd, MatchResult, Err};
 ghost use Rattle.disp_outside.specs.Lines.{HasLinesOf};
-ghost use Rattle.fixing_files.specs.Files.{TakesAll};
 ghost use Rattle.displib_reader.specs.Outcome.{IsReadAs};
 ghost use Rattle.solution_text.specs.Reading as reading;
 ghost use Rattle.dispatch_cli.specs.declared.cause.Cause.TheVariants.{Failed};
 ghost use Rattle.dispatch_cli.specs.Outside.{IsFile, ReadsOne};
 ghost use Rattle.dispatch_cli.specs.Causes.{Misses, RefusesProblem, RefusesSolution, StopsProblem, StopsSolution, StopsFixings, RefusesLines, IsNotLong, IsReadingFault};
-ghost use Rattle.dispatch_cli.specs.Files.{IsProblemFile, IsSolutionFile, IsFixingsTaken};
+ghost use Rattle.dispatch_cli.specs.Files.{IsProblemFile, IsSolutionFile, TakesLines, IsFixingsTaken};
 
 use crate::cause::{Cause, Input};
 use disp_model::{MOST_FILE_BYTES, Plan, Problem};
@@ -85,7 +84,7 @@ pub(crate) fn solution_file<S: Shelf>(
 fn take<F: Feed>(alloc: Global, problem: &Problem, feed: &mut F) -> Result<Editions, Cause>
     requires { F.has_ended feed.old ≡ false }
     ensures problem { IfOk result (λ editions. editions.problem ≡ problem.now) }
-    ensures ok { IfOk result (λ editions. IfSome (F.lines feed.old) (λ lines. TakesAll problem.now [] lines editions.fixings)) }
+    ensures ok { IfOk result (λ editions. IfSome (F.lines feed.old) (λ lines. TakesLines problem.now lines editions.fixings)) }
     ensures no { IfErr result (RefusesLines problem.now (F.lines feed.old)) }
     ensures failed { (result ≡ Err (Failed Input.Fixings)) ↔ (F.faults feed.old < F.faults feed.new) }
     ensures counted { F.faults feed.old ≤ F.faults feed.new }
