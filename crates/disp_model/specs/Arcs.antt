@@ -5,7 +5,6 @@ use Rattle.std.specs.Option.{option_map_or}
 use Rattle.disp_model.specs.declared.train.Op.{Op}
 use Rattle.disp_model.specs.declared.train.Listing.{Listing}
 use Rattle.disp_model.specs.declared.train.Operation.{Operation}
-use Rattle.disp_model.specs.declared.fixing.Fixing.{Fixing}
 use Rattle.disp_model.specs.declared.decision.Decision.{Decision}
 use Rattle.disp_model.specs.declared.decision.Decision.TheVariants.{First}
 use Rattle.disp_model.specs.declared.problem.Problem.{Problem}
@@ -13,6 +12,7 @@ use Rattle.disp_model.specs.Train.{duration_of}
 use Rattle.disp_model.specs.WellFormed.{greatest_release}
 use Rattle.disp_model.specs.Valid.{train_at}
 use Rattle.disp_model.specs.Fixing.{after}
+use Rattle.disp_model.specs.Node.{Node}
 use Rattle.disp_model.specs.Routes.{IsAllowed, IsForced}
 
 -- what an operation lists
@@ -44,10 +44,10 @@ pub record Passes (train : List Operation) (route : List ℕ) (u v total : ℕ) 
   pub total_is : total ≡ sum_by (duration_of train) (u ∷ between)
 
 -- in one train, u before v: the least sum of durations over the allowed routes (2002 paper: fixed arcs)
-pub record IsTrainArc (problem : Problem) (fixings : List Fixing) (decisions : List Decision) (u v : Op) (arc_length : ℕ) : Type 0 where
+pub record IsTrainArc (node : Node) (u v : Op) (arc_length : ℕ) : Type 0 where
   pub same_train : u.train ≡ v.train
-  pub reached : (route : List ℕ) × IsAllowed problem fixings decisions u.train route × Passes (train_at problem u.train) route u.op v.op arc_length
-  pub least : (route : List ℕ) (total : ℕ) → IsAllowed problem fixings decisions u.train route → Passes (train_at problem u.train) route u.op v.op total → arc_length ≤ total
+  pub reached : (route : List ℕ) × IsAllowed node u.train route × Passes (train_at node.problem u.train) route u.op v.op arc_length
+  pub least : (route : List ℕ) (total : ℕ) → IsAllowed node u.train route → Passes (train_at node.problem u.train) route u.op v.op total → arc_length ≤ total
 
 -- a is decided before b: its duration and its release time (2002 paper: selected arcs; release times are this project's)
 pub record IsOrderArc (problem : Problem) (decisions : List Decision) (a b : Op) (arc_length : ℕ) : Type 0 where
@@ -56,30 +56,30 @@ pub record IsOrderArc (problem : Problem) (decisions : List Decision) (a b : Op)
   pub length_is : arc_length ≡ min_of problem a + release_of problem a b
 
 -- each allowed route goes on from a to n
-abbrev pub GoesTo : Problem → List Fixing → List Decision → Op → Op → Type 0
-GoesTo problem fixings decisions a n =
-    (n.train ≡ a.train) × ((route : List ℕ) → IsAllowed problem fixings decisions a.train route → after a.op route ≡ Some n.op)
+abbrev pub GoesTo : Node → Op → Op → Type 0
+GoesTo node a n =
+    (n.train ≡ a.train) × ((route : List ℕ) → IsAllowed node a.train route → after a.op route ≡ Some n.op)
 
 -- a is decided before b, and n follows a on each allowed route: from n the release time
-pub record IsReleaseArc (problem : Problem) (fixings : List Fixing) (decisions : List Decision) (n b : Op) (arc_length : ℕ) : Type 0 where
+pub record IsReleaseArc (node : Node) (n b : Op) (arc_length : ℕ) : Type 0 where
   pub holder : Op
-  pub decided : Contains decisions (First holder b)
-  pub forced : IsForced problem fixings decisions holder
-  pub conflicts : Conflicts problem holder b
-  pub goes_to : GoesTo problem fixings decisions holder n
-  pub length_is : arc_length ≡ release_of problem holder b
+  pub decided : Contains node.decisions (First holder b)
+  pub forced : IsForced node holder
+  pub conflicts : Conflicts node.problem holder b
+  pub goes_to : GoesTo node holder n
+  pub length_is : arc_length ≡ release_of node.problem holder b
 
 -- an arc between forced operations, of a length: the later one stands behind the earlier and starts so much later
-pub record IsArc (problem : Problem) (fixings : List Fixing) (decisions : List Decision) (u v : Op) (arc_length : ℕ) : Type 0 where
-  pub from_forced : IsForced problem fixings decisions u
-  pub to_forced : IsForced problem fixings decisions v
-  pub kind : IsTrainArc problem fixings decisions u v arc_length ⊎ (IsOrderArc problem decisions u v arc_length ⊎ IsReleaseArc problem fixings decisions u v arc_length)
+pub record IsArc (node : Node) (u v : Op) (arc_length : ℕ) : Type 0 where
+  pub from_forced : IsForced node u
+  pub to_forced : IsForced node v
+  pub kind : IsTrainArc node u v arc_length ⊎ (IsOrderArc node.problem node.decisions u v arc_length ⊎ IsReleaseArc node u v arc_length)
 
 -- there is an arc
-abbrev pub HasArc : Problem → List Fixing → List Decision → Op → Op → Type 0
-HasArc problem fixings decisions u v = (arc_length : ℕ) × IsArc problem fixings decisions u v arc_length
+abbrev pub HasArc : Node → Op → Op → Type 0
+HasArc node u v = (arc_length : ℕ) × IsArc node u v arc_length
 
 -- between two nodes the longest arc counts
-pub record IsLongestArc (problem : Problem) (fixings : List Fixing) (decisions : List Decision) (u v : Op) (arc_length : ℕ) : Type 0 where
-  pub there : IsArc problem fixings decisions u v arc_length
-  pub longest : (other : ℕ) → IsArc problem fixings decisions u v other → other ≤ arc_length
+pub record IsLongestArc (node : Node) (u v : Op) (arc_length : ℕ) : Type 0 where
+  pub there : IsArc node u v arc_length
+  pub longest : (other : ℕ) → IsArc node u v other → other ≤ arc_length

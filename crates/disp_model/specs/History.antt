@@ -1,6 +1,7 @@
 -- A history of entries, oldest first: its newest edition, and where the search stands after it.
-use Rattle.std.specs.Prelude.{◌≡◌, ◌⊎◌, ℕ, ◌==◌, List, [], ◌∷◌, ◌++◌, length, Option, Some, None, MatchOption, if◌then◌else◌}
+use Rattle.std.specs.Prelude.{◌≡◌, ◌⊎◌, ℕ, ◌==◌, List, [], ◌∷◌, ◌++◌, length, take, Option, Some, None, MatchOption, if◌then◌else◌}
 use Rattle.disp_model.specs.declared.fixing.Fixing.{Fixing}
+use Rattle.disp_model.specs.declared.fixing.Change.{Change}
 use Rattle.disp_model.specs.declared.plan.Event.{Event}
 use Rattle.disp_model.specs.declared.reply.Reply.{Reply}
 use Rattle.disp_model.specs.declared.reply.Reply.TheVariants.{Accepted, Known, Refused}
@@ -12,35 +13,44 @@ use Rattle.disp_model.specs.declared.entry.Mark.{Mark}
 use Rattle.disp_model.specs.declared.entry.Mark.TheVariants as mark
 use Rattle.disp_model.specs.declared.entry.Standing.{Standing}
 use Rattle.disp_model.specs.declared.problem.Problem.{Problem}
+use Rattle.disp_model.specs.Changes.{standing_of}
 use Rattle.disp_model.specs.Valid.{IsValid}
 
--- the fixing, where the reply took it
-abbrev pub taken : Fixing → Reply → List Fixing
-taken fixing (Accepted number) = fixing ∷ []
-taken fixing (Known number) = []
-taken fixing (Refused why) = []
+-- the change, where the reply took it
+abbrev pub taken : Change → Reply → List Change
+taken change (Accepted number) = change ∷ []
+taken change (Known number) = []
+taken change (Refused why) = []
 
-abbrev pub fixing_of : Entry → List Fixing
-fixing_of (Asked feed line fixing reply) = taken fixing reply
-fixing_of (Unread feed line why) = []
-fixing_of (Shown feed line standing) = []
-fixing_of (Grown searcher edition seen node splits) = []
-fixing_of (Published edition plan cost) = []
-fixing_of (Settled edition verdict tree) = []
-fixing_of (Stopped edition spent bound) = []
+abbrev pub change_of : Entry → List Change
+change_of (Asked feed line change reply) = taken change reply
+change_of (Unread feed line why) = []
+change_of (Shown feed line standing) = []
+change_of (Grown searcher edition seen node splits) = []
+change_of (Published edition plan cost) = []
+change_of (Settled edition verdict tree) = []
+change_of (Stopped edition spent bound) = []
 
--- the accepted fixings, in order; an edition is named by how many they are
-abbrev pub edition_of : List Entry → List Fixing
-edition_of [] = []
-edition_of (entry ∷ history) = fixing_of entry ++ edition_of history
+-- the accepted changes, in order; an edition is named by how many they are
+abbrev pub changes_of : List Entry → List Change
+changes_of [] = []
+changes_of (entry ∷ history) = change_of entry ++ changes_of history
 
 -- the number of the newest edition
 abbrev pub newest : List Entry → ℕ
-newest history = length (edition_of history)
+newest history = length (changes_of history)
+
+-- the fixings of an edition: those that stand after its changes
+abbrev pub fixings_after : ℕ → List Entry → List Fixing
+fixings_after number history = standing_of (take number (changes_of history))
+
+-- the fixings of the newest edition
+abbrev pub edition_of : List Entry → List Fixing
+edition_of history = standing_of (changes_of history)
 
 -- a plan and its cost, of this entry or of the ones before
 abbrev pub plan_after : Option (List Event × ℕ) → Entry → Option (List Event × ℕ)
-plan_after before (Asked feed line fixing reply) = before
+plan_after before (Asked feed line change reply) = before
 plan_after before (Unread feed line why) = before
 plan_after before (Shown feed line standing) = before
 plan_after before (Grown searcher edition seen node splits) = before
@@ -69,7 +79,7 @@ mark_of_verdict Infeasible = mark.Infeasible
 
 -- the mark of an edition after this entry
 abbrev pub mark_after : ℕ → Mark → Entry → Mark
-mark_after number before (Asked feed line fixing reply) = before
+mark_after number before (Asked feed line change reply) = before
 mark_after number before (Unread feed line why) = before
 mark_after number before (Shown feed line standing) = before
 mark_after number before (Grown searcher edition seen node splits) = before

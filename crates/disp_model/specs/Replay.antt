@@ -2,16 +2,17 @@
 use Rattle.std.specs.Prelude.{ℕ, ◌+◌, ◌<◌, ◌==◌, List, [], ◌∷◌, ◌++◌, length, take, Option, Some, None, MatchOption, if◌then◌else◌}
 use Rattle.disp_model.specs.declared.decision.Decision.{Decision}
 use Rattle.disp_model.specs.declared.decision.Choice.{Choice}
-use Rattle.disp_model.specs.declared.reply.Reply.{Reply}
-use Rattle.disp_model.specs.declared.reply.Reply.TheVariants.{Accepted, Known, Refused}
+use Rattle.disp_model.specs.declared.settings.Settings.{Settings}
 use Rattle.disp_model.specs.declared.entry.Entry.{Entry}
 use Rattle.disp_model.specs.declared.entry.Entry.TheVariants.{Asked, Unread, Shown, Grown, Published, Settled, Stopped}
 use Rattle.disp_model.specs.declared.entry.Split.{Split}
 use Rattle.disp_model.specs.declared.problem.Problem.{Problem}
 use Rattle.disp_model.specs.Trees.{children_of}
-use Rattle.disp_model.specs.Nodes.{IsDead, IsBound}
+use Rattle.disp_model.specs.Node.{node_at}
+use Rattle.disp_model.specs.Nodes.{IsDead}
+use Rattle.disp_model.specs.Shares.{IsBound}
 use Rattle.disp_model.specs.Earliest.{IsPicked}
-use Rattle.disp_model.specs.History.{edition_of, IsBestCost}
+use Rattle.disp_model.specs.History.{fixings_after, IsBestCost}
 
 -- a node of the grown tree: a branch, or a leaf with its number and the decisions above it
 pub data Place : Type 0 where
@@ -23,9 +24,9 @@ pub record Growth : Type 0 where
   pub places : List Place
   pub unused : ℕ
 
--- one leaf, of this number
-abbrev pub one_leaf : ℕ → Growth
-one_leaf number = record { places = leaf number [] ∷ []; unused = number + 1 }
+-- the tree before any split: one leaf, of number 0
+abbrev pub one_leaf : Growth
+one_leaf = record { places = leaf 0 [] ∷ []; unused = 1 }
 
 -- leaves for children, numbered from a number on
 abbrev pub leaves_for : ℕ → List Decision → List Decision → List Place
@@ -51,14 +52,9 @@ abbrev pub after_splits : Problem → Growth → List Split → Growth
 after_splits problem growth [] = growth
 after_splits problem growth (split ∷ splits) = after_splits problem (after_split problem growth split) splits
 
--- what a reply to a fixing does to the tree: each accepted fixing starts it anew, as one leaf with the next unused number
-abbrev pub after_reply : Growth → Reply → Growth
-after_reply growth (Accepted number) = one_leaf growth.unused
-after_reply growth (Known number) = growth
-after_reply growth (Refused why) = growth
-
+-- the tree after an entry: splits alone change it, so there is one tree over all editions
 abbrev pub after_entry : Problem → Growth → Entry → Growth
-after_entry problem growth (Asked feed line fixing reply) = after_reply growth reply
+after_entry problem growth (Asked feed line change reply) = growth
 after_entry problem growth (Unread feed line why) = growth
 after_entry problem growth (Shown feed line standing) = growth
 after_entry problem growth (Grown searcher edition seen node splits) = after_splits problem growth splits
@@ -72,7 +68,7 @@ grown_from problem growth (entry ∷ history) = grown_from problem (after_entry 
 
 -- the tree that a history grew from the one leaf 0
 abbrev pub grown_by : Problem → List Entry → Growth
-grown_by problem history = grown_from problem (one_leaf 0) history
+grown_by problem history = grown_from problem one_leaf history
 
 -- the decisions above a leaf
 abbrev pub above_leaf : ℕ → List Place → Option (List Decision)
@@ -82,7 +78,7 @@ above_leaf node (leaf number above ∷ places) = if number == node then Some abo
 
 -- how many splits an entry has for an edition
 abbrev pub splits_of : ℕ → Entry → ℕ
-splits_of number (Asked feed line fixing reply) = 0
+splits_of number (Asked feed line change reply) = 0
 splits_of number (Unread feed line why) = 0
 splits_of number (Shown feed line standing) = 0
 splits_of number (Grown searcher edition seen node splits) = if edition == number then length splits else 0
@@ -99,11 +95,11 @@ spent_on number (entry ∷ history) = splits_of number entry + spent_on number h
 abbrev pub IsBelowBest : Problem → List Entry → ℕ → Type 0
 IsBelowBest problem history bound = (best : Option ℕ) × IsBestCost problem history best × MatchOption best (Unit {0}) (λ cost. bound < cost)
 
--- a split helps: under the edition's fixings its node, with these decisions above it, is not dead, its choice is the
--- one picked there, and its bound is below the best that was known when the work was taken
-pub record IsUseful (problem : Problem) (history : List Entry) (edition seen : ℕ) (above : List Decision) (split : Split) : Type 0 where
-  pub alive : IsDead problem (take edition (edition_of history)) above → ⊥
-  pub picked : IsPicked problem (take edition (edition_of history)) above (Some split.choice)
+-- a split helps: under the edition's fixings its node, with these decisions above it, is not dead, its choice is one that
+-- is picked there, and its bound is below the best that was known when the work was taken
+pub record IsUseful (problem : Problem) (settings : Settings) (history : List Entry) (edition seen : ℕ) (above : List Decision) (split : Split) : Type 0 where
+  pub alive : IsDead (node_at problem (fixings_after edition history) above) → ⊥
+  pub picked : IsPicked (node_at problem (fixings_after edition history) above) settings.rule (Some split.choice)
   pub bound : ℕ
-  pub bound_is : IsBound problem (take edition (edition_of history)) above bound
+  pub bound_is : IsBound (node_at problem (fixings_after edition history) above) settings.rule bound
   pub below : IsBelowBest problem (take seen history) bound

@@ -1,5 +1,5 @@
 use crate::decision::Choice;
-use crate::fixing::Fixing;
+use crate::fixing::Change;
 use crate::list::{Copied, List};
 use crate::memory::Memory;
 use crate::plan::Plan;
@@ -41,11 +41,11 @@ pub enum Unasked {
 /// An entry of the history.
 #[derive(Drop)]
 pub enum Entry {
-    /// A feed asked for a fixing in its line, and got the reply.
+    /// A feed asked for a change in its line, and got the reply.
     Asked {
         feed: u32,
         line: u64,
-        fixing: Fixing,
+        change: Change,
         reply: Reply,
     },
     /// A line of a feed asks nothing.
@@ -100,12 +100,12 @@ impl Copied for Entry {
             Entry::Asked {
                 feed,
                 line,
-                fixing,
+                change,
                 reply,
             } => Ok(Entry::Asked {
                 feed: *feed,
                 line: *line,
-                fixing: *fixing,
+                change: *change,
                 reply: *reply,
             }),
             Entry::Unread { feed, line, why } => Ok(Entry::Unread {

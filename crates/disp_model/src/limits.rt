@@ -20,8 +20,8 @@ pub const MOST_EVENTS: usize = 1048575;
 /// The greatest time of an event of a solution that is read, 2^62.
 pub const GREATEST_EVENT_TIME: u64 = 4611686018427387904;
 
-/// The most accepted fixings of an edition.
-pub const MOST_FIXINGS: u32 = 65535;
+/// The most accepted changes of a run.
+pub const MOST_CHANGES: u32 = 65535;
 
 /// The most searchers, and the most feeds.
 pub const MOST_CALLERS: u32 = 64;

@@ -1,7 +1,7 @@
 use crate::list::Copied;
 use crate::memory::Memory;
 
-/// Why a fixing is refused.
+/// Why a change is refused.
 #[derive(Clone, Copy, Debug, PartialEq, Eq)]
 pub enum Refusal {
     /// There is no such train.
@@ -16,22 +16,28 @@ pub enum Refusal {
     BelowLower(u32),
     /// The time is above the operation's upper.
     AboveUpper(u32),
-    /// The operation is fixed to start at another time.
+    /// No fixing was accepted as the change of this number.
+    NoSuchChange,
+    /// The fixing was taken back by the change of this number.
+    Withdrawn(u32),
+    /// The operation is fixed to start at another time, or before the one asked for.
     StartedAt(u64),
     /// The operation is fixed to go on to another one.
     ChosenIs(u64),
+    /// The operation is fixed not to start before this time.
+    EarliestIs(u64),
     /// No route of the train agrees with the fixings and this one.
     NoRoute,
-    /// There are so many fixings, and no more are taken.
+    /// There are so many changes, and no more are taken.
     Full(u32),
 }
 
-/// The reply to a fixing.
+/// The reply to a change.
 #[derive(Clone, Copy, Debug, PartialEq, Eq)]
 pub enum Reply {
     /// It is taken, and makes the edition of this number.
     Accepted(u32),
-    /// It was taken before, as the fixing of this number.
+    /// It stands already, as the change of this number.
     Known(u32),
     /// It is refused, and nothing changes.
     Refused(Refusal),

@@ -1,8 +1,8 @@
 // Copies are equal to what they are copied from.
 use crate::{
-    Alone, Answer, Choice, ComponentWalk, Copied, Entry, Event, Fixing, GREATEST_COST,
+    Alone, Answer, Change, Choice, ComponentWalk, Copied, Entry, Event, Fixing, GREATEST_COST,
     GREATEST_EVENT_TIME, GREATEST_NUMBER, Leaf, List, Listing, MOST_CALLERS, MOST_COMPONENTS,
-    MOST_EVENTS, MOST_FILE_BYTES, MOST_FIXINGS, MOST_LINE_BYTES, MOST_LINES, MOST_OPERATIONS,
+    MOST_EVENTS, MOST_FILE_BYTES, MOST_CHANGES, MOST_LINE_BYTES, MOST_LINES, MOST_OPERATIONS,
     MOST_TRAINS, Mark, Memory, Op, Operation, Plan, Reply, Split, Standing, Text, Tree, TreeNode,
     Unasked, Verdict,
 };
@@ -84,7 +84,7 @@ fn the_limits_are_those_of_the_formats(rt: HostRuntime) -> Result<(), Fail> {
         (MOST_EVENTS, GREATEST_EVENT_TIME),
         (1048575, 4611686018427387904)
     );
-    assert_eq!(rt; (MOST_FIXINGS, MOST_CALLERS), (65535, 64));
+    assert_eq!(rt; (MOST_CHANGES, MOST_CALLERS), (65535, 64));
     assert_eq!(rt;
         (MOST_LINE_BYTES, MOST_LINES, MOST_FILE_BYTES),
         (256, 1048576, 268435456)
@@ -173,7 +173,7 @@ fn each_kind_of_entry_is_copied(rt: HostRuntime) -> Result<(), Fail> {
     entries.push(Entry::Asked {
         feed: 0,
         line: 1,
-        fixing,
+        change: Change::Fix(fixing),
         reply: Reply::Accepted(1),
     })?;
     entries.push(Entry::Unread {

@@ -11,6 +11,13 @@ pub struct ComponentWalk {
     pub walk: List<Op>,
 }
 
+/// A train, and walks to operations of it, which show what its components cost at least.
+#[derive(Drop)]
+pub struct TrainWalks {
+    pub train: u32,
+    pub walks: List<List<Op>>,
+}
+
 /// Why a place of the tree needs no branch.
 #[derive(Drop)]
 pub enum Leaf {
@@ -22,6 +29,11 @@ pub enum Leaf {
     Late(List<Op>),
     /// Walks to distinct components that cost as much as the verdict.
     Costs(List<ComponentWalk>),
+    /// Walks to distinct components, and other trains, which cost together as much as the verdict.
+    Shares {
+        walks: List<ComponentWalk>,
+        trains: List<TrainWalks>,
+    },
 }
 
 /// A node of a tree.
@@ -57,6 +69,15 @@ impl Copied for ComponentWalk {
     }
 }
 
+impl Copied for TrainWalks {
+    fn copy(&self) -> Result<TrainWalks, Memory> {
+        Ok(TrainWalks {
+            train: self.train,
+            walks: self.walks.copy()?,
+        })
+    }
+}
+
 impl Copied for Leaf {
     fn copy(&self) -> Result<Leaf, Memory> {
         match self {
@@ -64,6 +85,10 @@ impl Copied for Leaf {
             Leaf::Cycle(nodes) => Ok(Leaf::Cycle(nodes.copy()?)),
             Leaf::Late(walk) => Ok(Leaf::Late(walk.copy()?)),
             Leaf::Costs(walks) => Ok(Leaf::Costs(walks.copy()?)),
+            Leaf::Shares { walks, trains } => Ok(Leaf::Shares {
+                walks: walks.copy()?,
+                trains: trains.copy()?,
+            }),
         }
     }
 }

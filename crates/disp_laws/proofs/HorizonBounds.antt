@@ -1,0 +1,136 @@
+-- No walk of a node without a cycle is longer than the horizon.
+use Rattle.std.proofs.Common.{◌≡◌, ℕ, zero, suc, ◌+◌, ◌<◌, ◌≤◌, List, [], ◌∷◌, ◌++◌, length, get_or, take, Option, Some, None, Bool, true, false, cond, refl, ap, subst, ◌∙◌, arith, inl, inr}
+use Rattle.std.specs.Prelude.{nat_eq, slice_get, MatchOption, unwrap_or, sum_by, ◌&&◌}
+use Rattle.std.specs.Option.{option_map_or}
+use Rattle.std.proofs.lemmas.Option.{none-some, same_Some, slice_get_within, get_or_from_slice_get}
+use Rattle.std.proofs.lemmas.List.Sums.{sum_by_more, sum_by-take-le}
+use Rattle.disp_model.specs.declared.limits.TheConstants.{GREATEST_NUMBER}
+use Rattle.disp_model.specs.declared.train.Op.{Op}
+use Rattle.disp_model.specs.declared.train.Operation.{Operation}
+use Rattle.disp_model.specs.declared.fixing.Fixing.{Fixing}
+use Rattle.disp_model.specs.declared.fixing.Fixing.TheVariants.{Started, Chosen}
+use Rattle.disp_model.specs.declared.decision.Decision.{Decision}
+use Rattle.disp_model.specs.declared.reply.Reply.TheVariants.{Accepted, Refused}
+use Rattle.disp_model.specs.declared.reply.Refusal.TheVariants.{NoTrain, NoOperation, TooLarge}
+use Rattle.disp_model.specs.declared.problem.Problem.{Problem}
+use Rattle.disp_model.specs.WellFormed.{span_of, horizon}
+use Rattle.disp_model.specs.Valid.{train_at}
+use Rattle.disp_model.specs.Routes.{IsForced}
+use Rattle.disp_model.specs.Arcs.{min_of}
+use Rattle.disp_model.specs.Walks.{fixed_start, lower_of, IsWalk, HasCycle}
+use Rattle.disp_model.specs.Replies.{RepliesToStart, IsReply, IsEdition}
+use Rattle.disp_laws.proofs.Tightened.{within_row, at_least}
+use Rattle.disp_laws.proofs.LongestWalks.{Among, Once, EachAmong, cut, each_cut_out, among_all_ops, all_ops_up_to, ops_up_to, all_ops, forced_among}
+use Rattle.disp_laws.proofs.Charges.{sum_ops, most_released}
+use Rattle.disp_laws.proofs.Horizon.{walk_charge, sum_append}
+
+-- ---- a sum over operations that stand once is within the sum over all
+
+each_among : (xs all : List Op) → ((x : Op) → Among x xs → Among x all) → EachAmong xs all
+each_among [] all each = tt
+each_among (x ∷ xs) all each = (each x (inl refl), each_among xs all (λ y there. each y (inr there)))
+
+sum_once : (f : Op → ℕ) (xs all : List Op) → Once xs → EachAmong xs all → sum_ops f xs ≤ sum_ops f all
+sum_once f [] all once each = omega arith
+sum_once f (x ∷ xs) all once each =
+    let parts = cut x all each.0 in
+    let rest = each_cut_out x parts.front parts.back xs (subst (EachAmong xs) parts.is each.1) once.0 in
+    let later = sum_once f xs (parts.front ++ parts.back) once.1 rest in
+    let whole : sum_ops f all ≡ sum_ops f parts.front + sum_ops f (x ∷ parts.back) = ap (sum_ops f) parts.is ∙ sum_append f parts.front (x ∷ parts.back) in
+    omega (arith, later, whole, sum_append f parts.front parts.back)
+
+sum_two : (f g : Op → ℕ) (xs : List Op) → sum_ops f xs + sum_ops g xs ≡ sum_ops (λ o. f o + g o) xs
+sum_two f g [] = omega arith
+sum_two f g (x ∷ xs) = omega (arith, sum_two f g xs)
+
+-- ---- the sum over all operations is that of the horizon
+
+-- what an operation can be charged with
+span_at : Problem → Op → ℕ
+span_at problem o = min_of problem o + most_released problem o
+
+get_within : {X : Type 0} (xs : List X) (k : ℕ) → k < length xs → (x : X) × (slice_get xs k ≡ Some x)
+get_within [] k lt = absurd (omega arith)
+get_within (x ∷ xs) zero lt = (x, refl)
+get_within (x ∷ xs) (suc k) lt = get_within xs k (omega arith)
+
+span_is : (problem : Problem) (t k : ℕ) (p : Operation) → slice_get (train_at problem t) k ≡ Some p → span_at problem (record { train = t; op = k }) ≡ span_of p
+unfolding span_at
+span_is problem t k p at = rw at refl
+
+train_sum : (problem : Problem) (t k : ℕ) → k ≤ length (train_at problem t) → sum_ops (span_at problem) (ops_up_to t k) ≡ sum_by span_of (take k (train_at problem t))
+unfolding ops_up_to
+train_sum problem t zero le = refl
+train_sum problem t (suc k) le =
+    let train = train_at problem t in
+    let at = get_within train k (omega (arith, le)) in
+    let more = sum_by_more span_of train k at.0 (omega (arith, le)) in
+    let same : get_or train k at.0 ≡ at.0 = get_or_from_slice_get train k at.0 at.0 at.1 in
+    let value : span_of (get_or train k at.0) ≡ span_of at.0 = ap span_of same in
+    let suc_is : k + 1 ≡ suc k = omega arith in
+    let next : sum_by span_of (take (suc k) train) ≡ sum_by span_of (take k train) + span_of (get_or train k at.0) = subst (λ (n : ℕ). sum_by span_of (take n train) ≡ sum_by span_of (take k train) + span_of (get_or train k at.0)) suc_is more in
+    omega (arith, next, value, span_is problem t k at.0 at.1, train_sum problem t k (omega (arith, le)))
+
+trains_sum : (problem : Problem) (n : ℕ) → n ≤ length problem.trains → sum_ops (span_at problem) (all_ops_up_to problem n) ≤ sum_by (λ train. sum_by span_of train) (take n problem.trains)
+unfolding all_ops_up_to
+trains_sum problem zero le = omega arith
+trains_sum problem (suc n) le =
+    let train = train_at problem n in
+    let own = train_sum problem n (length train) (omega arith) in
+    let more = sum_by_more (λ train. sum_by span_of train) problem.trains n [] (omega (arith, le)) in
+    let suc_is : n + 1 ≡ suc n = omega arith in
+    let next : sum_by (λ train. sum_by span_of train) (take (suc n) problem.trains) ≡ sum_by (λ train. sum_by span_of train) (take n problem.trains) + sum_by span_of (get_or problem.trains n []) =
+    subst (λ (m : ℕ). sum_by (λ train. sum_by span_of train) (take m problem.trains) ≡ sum_by (λ train. sum_by span_of train) (take n problem.trains) + sum_by span_of (get_or problem.trains n [])) suc_is more in
+    omega (arith, next, own, sum_by-take-le span_of train (length train), trains_sum problem n (omega (arith, le)), sum_append (span_at problem) (ops_up_to n (length train)) (all_ops_up_to problem n))
+
+-- ---- lowers are within the greatest number
+
+fixed_found : (fixings : List Fixing) (o : Op) (time : ℕ) → fixed_start fixings o ≡ Some time → (i : ℕ) × (t : ℕ) × (p : ℕ) × (slice_get fixings i ≡ Some (Started t p time))
+fixed_found [] o time at = absurd (none-some time at)
+fixed_found (Chosen t p next ∷ fixings) o time at = let later = fixed_found fixings o time at in (suc later.0, later.1, later.2, later.3)
+fixed_found (Started t p s ∷ fixings) o time at = here ((nat_eq t o.train) && (nat_eq p o.op)) at (λ h. fixed_found fixings o time h)
+  where
+    here : (b : Bool) → cond b (Some s) (fixed_start fixings o) ≡ Some time → (fixed_start fixings o ≡ Some time → (i : ℕ) × (t : ℕ) × (p : ℕ) × (slice_get fixings i ≡ Some (Started t p time)))
+        → (i : ℕ) × (u : ℕ) × (q : ℕ) × (slice_get (Started t p s ∷ fixings) i ≡ Some (Started u q time))
+    here true at later = (0, t, p, ap (λ (n : ℕ). Some (Started t p n)) (same_Some s time at))
+    here false at later = let found = later at in (suc found.0, found.1, found.2, found.3)
+
+accepted_small : (problem : Problem) (fixings : List Fixing) (t o time n : ℕ) → IsReply problem fixings (Started t o time) (Accepted n) → time ≤ GREATEST_NUMBER
+accepted_small problem fixings t o time n reply = by_train (slice_get problem.trains t) reply
+  where
+    by_operation : (found : Option Operation) → MatchOption found (Accepted n ≡ Refused NoOperation) (λ operation. RepliesToStart problem fixings t o time operation (Accepted n)) → time ≤ GREATEST_NUMBER
+    by_operation None reply = absurd cc
+    by_operation (Some p) reply = at_least time GREATEST_NUMBER (within_row (Refused TooLarge) n (λ e. absurd cc) reply).0
+
+    by_train : (found : Option (List Operation)) → MatchOption found (Accepted n ≡ Refused NoTrain) (λ train. MatchOption (slice_get train o) (Accepted n ≡ Refused NoOperation) (λ operation. RepliesToStart problem fixings t o time operation (Accepted n))) → time ≤ GREATEST_NUMBER
+    by_train None reply = absurd cc
+    by_train (Some train) reply = by_operation (slice_get train o) reply
+
+lower_within : (node : Node) (o : Op) → IsEdition node.problem node.fixings → IsForced node o → lower_of node.problem node.fixings o ≤ GREATEST_NUMBER
+lower_within node o edition forced = by_fixed (fixed_start node.fixings o) refl
+  where
+    own : (found : Option Operation) → slice_get (train_at node.problem o.train) o.op ≡ found → option_map_or (λ p. p.lower) found 0 ≤ GREATEST_NUMBER
+    own None at = omega arith
+    own (Some p) at =
+        let fits = node.problem.well_formed.numbers o.train [] forced.train o.op p (slice_get_within (train_at node.problem o.train) o.op p at) in
+        let same : get_or (train_at node.problem o.train) o.op p ≡ p = get_or_from_slice_get (train_at node.problem o.train) o.op p p at in
+        subst (λ (q : Operation). q.lower ≤ GREATEST_NUMBER) same fits.lower
+
+    by_fixed : (fixed : Option ℕ) → fixed_start fixings o ≡ fixed → unwrap_or fixed (option_map_or (λ p. p.lower) (slice_get (train_at problem o.train) o.op) 0) ≤ GREATEST_NUMBER
+    by_fixed None at = own (slice_get (train_at problem o.train) o.op) refl
+    by_fixed (Some time) at =
+        let found = fixed_found fixings o time at in
+        accepted_small problem (take found.0 fixings) found.1 found.2 time (found.0 + 1) (edition found.0 (Started found.1 found.2 time) found.3)
+
+-- ---- the horizon
+
+pub within_horizon : (node : Node) (walk : List Op) (total : ℕ) → IsEdition node.problem node.fixings → (HasCycle node → ⊥) → IsWalk node walk total → total ≤ horizon node.problem.trains
+unfolding all_ops span_at
+within_horizon node [] total edition no_cycle walk = absurd walk
+within_horizon node (u ∷ rest) total edition no_cycle walk =
+    let n = length node.problem.trains in
+    let charge = walk_charge node no_cycle u (lower_of node.problem node.fixings u) rest total walk.1 in
+    let mins = sum_once (min_of node.problem) charge.mins (all_ops node.problem) charge.mins_once (each_among charge.mins (all_ops node.problem) (λ x there. let inside = charge.mins_inside x there in among_all_ops node.problem x n inside.0 inside.1)) in
+    let releases = sum_once (most_released node.problem) charge.releases (all_ops node.problem) charge.releases_once (each_among charge.releases (all_ops node.problem) (λ h there. forced_among node h (charge.releases_forced h there))) in
+    let lower = lower_within node u edition walk.0 in
+    omega (arith, charge.enough, mins, releases, lower, sum_two (min_of node.problem) (most_released node.problem) (all_ops node.problem), trains_sum node.problem n (omega arith), sum_by-take-le (λ train. sum_by span_of train) node.problem.trains n)

@@ -1,0 +1,163 @@
+-- With an accepted fixing added a leaf that holds still holds, and an accepted tree is still accepted.
+use Rattle.std.proofs.Common.{◌≡◌, ℕ, zero, suc, ◌+◌, ◌<◌, ◌≤◌, List, [], ◌∷◌, ◌++◌, length, map, refl, subst, arith, inl, inr}
+use Rattle.std.specs.Prelude.{◌⊎◌}
+use Rattle.std.proofs.lemmas.Bool.{cases_lt}
+use Rattle.disp_model.specs.declared.train.Op.{Op}
+use Rattle.disp_model.specs.declared.fixing.Fixing.{Fixing}
+use Rattle.disp_model.specs.declared.decision.Decision.{Decision}
+use Rattle.disp_model.specs.declared.reply.Reply.TheVariants.{Accepted}
+use Rattle.disp_model.specs.declared.tree.ComponentWalk.{ComponentWalk}
+use Rattle.disp_model.specs.declared.tree.Leaf.{Leaf as TreeLeaf}
+use Rattle.disp_model.specs.declared.tree.Leaf.TheVariants.{NoRoute, Cycle, Late, Costs}
+use Rattle.disp_model.specs.declared.tree.TreeNode.{TreeNode}
+use Rattle.disp_model.specs.declared.tree.TreeNode.TheVariants.{Branch, Leaf}
+use Rattle.disp_model.specs.declared.tree.Verdict.{Verdict}
+use Rattle.disp_model.specs.declared.tree.Verdict.TheVariants.{Optimal, Infeasible}
+use Rattle.disp_model.specs.declared.problem.Problem.{Problem}
+use Rattle.disp_model.specs.Cost.{cost_at}
+use Rattle.disp_model.specs.Routes.{HasRoute, HasNoRoute}
+use Rattle.disp_model.specs.Arcs.{IsArc, IsLongestArc}
+use Rattle.disp_model.specs.Walks.{lower_of, WalksOn, IsWalk, ClosesTo, IsCycle}
+use Rattle.disp_model.specs.Trees.{IsLateWalk, WalkCosts, WalksCost, ReachVerdict, Shows, LeafHolds, children_of, Fills, Accepts}
+use Rattle.disp_model.specs.Replies.{IsReply}
+use Rattle.disp_laws.proofs.Costs.{costs_grow}
+use Rattle.disp_laws.proofs.Tightened.{still_forced, still_none, release_arc_stays, lower_grows, upper_falls}
+use Rattle.disp_laws.proofs.RouteSearch.{Decided, has_route_or_not}
+use Rattle.disp_laws.proofs.LeastSums.{train_arc_stays}
+use Rattle.disp_laws.proofs.LongestArcs.{longest_arc}
+
+-- each train has an allowed route
+abbrev HaveRoutes : Node → Type 0
+HaveRoutes node = (t : ℕ) → t < length node.problem.trains → HasRoute node t
+
+none_or_all : (P : ℕ → Type 0) (n : ℕ) → ((t : ℕ) → t < n → Decided (P t)) → ((t : ℕ) × (t < n) × (P t → ⊥)) ⊎ ((t : ℕ) → t < n → P t)
+none_or_all P zero each = inr (λ t lt. absurd (omega arith))
+none_or_all P (suc n) each = elim (each n (omega arith)) [
+  | inr not ↦ inl (n, omega arith, not)
+  | inl here ↦ elim (none_or_all P n (λ t lt. each t (omega arith))) [
+    | inl found ↦ inl (found.0, omega (arith, found.1), found.2)
+    | inr all ↦ inr (λ t lt. last_or_before P n here all t lt)
+  ]
+]
+  where
+    last_or_before : (P : ℕ → Type 0) (n : ℕ) → P n → ((t : ℕ) → t < n → P t) → (t : ℕ) → t < suc n → P t
+    last_or_before P n here all t lt = elim (cases_lt t n) [ inl before ↦ all t before | inr le ↦ subst P (let same : n ≡ t = omega (arith, le, lt) in same) here ]
+
+routes_or_none : (node : Node) → HasNoRoute node ⊎ HaveRoutes node
+routes_or_none node = none_or_all (HasRoute node) (length node.problem.trains) (λ t there. has_route_or_not node t there)
+
+-- ---- arcs
+
+-- where the trains still have routes an arc stays, and is no shorter
+pub arc_stays : (node : Node) (more : List Fixing) (u v : Op) (before : ℕ) → IsArc node u v before → HasRoute (with_fixings node more) u.train → HasRoute (with_fixings node more) v.train
+    → (behind : ℕ) × IsArc (with_fixings node more) u v behind × (before ≤ behind)
+arc_stays node more u v before arc one other =
+    let from = still_forced node more u arc.from_forced one in
+    let to = still_forced node more v arc.to_forced other in
+    elim arc.kind [
+      | inl train ↦ let new = train_arc_stays node more u v before train from to in (new.0, record { from_forced = from; to_forced = to; kind = inl new.1 }, new.2)
+      | inr rest ↦ elim rest [
+        | inl order ↦ (before, record { from_forced = from; to_forced = to; kind = inr (inl order) }, omega arith)
+        | inr release ↦ (before, record { from_forced = from; to_forced = to; kind = inr (inr (release_arc_stays node more u v before release one)) }, omega arith)
+      ]
+    ]
+
+longest_stays : (node : Node) (more : List Fixing) (u v : Op) (before : ℕ) → HaveRoutes (with_fixings node more) → IsLongestArc node u v before
+    → (behind : ℕ) × IsLongestArc (with_fixings node more) u v behind × (before ≤ behind)
+longest_stays node more u v before all arc =
+    let new = arc_stays node more u v before arc.there (all u.train arc.there.from_forced.train) (all v.train arc.there.to_forced.train) in
+    let longest = longest_arc (with_fixings node more) u v new.0 new.1 in
+    (longest.0, longest.1, omega (arith, new.2, longest.1.longest new.0 new.1))
+
+-- ---- cycles
+
+closes_stays : (node : Node) (more : List Fixing) → HaveRoutes (with_fixings node more) → (first u : Op) (rest : List Op) → ClosesTo node first u rest → ClosesTo (with_fixings node more) first u rest
+closes_stays node more all first u [] arc =
+    let new = arc_stays node more u first arc.0 arc.1 (all u.train arc.1.from_forced.train) (all first.train arc.1.to_forced.train) in (new.0, new.1)
+closes_stays node more all first u (v ∷ rest) closes =
+    let arc = closes.0 in
+    let new = arc_stays node more u v arc.0 arc.1 (all u.train arc.1.from_forced.train) (all v.train arc.1.to_forced.train) in
+    ((new.0, new.1), closes_stays node more all first v rest closes.1)
+
+cycle_stays : (node : Node) (more : List Fixing) (nodes : List Op) → HaveRoutes (with_fixings node more) → IsCycle node nodes → IsCycle (with_fixings node more) nodes
+cycle_stays node more [] all cycle = cycle
+cycle_stays node more (u ∷ []) all cycle = cycle
+cycle_stays node more (u ∷ v ∷ rest) all cycle = closes_stays node more all u u (v ∷ rest) cycle
+
+-- ---- walks
+
+walks_on_stays : (node : Node) (more : List Fixing) → HaveRoutes (with_fixings node more)
+    → (u : Op) (rest : List Op) (walked total later : ℕ) → WalksOn node u walked rest total → walked ≤ later → (new : ℕ) × WalksOn (with_fixings node more) u later rest new × (total ≤ new)
+walks_on_stays node more all u [] walked total later walk le = (later, refl, omega (arith, walk, le))
+walks_on_stays node more all u (v ∷ rest) walked total later walk le =
+    let arc = longest_stays node more u v walk.0 all walk.1 in
+    let on = walks_on_stays node more all v rest (walked + walk.0) total (later + arc.0) walk.2 (omega (arith, le, arc.2)) in
+    (on.0, (arc.0, arc.1, on.1), on.2)
+
+walk_stays : (node : Node) (fixing : Fixing) (number : ℕ) (walk : List Op) (total : ℕ) → IsReply node.problem node.fixings fixing (Accepted number) → HaveRoutes (with_fixings node (fixing ∷ []))
+    → IsWalk node walk total → (new : ℕ) × IsWalk (with_fixings node (fixing ∷ [])) walk new × (total ≤ new)
+walk_stays node fixing number [] total reply all walk = absurd walk
+walk_stays node fixing number (u ∷ rest) total reply all walk =
+    let forced = still_forced node.problem node.fixings (fixing ∷ []) node.decisions u walk.0 (all u.train walk.0.train) in
+    let on = walks_on_stays node.problem node.fixings (fixing ∷ []) node.decisions all u rest (lower_of node.problem node.fixings u) total (lower_of node.problem (node.fixings ++ fixing ∷ []) u) walk.1 (lower_grows node.problem node.fixings fixing number u reply) in
+    (on.0, (forced, on.1), on.2)
+
+late_stays : (node : Node) (fixing : Fixing) (number : ℕ) (walk : List Op) → IsReply node.problem node.fixings fixing (Accepted number) → HaveRoutes (with_fixings node (fixing ∷ []))
+    → IsLateWalk node walk → IsLateWalk (with_fixings node (fixing ∷ [])) walk
+late_stays node fixing number walk reply all late =
+    let new = walk_stays node fixing number walk late.total reply all late.is_walk in
+    let upper = upper_falls node.problem node.fixings fixing number late.end late.upper reply late.upper_is in
+    record { end = late.end; ends = late.ends; total = new.0; is_walk = new.1; upper = upper.0; upper_is = upper.1; late = omega (arith, late.late, new.2, upper.2) }
+
+walks_cost_stay : (node : Node) (fixing : Fixing) (number : ℕ) → IsReply node.problem node.fixings fixing (Accepted number) → HaveRoutes (with_fixings node (fixing ∷ []))
+    → (walks : List ComponentWalk) (sum : ℕ) → WalksCost node walks sum → (new : ℕ) × WalksCost (with_fixings node (fixing ∷ [])) walks new × (sum ≤ new)
+walks_cost_stay node fixing number reply all [] sum adds = (0, refl, omega (arith, adds))
+walks_cost_stay node fixing number reply all (w ∷ walks) sum adds =
+    let old = adds.2 in
+    let walk = walk_stays node fixing number w.walk old.total reply all old.is_walk in
+    let cost = cost_at old.component walk.0 in
+    let rest = walks_cost_stay node fixing number reply all walks adds.1 adds.3 in
+    let new : WalkCosts (with_fixings node (fixing ∷ [])) w cost =
+    record { component = old.component; there = old.there; ends = old.ends; total = walk.0; is_walk = walk.1; cost_is = refl } in
+    (cost + rest.0, (cost, rest.0, new, rest.1, refl), omega (arith, adds.4, old.cost_is, costs_grow old.component old.total walk.0 walk.2, rest.2))
+
+-- ---- leaves
+
+reach_stays : (node : Node) (fixing : Fixing) (number : ℕ) (verdict : Verdict) (walks : List ComponentWalk) → IsReply node.problem node.fixings fixing (Accepted number) → HaveRoutes (with_fixings node (fixing ∷ []))
+    → ReachVerdict node verdict walks → ReachVerdict (with_fixings node (fixing ∷ [])) verdict walks
+reach_stays node fixing number (Optimal cost) walks reply all enough =
+    let new = walks_cost_stay node fixing number reply all walks enough.sum enough.sum_is in
+    record { distinct = enough.distinct; sum = new.0; sum_is = new.1; enough = omega (arith, enough.enough, new.2) }
+reach_stays node fixing number Infeasible walks reply all enough = enough
+
+shows_stay : (node : Node) (fixing : Fixing) (number : ℕ) (verdict : Verdict) (leaf : TreeLeaf) → IsReply node.problem node.fixings fixing (Accepted number) → HaveRoutes (with_fixings node (fixing ∷ []))
+    → Shows node verdict leaf → Shows (with_fixings node (fixing ∷ [])) verdict leaf
+shows_stay node fixing number verdict NoRoute reply all shown = shown
+shows_stay node fixing number verdict (Cycle nodes) reply all shown = cycle_stays node.problem node.fixings (fixing ∷ []) node.decisions nodes all shown
+shows_stay node fixing number verdict (Late walk) reply all shown = late_stays node fixing number walk reply all shown
+shows_stay node fixing number verdict (Costs walks) reply all shown = reach_stays node fixing number verdict walks reply all shown
+
+pub leaf_stays : (node : Node) (fixing : Fixing) (number : ℕ) (verdict : Verdict) (leaf : TreeLeaf) → IsReply node.problem node.fixings fixing (Accepted number)
+    → LeafHolds node verdict leaf → LeafHolds (with_fixings node (fixing ∷ [])) verdict leaf
+leaf_stays node fixing number verdict leaf reply holds = elim holds [
+  | inl none ↦ inl (still_none node.problem node.fixings (fixing ∷ []) node.decisions none)
+  | inr shown ↦ elim (routes_or_none (with_fixings node (fixing ∷ []))) [
+    | inl none ↦ inl none
+    | inr all ↦ inr (shows_stay node fixing number verdict leaf reply all shown)
+  ]
+]
+
+-- ---- trees
+
+fills_stays : (problem : Problem) (fixings : List Fixing) (fixing : Fixing) (number : ℕ) (verdict : Verdict) → IsReply problem fixings fixing (Accepted number)
+    → (tree : List TreeNode) (places : List (List Decision)) → Fills problem fixings verdict places tree → Fills problem (fixings ++ fixing ∷ []) verdict places tree
+fills_stays problem fixings fixing number verdict reply [] [] fills = fills
+fills_stays problem fixings fixing number verdict reply [] (decisions ∷ places) fills = fills
+fills_stays problem fixings fixing number verdict reply (node ∷ tree) [] fills = fills
+fills_stays problem fixings fixing number verdict reply (Leaf leaf ∷ tree) (decisions ∷ places) fills =
+    (leaf_stays problem fixings fixing number decisions verdict leaf reply fills.0, fills_stays problem fixings fixing number verdict reply tree places fills.1)
+fills_stays problem fixings fixing number verdict reply (Branch choice children ∷ tree) (decisions ∷ places) fills =
+    (fills.0, fills.1, fills_stays problem fixings fixing number verdict reply tree (map (λ d. decisions ++ d ∷ []) (children_of problem choice) ++ places) fills.2)
+
+pub tree_stays : (problem : Problem) (fixings : List Fixing) (fixing : Fixing) (number : ℕ) (verdict : Verdict) (tree : List TreeNode) → IsReply problem fixings fixing (Accepted number) → Accepts problem fixings verdict tree → Accepts problem (fixings ++ fixing ∷ []) verdict tree
+tree_stays problem fixings fixing number verdict tree reply accepts = fills_stays problem fixings fixing number verdict reply tree ([] ∷ []) accepts

@@ -1,5 +1,0 @@
-use Rattle.disp_model.proofs.Costs.{bound_holds}
-use Rattle.disp_model.proofs.laws.bound_holds.Goals as goal
-
-pub returns : goal.returns
-returns c = bound_holds

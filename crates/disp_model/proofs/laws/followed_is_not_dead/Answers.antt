@@ -1,5 +1,0 @@
-use Rattle.disp_model.proofs.WalksHold.{not_dead}
-use Rattle.disp_model.proofs.laws.followed_is_not_dead.Goals as goal
-
-pub returns : goal.returns
-returns c = not_dead

@@ -1,5 +1,0 @@
-use Rattle.disp_model.proofs.LongestArcs.{longest_arc}
-use Rattle.disp_model.proofs.laws.longest_arcs_exist.Goals as goal
-
-pub returns : goal.returns
-returns c = longest_arc

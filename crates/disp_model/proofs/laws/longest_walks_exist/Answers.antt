@@ -1,9 +1,0 @@
-use Rattle.disp_model.proofs.LongestWalks.{longest_walk, some_bound, add_up_same}
-use Rattle.disp_model.proofs.laws.longest_walks_exist.Goals as goal
-
-pub returns : goal.returns
-returns c = record {
-  longest = longest_walk;
-  bound = some_bound;
-  alone = λ problem fixings decisions bound other one too. add_up_same problem fixings decisions problem.components bound other one too;
-}

@@ -1,5 +1,0 @@
-use Rattle.disp_model.proofs.Ends.{entered_once, left_once}
-use Rattle.disp_model.proofs.laws.trains_have_ends.Goals as goal
-
-pub returns : goal.returns
-returns c = record { entry = entered_once; exit = left_once }
