@@ -14,6 +14,7 @@ ghost use Rattle.disp_model.specs.Node.{Node, node_at, with_decision, with_fixin
 ghost use Rattle.disp_model.specs.Changes.{standing_of};
 ghost use Rattle.disp_model.specs.declared.decision.Choice.{Choice};
 ghost use Rattle.disp_model.specs.declared.decision.Choice.TheVariants.{Route};
+ghost use Rattle.disp_model.specs.declared.reply.Reply.{Reply};
 ghost use Rattle.disp_model.specs.declared.reply.Reply.TheVariants.{Accepted};
 ghost use Rattle.disp_model.specs.declared.tree.ComponentWalk.{ComponentWalk};
 ghost use Rattle.disp_model.specs.declared.tree.TreeNode.{TreeNode};
@@ -199,6 +200,12 @@ pub fn longest_walks_exist()
         → (bound : ℕ) × IsBound node Fixed bound }
     ensures alone { (node : Node) (bound other : ℕ)
         → IsBound node Fixed bound → IsBound node Fixed other → bound ≡ other }
+{}
+
+/// Whatever the problem and the changes before, a change has one reply.
+pub fn replies_are_one()
+    ensures { (problem : Problem) (changes : List Change) (change : Change) (reply other : Reply)
+        → IsReply problem changes change reply → IsReply problem changes change other → reply ≡ other }
 {}
 
 /// The horizon bounds walks: with an edition's fixings and no cycle of arcs, no walk is longer than the

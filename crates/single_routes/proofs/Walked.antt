@@ -156,7 +156,7 @@ walk_on t done s from lt = ap (map (λ (x : Stop). op t x.op)) (drop_more from d
 begun : (problem : Problem) (t : ℕ) (done : List Stop) (s : Stop) → IsForced (root_of problem []) (op t s.op) → s.from ≡ length done → lower_in (train_at problem t) s.op ≡ s.start → Carried problem t s.op s.start (done ++ s ∷ []) s.from
 begun problem t done s forced from start = record {
   from_done = omega (arith, from, length-append done (s ∷ []));
-  walk = subst (λ (w : List Op). HasWalk problem w s.start (op t s.op)) (sym (walk_here t done s s.from from)) (one_walk problem (op t s.op) s.start forced start);
+  walk = subst (λ (w : List Op). HasWalk problem w s.start (op t s.op)) (sym (walk_here t done s s.from from)) (one_walk problem (op t s.op) s.start forced (let own : lower_of problem [] (op t s.op) ≡ lower_in (train_at problem t) s.op = omega arith in own ∙ start));
 }
 
 continued : (problem : Problem) (t : ℕ) (done : List Stop) (s : Stop) (last start arc_length : ℕ) → IsLongestArc (root_of problem []) (op t last) (op t s.op) arc_length → start + arc_length ≡ s.start → Carried problem t last start done s.from → Carried problem t s.op s.start (done ++ s ∷ []) s.from
