@@ -21,7 +21,7 @@ started_allowed names w = record {
 
 accepted_made : (names : List (List ℕ)) (w : IsWellFormed (two_trains 0) two_costs names) → IsReply (made (two_trains 0) two_costs names w) [] (Fix (Started 0 0 0)) (Accepted 1)
 accepted_made names w =
-    inr ((λ less. omega arith), inr ((λ less. omega arith), inr ((λ none. none (0 ∷ 1 ∷ [], started_allowed names w)), inr ((λ same. omega arith), refl))))
+    inr ((λ less. omega arith), inr ((λ less. omega arith), inr ((λ less. omega arith), inr ((λ none. none (0 ∷ 1 ∷ [], started_allowed names w)), inr ((λ same. omega arith), refl)))))
 
 pub a_start_is_accepted : (problem : Problem) → HasTwoTrains 0 problem → IsReply problem [] (Fix (Started 0 0 0)) (Accepted 1)
 a_start_is_accepted problem has = of_made (λ p. IsReply p [] (Fix (Started 0 0 0)) (Accepted 1)) (two_trains 0) two_costs accepted_made problem has.trains has.components

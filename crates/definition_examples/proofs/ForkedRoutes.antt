@@ -196,4 +196,4 @@ none_left names w (route, allowed) =
 pub no_route : (problem : Problem) → HasForkedTrain problem → IsReply problem (Fix (Chosen 0 0 2) ∷ []) (Fix (Started 0 1 4)) (Refused NoRoute)
 no_route problem has =
     of_made (λ p. IsReply p (Fix (Chosen 0 0 2) ∷ []) (Fix (Started 0 1 4)) (Refused NoRoute)) (forked ∷ []) []
-    (λ names w. inr ((λ less. omega arith), inr ((λ less. omega arith), inl (none_left names w, refl)))) problem has.trains has.components
+    (λ names w. inr ((λ less. omega arith), inr ((λ less. omega arith), inr ((λ less. omega arith), inl (none_left names w, refl))))) problem has.trains has.components

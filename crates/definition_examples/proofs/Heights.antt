@@ -1,7 +1,7 @@
 -- Where each operation has a height that no arc passes, no walk is longer than the height of its end. Where each
 -- arc leads to a higher rank, there is no cycle.
 use Rattle.std.proofs.Common.{◌≡◌, ℕ, ◌+◌, ◌<◌, ◌≤◌, List, [], ◌∷◌, ◌++◌, drop, get_or, subst, ap, arith}
-use Rattle.disp_model.specs.Node.{Node, node_at}
+use Rattle.disp_model.specs.Node.{Node}
 use Rattle.disp_model.specs.declared.train.Op.{Op}
 use Rattle.disp_model.specs.declared.fixing.Fixing.{Fixing}
 use Rattle.disp_model.specs.declared.decision.Decision.{Decision}
@@ -21,7 +21,7 @@ ends_later : (u v : Op) (rest : List Op) (o : Op) → EndsIn (u ∷ v ∷ rest) 
 ends_later u v rest o ([], e) = absurd (grind (arith, e))
 ends_later u v rest o (x ∷ front, e) = (front, ap (drop 1) e)
 
-pub record IsHeight (node_at (node : Node) (height : Op → ℕ) :) Type 0 where
+pub record IsHeight (node : Node) (height : Op → ℕ) : Type 0 where
   pub lower : (o : Op) → lower_of node.problem node.fixings o ≤ height o
   pub arcs : (u v : Op) (arc_length : ℕ) → IsArc node u v arc_length → height u + arc_length ≤ height v
 

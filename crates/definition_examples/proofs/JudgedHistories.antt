@@ -19,8 +19,8 @@ use Rattle.definition_examples.proofs.Pairs.{Places, at_each}
 use Rattle.definition_examples.proofs.Answered.{a_start_is_accepted}
 
 -- a history is legal where each of its entries is
-pub legal : (problem : Problem) (budget : ℕ) (history : List Entry) → Places (λ i entry. IsLegalEntry problem budget (take i history) entry) 0 history → IsLegal problem (fixed_rule budget) history
-legal problem budget history each i entry at = at_each (λ j other. IsLegalEntry problem budget (take j history) other) history each i entry at
+pub legal : (problem : Problem) (budget : ℕ) (history : List Entry) → Places (λ i entry. IsLegalEntry problem (fixed_rule budget) (take i history) entry) 0 history → IsLegal problem (fixed_rule budget) history
+legal problem budget history each i entry at = at_each (λ j other. IsLegalEntry problem (fixed_rule budget) (take j history) other) history each i entry at
 
 pub asked_is_legal : (problem : Problem) (budget : ℕ) → HasTwoTrains 0 problem → IsLegal problem (fixed_rule budget) asked
 asked_is_legal problem budget has = legal problem budget asked (a_start_is_accepted problem has, (search rules, tt))
@@ -47,7 +47,7 @@ not_valid_then problem valid =
     let time : 4 ≡ 0 = same_Some 4 0 (valid.met 0 a0_at_0 (omega arith)) in
     omega (arith, time)
 
-outdated_shown : (problem : Problem) → IsLegalEntry problem 0 (Published 0 second_first 18 ∷ Asked 0 1 (Fix a0_at_0) (Accepted 1) ∷ []) (Shown 0 2 (record { edition = 1; best = None; mark = mark.Working }))
+outdated_shown : (problem : Problem) → IsLegalEntry problem (fixed_rule 0) (Published 0 second_first 18 ∷ Asked 0 1 (Fix a0_at_0) (Accepted 1) ∷ []) (Shown 0 2 (record { edition = 1; best = None; mark = mark.Working }))
 outdated_shown problem = record { edition = refl; best = inr (not_valid_then problem, refl); mark = refl }
 
 pub outdated_is_legal : (problem : Problem) (budget : ℕ) → HasTwoTrains 0 problem → IsLegal problem (fixed_rule budget) outdated
@@ -66,12 +66,12 @@ other_cost problem budget has each =
 
 pub unspent : (problem : Problem) (budget bound : ℕ) → HasTwoTrains 0 problem → 0 < budget → IsLegal problem (fixed_rule budget) (stopped 0 bound) → ⊥
 unspent problem budget bound has some each =
-    let entry : IsLegalStop problem budget [] 0 0 bound = each 0 (Stopped 0 0 bound) refl in
+    let entry : IsLegalStop problem (fixed_rule budget) [] 0 0 bound = each 0 (Stopped 0 0 bound) refl in
     let all : 0 ≡ budget = entry.budget_is in
     omega arith
 
 pub invented : (problem : Problem) (budget bound : ℕ) → HasTwoTrains 0 problem → 0 < budget → IsLegal problem (fixed_rule budget) (stopped budget bound) → ⊥
 invented problem budget bound has some each =
-    let entry : IsLegalStop problem budget [] 0 budget bound = each 0 (Stopped 0 budget bound) refl in
+    let entry : IsLegalStop problem (fixed_rule budget) [] 0 budget bound = each 0 (Stopped 0 budget bound) refl in
     let none : budget ≡ 0 = entry.spent_is in
     omega arith

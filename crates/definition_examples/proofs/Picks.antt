@@ -189,8 +189,8 @@ alone_clash names w = record {
   not_apart = alone_not_apart names w;
 }
 
-alone_open : (names : List (List ℕ)) (w : IsWellFormed (two_trains 0) two_costs names) → IsOpenClash (two 0 names w) [] each_alone a0 b0
-alone_open names w = record {
+alone_open : (names : List (List ℕ)) (w : IsWellFormed (two_trains 0) two_costs names) (fixings : List Fixing) → IsOpenClash (root_of (two 0 names w) fixings) each_alone a0 b0
+alone_open names w fixings = record {
   trains = omega arith;
   clash = alone_clash names w;
   undecided = none_decided a0 b0;
@@ -203,7 +203,7 @@ picks_order names w fixings low open_all = record {
   plan = each_alone;
   earliest = alone_earliest 0 names w fixings low open_all;
   not_valid = λ valid. alone_not_apart names w (valid.apart 0 1 (event 0 0 0) (event 1 0 0) (omega arith) refl refl (omega arith));
-  first_clash = record { open_clash = alone_open names w; first = λ c d clash. up_to c.train c.op d.train d.op clash.trains };
+  first_clash = record { open_clash = alone_open names w fixings; first = λ c d clash. up_to c.train c.op d.train d.op clash.trains };
 }
 
 pub order_is_picked : (problem : Problem) → HasTwoTrains 0 problem → IsFixedPick (root_of problem []) (Some (Order a0 b0))

@@ -84,10 +84,10 @@ alive names w dead =
 -- ---- the entries
 
 abbrev split : Split
-split = record { node = 1; choice = Order a0 b0 }
+split = record { node = 0; choice = Order a0 b0 }
 
-useful : (names : List (List ℕ)) (w : IsWellFormed (two_trains 0) two_costs names) → IsUseful (two 0 names w) asked 1 1 [] split
-useful names w = record {
+useful : (names : List (List ℕ)) (w : IsWellFormed (two_trains 0) two_costs names) (budget : ℕ) → IsUseful (two 0 names w) (fixed_rule budget) asked 1 1 [] split
+useful names w budget = record {
   alive = alive names w;
   picked = picks_order names w (a0_at_0 ∷ []) (started_from_zero 0 names w) (open_started names w);
   bound = 14;
@@ -95,22 +95,22 @@ useful names w = record {
   below = (None, refl, tt);
 }
 
-growth : (names : List (List ℕ)) (w : IsWellFormed (two_trains 0) two_costs names) (budget : ℕ) → 1 ≤ budget → IsLegalGrowth (two 0 names w) budget asked 1 1 1 (split ∷ [])
+growth : (names : List (List ℕ)) (w : IsWellFormed (two_trains 0) two_costs names) (budget : ℕ) → 1 ≤ budget → IsLegalGrowth (two 0 names w) (fixed_rule budget) asked 1 1 0 (split ∷ [])
 growth names w budget some = record {
   taken_before = omega arith;
   edition_then = refl;
   leaf_then = search rules;
   leaf_now = search rules;
-  useful = ((0, omega arith, refl), ([], refl, useful names w), tt);
+  useful = ((0, omega arith, refl), ([], refl, useful names w budget), tt);
   within_budget = some;
 }
 
 abbrev grown : List Entry
-grown = Asked 0 1 (Fix a0_at_0) (Accepted 1) ∷ Shown 0 2 (record { edition = 1; best = None; mark = mark.Working }) ∷ Grown 0 1 1 1 (split ∷ []) ∷ []
+grown = Asked 0 1 (Fix a0_at_0) (Accepted 1) ∷ Shown 0 2 (record { edition = 1; best = None; mark = mark.Working }) ∷ Grown 0 1 1 0 (split ∷ []) ∷ []
 
 abbrev grown_and_published : List Entry
 grown_and_published =
-    Asked 0 1 (Fix a0_at_0) (Accepted 1) ∷ Shown 0 2 (record { edition = 1; best = None; mark = mark.Working }) ∷ Grown 0 1 1 1 (split ∷ []) ∷ Published 1 first_first 24 ∷ []
+    Asked 0 1 (Fix a0_at_0) (Accepted 1) ∷ Shown 0 2 (record { edition = 1; best = None; mark = mark.Working }) ∷ Grown 0 1 1 0 (split ∷ []) ∷ Published 1 first_first 24 ∷ []
 
 plan_valid : (problem : Problem) → HasTwoTrains 0 problem → IsValid problem (a0_at_0 ∷ []) first_first
 plan_valid problem has = search rules
@@ -137,7 +137,7 @@ verdict problem has = record {
 
 pub settled_is_legal : (problem : Problem) (budget : ℕ) → HasTwoTrains 0 problem → 1 ≤ budget → IsLegal problem (fixed_rule budget) (settled first_first 24)
 settled_is_legal problem budget has some =
-    let grew = of_made (λ p. IsLegalGrowth p budget asked 1 1 1 (split ∷ [])) (two_trains 0) two_costs (λ names w. growth names w budget some) problem has.trains has.components in
+    let grew = of_made (λ p. IsLegalGrowth p (fixed_rule budget) asked 1 1 0 (split ∷ [])) (two_trains 0) two_costs (λ names w. growth names w budget some) problem has.trains has.components in
     legal problem budget (settled first_first 24)
     (a_start_is_accepted problem has, (record { edition = refl; best = refl; mark = refl }, (grew, (plan_then problem has, (verdict problem has, tt)))))
 

@@ -130,13 +130,13 @@ not_ready names w p =
 root_alone : (problem : Problem) (node : ℕ) (above : List Decision) → above_leaf node (grown_by problem []).places ≡ Some above → [] ≡ above
 root_alone problem node above there = (cond_some (0 == node) [] above there).1
 
-live_bound : (names : List (List ℕ)) (w : IsWellFormed (two_trains 0) two_costs names) (node : ℕ) (above : List Decision) (bound : ℕ) → HasLive (two 0 names w) [] node above bound → bound ≡ 14
+live_bound : (names : List (List ℕ)) (w : IsWellFormed (two_trains 0) two_costs names) (node : ℕ) (above : List Decision) (bound : ℕ) → HasLive (two 0 names w) (fixed_rule 0) [] node above bound → bound ≡ 14
 live_bound names w node above bound live =
     let root : [] ≡ above = root_alone (two 0 names w) node above live.there in
     let is : IsForcedBound (root_of (two 0 names w) []) bound = subst (λ (ds : List Decision). IsForcedBound (node_at (two 0 names w) [] ds) bound) (sym root) live.live.bound_is in
     bound_is_one (root_of (two 0 names w) []) bound 14 is (free_bound 0 names w [] (free_from_zero 0 names w) (open_free names w))
 
-stop : (names : List (List ℕ)) (w : IsWellFormed (two_trains 0) two_costs names) → IsLegalStop (two 0 names w) 0 [] 0 0 14
+stop : (names : List (List ℕ)) (w : IsWellFormed (two_trains 0) two_costs names) → IsLegalStop (two 0 names w) (fixed_rule 0) [] 0 0 14
 stop names w = record {
   working = record { newest_is = refl; working = refl };
   spent_is = refl;
@@ -156,11 +156,11 @@ stop names w = record {
 
 pub stopped_is_legal : (problem : Problem) → HasTwoTrains 0 problem → IsLegal problem (fixed_rule 0) (stopped 0 14)
 stopped_is_legal problem has =
-    legal problem 0 (stopped 0 14) (of_made (λ p. IsLegalStop p 0 [] 0 0 14) (two_trains 0) two_costs stop problem has.trains has.components, tt)
+    legal problem 0 (stopped 0 14) (of_made (λ p. IsLegalStop p (fixed_rule 0) [] 0 0 14) (two_trains 0) two_costs stop problem has.trains has.components, tt)
 
-bound_is_14 : (bound : ℕ) (names : List (List ℕ)) (w : IsWellFormed (two_trains 0) two_costs names) → IsLegalStop (two 0 names w) 0 [] 0 0 bound → bound ≡ 14
+bound_is_14 : (bound : ℕ) (names : List (List ℕ)) (w : IsWellFormed (two_trains 0) two_costs names) → IsLegalStop (two 0 names w) (fixed_rule 0) [] 0 0 bound → bound ≡ 14
 bound_is_14 bound names w s = live_bound names w s.some_live.0 s.some_live.1 bound s.some_live.2
 
 pub stopped_with_14 : (problem : Problem) (bound : ℕ) → HasTwoTrains 0 problem → IsLegal problem (fixed_rule 0) (stopped 0 bound) → bound ≡ 14
 stopped_with_14 problem bound has each =
-    of_made (λ p. IsLegalStop p 0 [] 0 0 bound → bound ≡ 14) (two_trains 0) two_costs (bound_is_14 bound) problem has.trains has.components (each 0 (Stopped 0 0 bound) refl)
+    of_made (λ p. IsLegalStop p (fixed_rule 0) [] 0 0 bound → bound ≡ 14) (two_trains 0) two_costs (bound_is_14 bound) problem has.trains has.components (each 0 (Stopped 0 0 bound) refl)

@@ -6,7 +6,7 @@ use Rattle.disp_model.specs.Node.{Node, root_of, node_at}
 use Rattle.disp_model.specs.declared.train.Op.{Op}
 use Rattle.disp_model.specs.declared.fixing.Fixing.{Fixing}
 use Rattle.disp_model.specs.declared.decision.Decision.{Decision}
-use Rattle.disp_model.specs.declared.decision.Decision.TheVariants.{Go, First}
+use Rattle.disp_model.specs.declared.decision.Decision.TheVariants.{Go, First, Run, Skip}
 use Rattle.disp_model.specs.declared.problem.Problem.{Problem}
 use Rattle.disp_model.specs.WellFormed.{IsWellFormed}
 use Rattle.disp_model.specs.Train.{IsRoute, duration_of}
@@ -76,10 +76,14 @@ own_arc release names w fixings decisions u v arc_length lt arc =
 abbrev earlier : Decision → Op
 earlier (Go o next) = o
 earlier (First a b) = a
+earlier (Run o) = o
+earlier (Skip o) = o
 
 abbrev later : Decision → Op
 later (Go o next) = o
 later (First a b) = b
+later (Run o) = o
+later (Skip o) = o
 
 pub decided_is : (a b u v : Op) → Contains (First a b ∷ []) (First u v) → (u ≡ a) × (v ≡ b)
 decided_is a b u v (zero, lt, at) = (sym (ap earlier at), sym (ap later at))

@@ -1,6 +1,7 @@
 ghost use Rattle.std.specs.Prelude.{[], ◌∷◌};
 ghost use Rattle.disp_model.specs.Node.{root_of, node_at};
 ghost use Rattle.disp_model.specs.declared.decision.Decision.TheVariants.{Go};
+ghost use Rattle.disp_model.specs.declared.fixing.Change.TheVariants.{Fix};
 ghost use Rattle.disp_model.specs.declared.fixing.Fixing.TheVariants.{Chosen, Started};
 ghost use Rattle.disp_model.specs.declared.problem.Problem.{Problem};
 ghost use Rattle.disp_model.specs.declared.reply.Refusal.TheVariants.{NoRoute};
@@ -25,5 +26,5 @@ pub fn a_decision_forces_its_branch()
 /// Fixed to go on to 2, the train has one route, and 1 cannot be fixed to start.
 pub fn a_choice_leaves_one_route()
     ensures one { (problem : Problem) → HasForkedTrain problem → HasOneRoute (root_of problem (Chosen 0 0 2 ∷ [])) 0 (0 ∷ 2 ∷ 3 ∷ []) }
-    ensures refused { (problem : Problem) → HasForkedTrain problem → IsReply problem (Chosen 0 0 2 ∷ []) (Started 0 1 4) (Refused NoRoute) }
+    ensures refused { (problem : Problem) → HasForkedTrain problem → IsReply problem (Fix (Chosen 0 0 2) ∷ []) (Fix (Started 0 1 4)) (Refused NoRoute) }
 {}
