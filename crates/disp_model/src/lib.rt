@@ -10,12 +10,9 @@ mod entry;
 mod fixing;
 mod laws;
 mod limits;
-mod list;
-mod memory;
 mod plan;
 mod problem;
 mod reply;
-mod text;
 mod train;
 mod tree;
 
@@ -35,12 +32,10 @@ pub use limits::{
     MOST_EVENTS, MOST_FILE_BYTES, MOST_FIXINGS, MOST_LINE_BYTES, MOST_LINES, MOST_OPERATIONS,
     MOST_TRAINS,
 };
-pub use list::{Copied, List};
-pub use memory::Memory;
+pub use plain_values::{Copied, List, Memory, Text};
 pub use plan::{Event, Plan};
 pub use problem::Problem;
 pub use reply::{Refusal, Reply};
-pub use text::Text;
 pub use train::{Component, Listing, Op, Operation, Train};
 pub use tree::{ComponentWalk, Leaf, Tree, TreeNode, Verdict};
 
