@@ -1,3 +1,5 @@
+ghost use Rattle.std.specs.Prelude.{◌≡◌};
+
 use std::alloc::{AllocError, AllocFailed};
 use std::error::Error;
 use std::fmt;
@@ -15,12 +17,16 @@ impl fmt::Display for Memory {
 impl Error for Memory {}
 
 impl From<AllocError> for Memory {
+    ghost from_gives = { λ _ memory. memory ≡ record {} };
+
     fn from(_refused: AllocError) -> Memory {
         Memory
     }
 }
 
 impl<T: Drop> From<AllocFailed<T>> for Memory {
+    ghost from_gives = { λ _ memory. memory ≡ record {} };
+
     fn from(_refused: AllocFailed<T>) -> Memory {
         Memory
     }

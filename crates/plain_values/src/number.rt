@@ -1,6 +1,6 @@
 ghost use Rattle.std.specs.Prelude.{◌≡◌, ◌+◌, ◌*◌, ◌<◌, ◌≤◌, ◌↔◌, IsTrue, IfOk, IfSome, IfNone, IsErrOf, MatchOption};
 ghost use Rattle.std.specs.Char.{digit_value};
-ghost use Rattle.decimal_numbers.specs.Decimal.{AreDigits, IsDecimal, IsNumber, IsAbove, value_of};
+ghost use Rattle.plain_values.specs.Decimal.{AreDigits, IsDecimal, IsNumber, IsAbove, value_of};
 
 /// Why bytes are no number.
 #[derive(Clone, Copy, Debug, PartialEq, Eq)]

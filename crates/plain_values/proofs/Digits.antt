@@ -4,7 +4,7 @@ use Rattle.std.specs.Char.{digit_value}
 use Rattle.std.proofs.lemmas.Grind.{get_or_default_zero}
 use Rattle.std.proofs.lemmas.Int.Digits.{digits_value_more}
 use Rattle.std.proofs.lemmas.Str.Parse.{digits_value-take-le}
-use Rattle.decimal_numbers.specs.Decimal.{value_of}
+use Rattle.plain_values.specs.Decimal.{value_of}
 
 -- one more digit
 pub more : (bytes : List ℕ) (i d : ℕ) → i < length bytes → value_of (take (i + 1) bytes) ≡ value_of (take i bytes) * 10 + digit_value (get_or bytes i d)

@@ -1,6 +1,6 @@
-ghost use Rattle.std.specs.Prelude.{◌≡◌, IfOk, string_bytes};
+ghost use Rattle.std.specs.Prelude.{◌≡◌, string_bytes};
 
-use crate::list::Copied;
+use crate::copied::Copied;
 use crate::memory::Memory;
 use std::marker::Model;
 

@@ -1,6 +1,6 @@
 -- Texts that were added one after another.
 use Rattle.std.proofs.Common.{ℕ, List, ◌++◌, ap, ◌∙◌, append_assoc}
-use Rattle.displib_reader.specs.Why.{Adds}
+use Rattle.plain_values.specs.Texts.{Adds}
 
 -- one more text behind those that were added
 pub joined : {before text more added piece : List ℕ} → Adds before text added → Adds text more piece → Adds before more (added ++ piece)

@@ -1,15 +1,9 @@
-ghost use Rattle.std.specs.Prelude.{◌≡◌, ◌+◌, ◌<◌, ℕ, [], ◌∷◌, ◌++◌, length, IfOk, OnOk, OnErr, slice_get};
+ghost use Rattle.std.specs.Prelude.{◌≡◌, [], ◌∷◌, ◌++◌, length, OnOk, OnErr};
 
+use crate::copied::Copied;
 use crate::memory::Memory;
 use std::alloc::Global;
 use std::marker::Model;
-
-/// A value that can be copied where memory allows.
-pub trait Copied: Sized {
-    /// A copy, equal to the value.
-    fn copy(&self) -> Result<Self, Memory>
-        ensures { IfOk result (λ other. other ≡ self.now) };
-}
 
 /// A list of values, which contracts see as the list of its items.
 #[derive(Drop)]
