@@ -87,11 +87,11 @@ abbrev pub Once : List Op → Type 0
 Once [] = Unit {0}
 Once (o ∷ ops) = (Among o ops → ⊥) × Once ops
 
-once_from : (walk : List Op) → HasNoRepeat walk → Once walk
+pub once_from : (walk : List Op) → HasNoRepeat walk → Once walk
 once_from [] single = tt
 once_from (o ∷ ops) single = ((λ there. let at = at_among o ops there in single 0 (suc at.0) o (omega arith) refl at.1), once_from ops (λ i j p lt one. single (suc i) (suc j) p (omega (arith, lt)) one))
 
-from_once : (walk : List Op) → Once walk → HasNoRepeat walk
+pub from_once : (walk : List Op) → Once walk → HasNoRepeat walk
 from_once [] once i j o lt one other = none-some o one
 from_once (p ∷ ops) once zero zero o lt one other = omega (arith, lt)
 from_once (p ∷ ops) once zero (suc j) o lt one other = once.0 (among_at p ops j (other ∙ sym one))
@@ -331,7 +331,7 @@ longest_walk node o forced =
 
 -- ---- so each node has a bound
 
-adds_some : (node : Node) (c : Component) → (cost : ℕ) × AddsForced node c cost
+pub adds_some : (node : Node) (c : Component) → (cost : ℕ) × AddsForced node c cost
 adds_some node c = elim (is_forced_or_not node (component_op c)) [
   | inl forced ↦ let longest = longest_walk node (component_op c) forced in (cost_at c longest.0, inl (longest.0, forced, longest.1, refl))
   | inr free ↦ (0, inr (free, refl))
@@ -349,7 +349,7 @@ some_bound node = add_up_some node node.problem.components
 
 -- ---- and one alone
 
-adds_same : (node : Node) (c : Component) (s t : ℕ) → AddsForced node c s → AddsForced node c t → s ≡ t
+pub adds_same : (node : Node) (c : Component) (s t : ℕ) → AddsForced node c s → AddsForced node c t → s ≡ t
 adds_same node c s t (inl (m, forced, longest, is)) (inl (n, again, other, too)) = is ∙ ap (cost_at c) (one_longest node (component_op c) m n longest other) ∙ sym too
 adds_same node c s t (inl (m, forced, longest, is)) (inr (free, too)) = absurd (free forced)
 adds_same node c s t (inr (free, is)) (inl (n, forced, longest, too)) = absurd (free forced)

@@ -19,7 +19,7 @@ use Rattle.disp_model.specs.Valid.{train_at, IsValid}
 use Rattle.disp_model.specs.Node.{Node}
 use Rattle.disp_model.specs.Follows.{Follows}
 use Rattle.disp_model.specs.Routes.{IsAllowed, HasRoute}
-use Rattle.disp_model.specs.Shares.{reached_from, IsReach, cost_along, route_cost, IsShareOver}
+use Rattle.disp_model.specs.Shares.{reached_from, IsReach, cost_along, route_cost, IsShareOver, own_cost}
 use Rattle.disp_laws.proofs.Paths.{IsIn, is_in, contains_in}
 use Rattle.disp_laws.proofs.Runs.{Spaced}
 use Rattle.disp_laws.proofs.Branching.{IsStartedAt}
@@ -172,10 +172,6 @@ run_is_started t (f ∷ plan) e there = here (nat_eq f.train t) refl there (λ l
     here true is (zero, lt, same) later =
         (0, (ap (λ (g : Event). Some g) same, record { train = subst (λ (g : Event). g.train ≡ t) same (eqb-true f.train t is); operation = refl }))
     here true is (suc k, lt, same) later = let found = later (k, omega arith, same) in (suc found.0, found.1)
-
--- what a train's component costs in a plan, and nothing for a component of another train
-abbrev pub own_cost : ℕ → List Event → Component → ℕ
-own_cost t plan c = cond (nat_eq c.train t) (cost_in plan c) 0
 
 -- in a valid plan that follows the decisions a train's components cost at least its share
 pub share_holds : (node : Node) (plan : List Event) (t : ℕ) (base : ℕ → ℕ) (share : ℕ) → IsValid node.problem node.fixings plan → Follows plan node.decisions → t < length node.problem.trains

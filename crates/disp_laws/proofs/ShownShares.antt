@@ -17,12 +17,12 @@ use Rattle.disp_model.specs.Node.{Node, with_fixings}
 use Rattle.disp_model.specs.Follows.{Follows}
 use Rattle.disp_model.specs.Routes.{HasRoute, IsForced}
 use Rattle.disp_model.specs.Walks.{lower_of, IsWalk, EndsIn}
-use Rattle.disp_model.specs.Shares.{IsShareOver, Arrival, AreWalksOn, greatest_to, shown_base, ShowsShare, SharesCost, HaveDistinctTrains, AreOfOthers}
+use Rattle.disp_model.specs.Shares.{IsShareOver, own_cost, Arrival, AreWalksOn, greatest_to, shown_base, ShowsShare, SharesCost, HaveDistinctTrains, AreOfOthers}
 use Rattle.disp_model.specs.Trees.{WalkCosts, WalksCost, HaveDistinct, SharesEnough}
 use Rattle.disp_laws.proofs.Branching.{IsStartedAt}
 use Rattle.disp_laws.proofs.WalksHold.{walk_holds, starts_from_lower}
 use Rattle.disp_laws.proofs.Costs.{walk_costs_in, total_of_map, cost_at_place, EachWithin, walks_within}
-use Rattle.disp_laws.proofs.Shares.{train_there, sum_le, sum_plus, HoldsBase, own_cost, share_holds}
+use Rattle.disp_laws.proofs.Shares.{train_there, sum_le, sum_plus, HoldsBase, share_holds}
 
 -- ---- the bases hold
 
