@@ -331,8 +331,13 @@ shares_are_forced node no_cycle one (suc t) le bound adds =
 pub free_is_fixed : (node : Node) (fixed free : ℕ) → (HasCycle node → ⊥) → HaveOneRoute node → IsBound node Fixed fixed → IsBound node Free free → free ≡ fixed
 free_is_fixed node fixed free no_cycle one fixed_is free_is =
     let n = length node.problem.trains in
-    omega (arith, free_is_no_less node fixed free fixed_is free_is, shares_are_forced node no_cycle one n (omega arith) free free_is,
-      sum_le (first_cost n (forced_cost node)) (forced_cost node) node.problem.components (λ c. first_within (forced_cost node) n c), forced_sum node node.problem.components fixed fixed_is)
+    omega (
+      arith,
+      free_is_no_less node fixed free fixed_is free_is,
+      shares_are_forced node no_cycle one n (omega arith) free free_is,
+      sum_le (first_cost n (forced_cost node)) (forced_cost node) node.problem.components (λ c. first_within (forced_cost node) n c),
+      forced_sum node node.problem.components fixed fixed_is,
+    )
 
 -- a valid plan of earliest starts costs the bound
 pub earliest_costs_bound : (node : Node) (rule : Rule) (plan : List Event) (bound : ℕ) → IsEarliest node plan → IsValid node.problem node.fixings plan → IsBound node rule bound → cost_of node.problem.components plan ≡ bound

@@ -17,7 +17,8 @@ use Rattle.disp_model.specs.Fixing.{after}
 use Rattle.disp_model.specs.Valid.{train_at}
 use Rattle.disp_model.specs.Node.{Node}
 use Rattle.disp_model.specs.Routes.{AgreesWithFixing, AgreesWithDecision, IsAllowed, IsForced}
-use Rattle.disp_model.specs.Arcs.{Passes, IsTrainArc}
+use Rattle.disp_model.specs.Arcs.{Passes, IsTrainArc, IsArc, IsLongestArc}
+use Rattle.disp_model.specs.Walks.{lower_of, WalksOn, IsWalk}
 use Rattle.disp_laws.proofs.Paths.{IsIn, is_in, contains_in, in_or_not, in_middle, leads_along}
 use Rattle.disp_laws.proofs.Branching.{route_from}
 use Rattle.disp_laws.proofs.Positions.{leads_then, route_leads}
@@ -255,3 +256,42 @@ arcs_compose node u v w one two forced first second = record {
         append_assoc a.before (u.op ∷ a.between) (v.op ∷ back) ∙ ap (λ (l : List ℕ). a.before ++ u.op ∷ l) (sym (append_assoc a.between (v.op ∷ b.between) (w.op ∷ b.behind))) in
         let sum = sums_join (train_at node.problem u.train) u.op v.op a.between b.between in
         (front ++ v.op ∷ back, allowed, record { before = a.before; between = a.between ++ v.op ∷ b.between; behind = b.behind; route_is = route_is; total_is = omega (arith, sum, a.total_is, b.total_is) })
+
+-- ---- walks may leave out what lies between
+
+-- an arc between operations of one train is one of the train
+own_arc : (node : Node) (u v : Op) (n : ℕ) → u.train ≡ v.train → IsArc node u v n → IsTrainArc node u v n
+own_arc node u v n same arc = elim arc.kind [
+  | inl train ↦ train
+  | inr rest ↦ elim rest [
+    | inl order ↦ absurd (order.conflicts.trains same)
+    | inr release ↦ absurd (release.conflicts.trains (sym release.goes_to.0 ∙ same))
+  ]
+]
+
+longest_composed : (node : Node) (u v w : Op) (one two : ℕ) → u.train ≡ v.train → v.train ≡ w.train → IsLongestArc node u v one → IsLongestArc node v w two → IsLongestArc node u w (one + two)
+longest_composed node u v w one two same then first second =
+    let train = arcs_compose node u v w one two first.there.to_forced (own_arc node u v one same first.there) (own_arc node v w two then second.there) in
+    record {
+      there = record { from_forced = first.there.from_forced; to_forced = second.there.to_forced; kind = inl train };
+      longest = λ other arc. (own_arc node u w other (same ∙ then) arc).least train.reached.0 (one + two) train.reached.1 train.reached.2;
+    }
+
+skips_on : (node : Node) (u : Op) (walked : ℕ) (front : List Op) (v w x : Op) (rest : List Op) (total : ℕ) → v.train ≡ w.train → w.train ≡ x.train
+    → WalksOn node u walked (front ++ v ∷ w ∷ x ∷ rest) total → WalksOn node u walked (front ++ v ∷ x ∷ rest) total
+skips_on node u walked [] v w x rest total same then on =
+    let first = on.2 in
+    let second = first.2 in
+    let sum : walked + on.0 + first.0 + second.0 ≡ walked + on.0 + (first.0 + second.0) = omega arith in
+    (on.0, on.1, (first.0 + second.0, longest_composed node v w x first.0 second.0 same then first.1 second.1, subst (λ (n : ℕ). WalksOn node x n rest total) sum second.2))
+skips_on node u walked (y ∷ front) v w x rest total same then on = (on.0, on.1, skips_on node y (walked + on.0) front v w x rest total same then on.2)
+
+-- a walk may leave out an operation between two of its train
+pub walk_skips : (node : Node) (front : List Op) (v w x : Op) (rest : List Op) (total : ℕ) → v.train ≡ w.train → w.train ≡ x.train
+    → IsWalk node (front ++ v ∷ w ∷ x ∷ rest) total → IsWalk node (front ++ v ∷ x ∷ rest) total
+walk_skips node [] v w x rest total same then (forced, on) =
+    let second = on.2 in
+    let walked = lower_of node.problem node.fixings v in
+    let sum : walked + on.0 + second.0 ≡ walked + (on.0 + second.0) = omega arith in
+    (forced, (on.0 + second.0, longest_composed node v w x on.0 second.0 same then on.1 second.1, subst (λ (n : ℕ). WalksOn node x n rest total) sum second.2))
+walk_skips node (u ∷ front) v w x rest total same then (forced, on) = (forced, skips_on node u (lower_of node.problem node.fixings u) front v w x rest total same then on)

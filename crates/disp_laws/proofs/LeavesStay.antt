@@ -30,7 +30,7 @@ use Rattle.disp_laws.proofs.LeastSums.{train_arc_stays}
 use Rattle.disp_laws.proofs.LongestArcs.{longest_arc}
 
 -- each train has an allowed route
-abbrev HaveRoutes : Node → Type 0
+abbrev pub HaveRoutes : Node → Type 0
 HaveRoutes node = (t : ℕ) → t < length node.problem.trains → HasRoute node t
 
 none_or_all : (P : ℕ → Type 0) (n : ℕ) → ((t : ℕ) → t < n → Decided (P t)) → ((t : ℕ) × (t < n) × (P t → ⊥)) ⊎ ((t : ℕ) → t < n → P t)
@@ -46,7 +46,7 @@ none_or_all P (suc n) each = elim (each n (omega arith)) [
     last_or_before : (P : ℕ → Type 0) (n : ℕ) → P n → ((t : ℕ) → t < n → P t) → (t : ℕ) → t < suc n → P t
     last_or_before P n here all t lt = elim (cases_lt t n) [ inl before ↦ all t before | inr le ↦ subst P (let same : n ≡ t = omega (arith, le, lt) in same) here ]
 
-routes_or_none : (node : Node) → HasNoRoute node ⊎ HaveRoutes node
+pub routes_or_none : (node : Node) → HasNoRoute node ⊎ HaveRoutes node
 routes_or_none node = none_or_all (HasRoute node) (length node.problem.trains) (λ t there. has_route_or_not node t there)
 
 -- ---- arcs

@@ -43,7 +43,7 @@ walks_on_or_not node u walked (v ∷ rest) = elim (has_arc_or_not node u v) [
       | inr none ↦ inr (λ h. none (h.0, subst (λ (n : ℕ). WalksOn node v (walked + n) rest h.0) (one_longest_arc node u v h.1.0 arc.0 h.1.1 arc.1) h.1.2))
     ]
 
-is_walk_or_not : (node : Node) (walk : List Op) → Decided ((total : ℕ) × IsWalk node walk total)
+pub is_walk_or_not : (node : Node) (walk : List Op) → Decided ((total : ℕ) × IsWalk node walk total)
 is_walk_or_not node [] = inr (λ h. h.1)
 is_walk_or_not node (u ∷ rest) = elim (both (is_forced_or_not node u) (walks_on_or_not node u (lower_of node.problem node.fixings u) rest)) [
   | inl is ↦ inl (is.1.0, (is.0, is.1.1))
@@ -56,7 +56,7 @@ walks_on_same node u walked (v ∷ rest) s t one other =
     let same = one_longest_arc node u v other.0 one.0 other.1 one.1 in
     walks_on_same node v (walked + one.0) rest s t one.2 (subst (λ (n : ℕ). WalksOn node v (walked + n) rest t) same other.2)
 
-is_walk_same : (node : Node) (walk : List Op) (s t : ℕ) → IsWalk node walk s → IsWalk node walk t → s ≡ t
+pub is_walk_same : (node : Node) (walk : List Op) (s t : ℕ) → IsWalk node walk s → IsWalk node walk t → s ≡ t
 is_walk_same node [] s t one other = absurd one
 is_walk_same node (u ∷ rest) s t one other = walks_on_same node u (lower_of node.problem node.fixings u) rest s t one.1 other.1
 
@@ -105,7 +105,7 @@ once_or_not (o ∷ ops) = elim (among_or_not o ops) [
   | inr none ↦ elim (once_or_not ops) [ inl rest ↦ inl (none, rest) | inr n ↦ inr (λ once. n once.1) ]
 ]
 
-ends_or_not : (walk : List Op) (o : Op) → Decided (EndsIn walk o)
+pub ends_or_not : (walk : List Op) (o : Op) → Decided (EndsIn walk o)
 ends_or_not [] o = inr (λ h. nowhere h.0 h.1)
   where
     nowhere : (front : List Op) → [] ≡ front ++ o ∷ [] → ⊥

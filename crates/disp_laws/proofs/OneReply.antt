@@ -38,9 +38,9 @@ routed_one problem changes t fixing r s h k = row_one _ _ _ (Refused NoRoute) r 
 -- of a start that is within the operation's window
 timed_one : (problem : Problem) (changes : List Change) (t o time earliest : ℕ) (r s : Reply)
     → MatchOption (known_as (Started t o time) (numbered_standing changes)) (MatchOption (fixed_start (standing_of changes) (record { train = t; op = o }))
-      (Row (time < earliest) (Refused (EarliestIs earliest)) r (IsRouted problem changes t (Started t o time) r)) (λ kept. r ≡ Refused (StartedAt kept))) (λ n. r ≡ Known n)
+    (Row (time < earliest) (Refused (EarliestIs earliest)) r (IsRouted problem changes t (Started t o time) r)) (λ kept. r ≡ Refused (StartedAt kept))) (λ n. r ≡ Known n)
     → MatchOption (known_as (Started t o time) (numbered_standing changes)) (MatchOption (fixed_start (standing_of changes) (record { train = t; op = o }))
-      (Row (time < earliest) (Refused (EarliestIs earliest)) s (IsRouted problem changes t (Started t o time) s)) (λ kept. s ≡ Refused (StartedAt kept))) (λ n. s ≡ Known n) → r ≡ s
+    (Row (time < earliest) (Refused (EarliestIs earliest)) s (IsRouted problem changes t (Started t o time) s)) (λ kept. s ≡ Refused (StartedAt kept))) (λ n. s ≡ Known n) → r ≡ s
 timed_one problem changes t o time earliest r s h k =
     match_one (known_as (Started t o time) (numbered_standing changes)) _ _ _ _ r s
     (λ c d. match_one (fixed_start (standing_of changes) (record { train = t; op = o })) _ _ _ _ r s

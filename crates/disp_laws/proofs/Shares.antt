@@ -299,5 +299,8 @@ share_grows node later t low high first second same fewer each one other =
 -- over one base there is one share
 pub one_share : (node : Node) (t : ℕ) (base other : ℕ → ℕ) (first second : ℕ) → ((o : ℕ) → base o ≡ other o) → IsShareOver node t base first → IsShareOver node t other second → first ≡ second
 one_share node t base other first second same one too =
-    omega (arith, share_grows node node t base other first second refl (λ route allowed. allowed) (λ o. omega (arith, same o)) one too,
-      share_grows node node t other base second first refl (λ route allowed. allowed) (λ o. omega (arith, same o)) too one)
+    omega (
+      arith,
+      share_grows node node t base other first second refl (λ route allowed. allowed) (λ o. omega (arith, same o)) one too,
+      share_grows node node t other base second first refl (λ route allowed. allowed) (λ o. omega (arith, same o)) too one,
+    )

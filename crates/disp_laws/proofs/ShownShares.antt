@@ -98,9 +98,14 @@ pub shares_say : (node : Node) (plan : List Event) (walks : List ComponentWalk) 
 shares_say node plan walks trains cost valid follows shown =
     let each : EachWithin node walks (map (other_cost trains plan) node.problem.components) =
     λ i w own at is.
-        let free = not_listed is.component.train trains (λ j listed there. shown.others i j w listed is.component at there is.there) in
-        let place = cost_at_place (other_cost trains plan) node.problem.components w.component is.component is.there in
-        let whole : other_cost trains plan is.component ≡ cost_in plan is.component = rw free refl in
-        omega (arith, place, whole, is.cost_is, walk_costs_in node plan is.component w.walk is.total valid follows is.is_walk is.ends) in
-    omega (arith, shown.enough, walks_within node walks shown.sum (map (other_cost trains plan) node.problem.components) shown.sum_is shown.distinct each,
-      total_of_map (other_cost trains plan) node.problem.components, shares_within node plan valid follows trains shown.shares shown.distinct_trains shown.shares_is)
+    let free = not_listed is.component.train trains (λ j listed there. shown.others i j w listed is.component at there is.there) in
+    let place = cost_at_place (other_cost trains plan) node.problem.components w.component is.component is.there in
+    let whole : other_cost trains plan is.component ≡ cost_in plan is.component = rw free refl in
+    omega (arith, place, whole, is.cost_is, walk_costs_in node plan is.component w.walk is.total valid follows is.is_walk is.ends) in
+    omega (
+      arith,
+      shown.enough,
+      walks_within node walks shown.sum (map (other_cost trains plan) node.problem.components) shown.sum_is shown.distinct each,
+      total_of_map (other_cost trains plan) node.problem.components,
+      shares_within node plan valid follows trains shown.shares shown.distinct_trains shown.shares_is,
+    )

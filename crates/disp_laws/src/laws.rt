@@ -30,7 +30,7 @@ ghost use Rattle.disp_model.specs.Cost.{cost_at, cost_of, IsInfeasible};
 ghost use Rattle.disp_model.specs.Valid.{train_at, IsValid};
 ghost use Rattle.disp_model.specs.Follows.{Follows};
 ghost use Rattle.disp_model.specs.Routes.{Starts, IsAllowed, HasRoute, HasNoRoute, IsForced};
-ghost use Rattle.disp_model.specs.Arcs.{IsArc, IsLongestArc};
+ghost use Rattle.disp_model.specs.Arcs.{IsTrainArc, IsArc, IsLongestArc};
 ghost use Rattle.disp_model.specs.Walks.{lower_of, upper_of, IsWalk, EndsIn, IsLongest, HasCycle};
 ghost use Rattle.disp_model.specs.Nodes.{IsDead};
 ghost use Rattle.disp_model.specs.Shares.{IsShare, own_cost, IsBound};
@@ -195,6 +195,21 @@ pub fn allowed_routes_are_listed()
 pub fn longest_arcs_exist()
     ensures { (node : Node) (u v : Op) (arc_length : ℕ)
         → IsArc node u v arc_length → (longest : ℕ) × IsLongestArc node u v longest }
+{}
+
+/// Arcs of one train compose: by an operation that each allowed route has, least sums add up. So a walk may
+/// leave out what lies between where it enters a train and where it leaves it.
+pub fn train_arcs_compose()
+    ensures sums { (node : Node) (u v w : Op) (one two : ℕ)
+        → IsForced node v → IsTrainArc node u v one → IsTrainArc node v w two → IsTrainArc node u w (one + two) }
+    ensures walks { (node : Node) (front : List Op) (u v w : Op) (rest : List Op) (total : ℕ) → u.train ≡ v.train → v.train ≡ w.train
+        → IsWalk node (front ++ u ∷ v ∷ w ∷ rest) total → IsWalk node (front ++ u ∷ w ∷ rest) total }
+{}
+
+/// Whether a leaf holds is decided.
+pub fn leaves_are_decided()
+    ensures { (node : Node) (verdict : Verdict) (leaf : TreeLeaf)
+        → LeafHolds node verdict leaf ⊎ (LeafHolds node verdict leaf → ⊥) }
 {}
 
 /// Leaves stay good: with an accepted fixing added a leaf that holds still holds for the same decisions and
