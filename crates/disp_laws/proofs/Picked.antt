@@ -183,17 +183,17 @@ pub one_longest : (node : Node) (o : Op) (s t : ℕ) → IsLongest node o s → 
 one_longest node o s t one other =
     omega (arith, one.none_longer other.reached.0 t other.reached.1 other.reached.2 other.reached.3, other.none_longer one.reached.0 s one.reached.1 one.reached.2 one.reached.3)
 
-contains_at : (plan : List Event) (e : Event) → Contains plan e → (i : ℕ) × (slice_get plan i ≡ Some e)
+pub contains_at : (plan : List Event) (e : Event) → Contains plan e → (i : ℕ) × (slice_get plan i ≡ Some e)
 contains_at [] e (k, lt, same) = absurd (omega arith)
 contains_at (f ∷ plan) e (zero, lt, same) = (0, ap (λ (g : Event). Some g) same)
 contains_at (f ∷ plan) e (suc k, lt, same) = let later = contains_at plan e (k, omega arith, same) in (suc later.0, later.1)
 
-at_contains : (plan : List Event) (i : ℕ) (e : Event) → slice_get plan i ≡ Some e → Contains plan e
+pub at_contains : (plan : List Event) (i : ℕ) (e : Event) → slice_get plan i ≡ Some e → Contains plan e
 at_contains [] i e at = absurd (none-some e at)
 at_contains (f ∷ plan) zero e at = (0, omega arith, same_Some f e at)
 at_contains (f ∷ plan) (suc i) e at = let later = at_contains plan i e at in (suc later.0, omega (arith, later.1), later.2)
 
-same_op : (o : Op) (e : Event) → Starts o e → op_of e ≡ o
+pub same_op : (o : Op) (e : Event) → Starts o e → op_of e ≡ o
 same_op o e starts = rw (starts.train, starts.operation) refl
 
 adds_cost : (node : Node) (plan : List Event) (c : Component) (cost : ℕ) → IsEarliest node plan → IsValid node.problem node.fixings plan → AddsForced node c cost → cost_in plan c ≡ cost
