@@ -69,7 +69,7 @@ pub record Places (plan : List Event) (t x y : ℕ) : Type 0 where
 later_places : (plan : List Event) (g : Event) (t x y : ℕ) → Places plan t x y → Places (g ∷ plan) t x y
 later_places plan g t x y p = record { i = suc p.i; j = suc p.j; e = p.e; f = p.f; order = omega (arith, p.order); first = p.first; second = p.second }
 
-before_places : (t : ℕ) (plan : List Event) (x y : ℕ) → Before x y (operations_of t plan) → Places plan t x y
+pub before_places : (t : ℕ) (plan : List Event) (x y : ℕ) → Before x y (operations_of t plan) → Places plan t x y
 before_places t [] x y before = absurd before
 before_places t (g ∷ plan) x y before = here (nat_eq g.train t) refl before (λ h. before_places t plan x y h)
   where
