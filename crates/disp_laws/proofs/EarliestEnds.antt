@@ -56,7 +56,8 @@ pub record EndsAt (node : Node) (plan : List Event) (i : ℕ) (e : Event) : Type
   pub at : Ending
   pub is : end_of node.problem.trains plan i e ≡ at
   pub time_is : IsEnd node (op_of e) at.time
-  pub place : (at.position ≡ i) ⊎ ((g : Event) × (slice_get plan at.position ≡ Some g) × (g.time ≡ at.time))
+  pub place : (((n : Op) → GoesTo node (op_of e) n → ⊥) × (at.position ≡ i) × (at.time ≡ e.time + min_of node.problem (op_of e)))
+      ⊎ ((n : Op) × GoesTo node (op_of e) n × (g : Event) × IsStartedAt plan n at.position g × (g.time ≡ at.time))
 
 ends_at : (node : Node) (plan : List Event) (i : ℕ) (e : Event) (route : List ℕ) → IsEarliest node plan → slice_get plan i ≡ Some e → HasOneRoute node e.train route → EndsAt node plan i e
 ends_at node plan i e route earliest at one = by_next (after e.operation route) refl
@@ -79,7 +80,7 @@ ends_at node plan i e route earliest at one = by_next (after e.operation route) 
               is = ap (ending (slice_index_or node.problem.trains e.train []) i e)
               (ap (λ (m : ℕ). first_of e.train (m + 1) (drop (m + 1) plan)) (sym own) ∙ held.next_first (held.place + 1));
               time_is = inl (next, goes_to, longest);
-              place = inr (held.next, there, refl);
+              place = inr (next, goes_to, held.next, (there, held.next_started.1), refl);
             }
     by_next None goes =
         let parts = ap (operations_of e.train) (split_at plan i e at) ∙ operations_append e.train (take i plan) (e ∷ drop (i + 1) plan)
@@ -92,7 +93,7 @@ ends_at node plan i e route earliest at one = by_next (after e.operation route) 
           at = record { position = i; time = e.time + duration_of (slice_index_or node.problem.trains e.train []) e.operation };
           is = ap (ending (slice_index_or node.problem.trains e.train []) i e) (none_of_train e.train (drop (i + 1) plan) none (i + 1));
           time_is = inr ((λ n goes_to. none-some n.op (sym goes ∙ goes_to.1 route one.allowed)), (e.time, longest_at node plan i e earliest at, refl));
-          place = inl refl;
+          place = inl ((λ n goes_to. none-some n.op (sym goes ∙ goes_to.1 route one.allowed)), refl, refl);
         }
       where
         twice : Before e.operation e.operation (operations_of e.train plan) → ⊥
@@ -165,9 +166,10 @@ keeps_apart node plan i j e f ends before time o p named other k d lt any =
 position_before : (node : Node) (plan : List Event) (i j : ℕ) (e f : Event) (ends : EndsAt node plan i e) → IsEarliest node plan → i < j → slice_get plan j ≡ Some f → ends.at.time < f.time → ends.at.position < j
 position_before node plan i j e f ends earliest order there time = by_place ends.place
   where
-    by_place : (ends.at.position ≡ i) ⊎ ((g : Event) × (slice_get plan ends.at.position ≡ Some g) × (g.time ≡ ends.at.time)) → ends.at.position < j
-    by_place (inl own) = omega (arith, own, order)
-    by_place (inr (g, at, same)) = elim (cases_lt ends.at.position j) [
+    by_place : (((n : Op) → GoesTo node (op_of e) n → ⊥) × (ends.at.position ≡ i) × (ends.at.time ≡ e.time + min_of node.problem (op_of e)))
+        ⊎ ((n : Op) × GoesTo node (op_of e) n × (g : Event) × IsStartedAt plan n ends.at.position g × (g.time ≡ ends.at.time)) → ends.at.position < j
+    by_place (inl (none, own, lasts)) = omega (arith, own, order)
+    by_place (inr (n, goes, g, (at, starts), same)) = elim (cases_lt ends.at.position j) [
       | inl lt ↦ lt
       | inr le ↦ let risen = times_in_order node plan j ends.at.position f g earliest le there at in absurd (omega (arith, risen, same, time))
     ]

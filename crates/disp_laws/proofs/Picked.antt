@@ -59,7 +59,7 @@ route_goes_on train o s (p ∷ rest) is there next = goes_to_next train o p rest
     nothing : (s : ℕ) → Contains [] s → ⊥
     nothing s (k, lt, e) = omega arith
 
-two_elements : (xs : List ℕ) (s u : ℕ) → Contains xs s → Contains xs u → s ≢ u → 2 ≤ length xs
+pub two_elements : (xs : List ℕ) (s u : ℕ) → Contains xs s → Contains xs u → s ≢ u → 2 ≤ length xs
 two_elements [] s u (k, lt, e) other apart = absurd (omega arith)
 two_elements (x ∷ []) s u (zero, lt, e) (zero, gt, f) apart = absurd (apart (sym e ∙ f))
 two_elements (x ∷ []) s u (suc k, lt, e) other apart = absurd (omega (arith, lt))
@@ -78,31 +78,35 @@ pub record GoesTwoWays (node : Node) (o : Op) : Type 0 where
   pub other_goes : after o.op other ≡ Some other_next
   pub apart : one_next ≢ other_next
 
-pub fork_goes_two_ways : (node : Node) (o : Op) → IsFork node o → GoesTwoWays node o
-fork_goes_two_ways node o fork = by_next (after o.op fork.one) (after o.op fork.other) refl refl
+-- an operation of all allowed routes, from which two go on differently
+pub goes_two_ways : (node : Node) (o : Op) (left right : List ℕ) → IsAllowed node o.train left → IsAllowed node o.train right → ((route : List ℕ) → IsAllowed node o.train route → IsIn o.op route)
+    → after o.op left ≢ after o.op right → GoesTwoWays node o
+goes_two_ways node o left right left_allowed right_allowed reaches differ = by_next (after o.op left) (after o.op right) refl refl
   where
-    reaches : (route : List ℕ) → IsAllowed node o.train route → IsIn o.op route
-    reaches route allowed = let parts = fork.alike route allowed in subst (IsIn o.op) (sym parts.1) (in_middle o.op fork.front parts.0)
-
-    by_next : (a b : Option ℕ) → after o.op fork.one ≡ a → after o.op fork.other ≡ b → GoesTwoWays node o
-    by_next None None one other = absurd (fork.apart (one ∙ sym other))
+    by_next : (a b : Option ℕ) → after o.op left ≡ a → after o.op right ≡ b → GoesTwoWays node o
+    by_next None None one other = absurd (differ (one ∙ sym other))
     by_next (Some s) None one other =
-        let next = route_goes_on (train_at node.problem o.train) o.op s fork.other fork.other_allowed.is_route (reaches fork.other fork.other_allowed) (route_to_successor (train_at node.problem o.train) o.op s fork.one fork.one_allowed.is_route one) in
+        let next = route_goes_on (train_at node.problem o.train) o.op s right right_allowed.is_route (reaches right right_allowed) (route_to_successor (train_at node.problem o.train) o.op s left left_allowed.is_route one) in
         absurd (none-some next.0 (sym other ∙ next.1))
     by_next None (Some s) one other =
-        let next = route_goes_on (train_at node.problem o.train) o.op s fork.one fork.one_allowed.is_route (reaches fork.one fork.one_allowed) (route_to_successor (train_at node.problem o.train) o.op s fork.other fork.other_allowed.is_route other) in
+        let next = route_goes_on (train_at node.problem o.train) o.op s left left_allowed.is_route (reaches left left_allowed) (route_to_successor (train_at node.problem o.train) o.op s right right_allowed.is_route other) in
         absurd (none-some next.0 (sym one ∙ next.1))
     by_next (Some s) (Some u) one other = record {
-      one = fork.one;
-      other = fork.other;
-      one_allowed = fork.one_allowed;
-      other_allowed = fork.other_allowed;
+      one = left;
+      other = right;
+      one_allowed = left_allowed;
+      other_allowed = right_allowed;
       one_next = s;
       other_next = u;
       one_goes = one;
       other_goes = other;
-      apart = λ same. fork.apart (one ∙ ap (λ (n : ℕ). Some n) same ∙ sym other);
+      apart = λ same. differ (one ∙ ap (λ (n : ℕ). Some n) same ∙ sym other);
     }
+
+pub fork_goes_two_ways : (node : Node) (o : Op) → IsFork node o → GoesTwoWays node o
+fork_goes_two_ways node o fork =
+    goes_two_ways node o fork.one fork.other fork.one_allowed fork.other_allowed
+    (λ route allowed. let parts = fork.alike route allowed in subst (IsIn o.op) (sym parts.1) (in_middle o.op fork.front parts.0)) fork.apart
 
 fork_is_choice : (node : Node) (o : Op) → IsFork node o → IsChoice node.problem (Route o)
 fork_is_choice node o fork =
@@ -163,7 +167,7 @@ fixed_is_choice node (Run o) picked = absurd picked
 
 -- ---- none is decided
 
-map_contains : (o : Op) (xs : List ℕ) (child : Decision) → Contains (map (λ s. Go o s) xs) child → (s : ℕ) × (Go o s ≡ child)
+pub map_contains : (o : Op) (xs : List ℕ) (child : Decision) → Contains (map (λ s. Go o s) xs) child → (s : ℕ) × (Go o s ≡ child)
 map_contains o [] child (k, lt, e) = absurd (omega arith)
 map_contains o (x ∷ xs) child (zero, lt, e) = (x, e)
 map_contains o (x ∷ xs) child (suc k, lt, e) = map_contains o xs child (k, omega arith, e)
