@@ -4,6 +4,7 @@ use Rattle.std.specs.Prelude.{nat_eq, slice_get, Contains, IfSome, MatchOption, 
 use Rattle.std.specs.List.{list_any}
 use Rattle.std.proofs.lemmas.Bool.{cases_lt, and_parts, eq-eqb, eqb-true}
 use Rattle.std.proofs.lemmas.Option.{none-some, same_Some, get_or_from_slice_get}
+use Rattle.std.proofs.lemmas.List.{get_or_past}
 use Rattle.disp_model.specs.declared.train.Op.{Op}
 use Rattle.disp_model.specs.declared.train.Operation.{Operation}
 use Rattle.disp_model.specs.declared.fixing.Fixing.{Fixing}
@@ -165,3 +166,145 @@ pub record FitsStart (problem : Problem) (fixings : List Fixing) (t o time : ℕ
 pub record AreFit (problem : Problem) (fixings : List Fixing) : Type 0 where
   pub starts : (t o time : ℕ) → Contains fixings (Started t o time) → FitsStart problem fixings t o time
   pub choices : (t o next : ℕ) → Contains fixings (Chosen t o next) → t < length problem.trains
+
+-- ---- replies that were accepted
+
+not_fixed : (n : ℕ) (known fixed : Option ℕ) (Others : Type 0) (x : ℕ) → MatchOption known (MatchOption fixed Others (λ kept. Accepted n ≡ Refused (StartedAt kept))) (λ k. Accepted n ≡ Known k) → fixed ≡ Some x → ⊥
+not_fixed n (Some k) fixed Others x reply at = absurd cc
+not_fixed n None (Some kept) Others x reply at = absurd cc
+not_fixed n None None Others x reply at = none-some x at
+
+-- an operation that is accepted to start was not fixed to start
+start_was_free : (problem : Problem) (changes : List Change) (t o time n x : ℕ) → IsReply problem changes (Fix (Started t o time)) (Accepted n) → fixed_start (standing_of changes) (record { train = t; op = o }) ≡ Some x → ⊥
+start_was_free problem changes t o time n x reply at = by_upper found.0.upper refl
+  where
+    found : (p : Operation) × (slice_get (train_at problem t) o ≡ Some p) × RepliesToStart problem changes t o time p (Accepted n)
+    found = by_place problem t o (Accepted n) (λ operation. RepliesToStart problem changes t o time operation (Accepted n)) (λ e. absurd cc) (λ e. absurd cc) reply
+
+    by_upper : (upper : Option ℕ) → found.0.upper ≡ upper → ⊥
+    by_upper None is =
+        let large = within_row (Refused TooLarge) n (λ e. absurd cc) found.2 in
+        let low = within_row (Refused (BelowLower found.0.lower)) n (λ e. absurd cc) large.1 in
+        not_fixed n _ _ _ x (rw is at low.1) at
+    by_upper (Some u) is =
+        let large = within_row (Refused TooLarge) n (λ e. absurd cc) found.2 in
+        let low = within_row (Refused (BelowLower found.0.lower)) n (λ e. absurd cc) large.1 in
+        let high = within_row (Refused (AboveUpper u)) n (λ e. absurd cc) (rw is at low.1) in
+        not_fixed n _ _ _ x high.1 at
+
+not_later : (n time : ℕ) (known fixed : Option ℕ) (Others Rest : Type 0) (x : ℕ) → MatchOption known (MatchOption fixed Others (λ kept. Row (kept < time) (Refused (StartedAt kept)) (Accepted n) Rest)) (λ k. Accepted n ≡ Known k) → fixed ≡ Some x → time ≤ x
+not_later n time (Some k) fixed Others Rest x reply at = absurd cc
+not_later n time None None Others Rest x reply at = absurd (none-some x at)
+not_later n time None (Some kept) Others Rest x reply at = let le = at_least time kept (within_row (Refused (StartedAt kept)) n (λ e. absurd cc) reply).0 in omega (arith, le, same_Some kept x at)
+
+-- an operation that is accepted not to start before a time is fixed to start no earlier
+start_is_not_earlier : (problem : Problem) (changes : List Change) (t o time n x : ℕ) → IsReply problem changes (Fix (NotBefore t o time)) (Accepted n) → fixed_start (standing_of changes) (record { train = t; op = o }) ≡ Some x → time ≤ x
+start_is_not_earlier problem changes t o time n x reply at =
+    let found = by_place problem t o (Accepted n) (λ operation. RepliesToEarliest changes t o time (Accepted n)) (λ e. absurd cc) (λ e. absurd cc) reply in
+    let large = within_row (Refused TooLarge) n (λ e. absurd cc) found.2 in
+    not_later n time _ _ _ _ x large.1 at
+
+-- ---- an edition's fixings fit
+
+take_take : (changes : List Change) (i l : ℕ) → i ≤ l → take i (take l changes) ≡ take i changes
+take_take changes zero l le = refl
+take_take changes (suc i) zero le = absurd (omega arith)
+take_take [] (suc i) (suc l) le = refl
+take_take (c ∷ changes) (suc i) (suc l) le = ap (λ (xs : List Change). c ∷ xs) (take_take changes i l (omega (arith, le)))
+
+taken_get : (changes : List Change) (l k : ℕ) (change : Change) → slice_get (take l changes) k ≡ Some change → (k < l) × (slice_get changes k ≡ Some change)
+taken_get changes zero k change at = absurd (none-some change at)
+taken_get [] (suc l) k change at = absurd (none-some change at)
+taken_get (c ∷ changes) (suc l) zero change at = (omega arith, at)
+taken_get (c ∷ changes) (suc l) (suc k) change at = let later = taken_get changes l k change at in (omega (arith, later.0), later.1)
+
+-- the first changes of an edition are an edition's
+edition_before : (problem : Problem) (changes : List Change) (l : ℕ) → IsEdition problem changes → IsEdition problem (take l changes)
+edition_before problem changes l edition i change at =
+    let own = taken_get changes l i change at in
+    subst (λ (cs : List Change). IsReply problem cs change (Accepted (i + 1))) (sym (take_take changes i l (omega (arith, own.0)))) (edition i change own.1)
+
+starts_alone : (problem : Problem) (changes : List Change) (t o time other : ℕ) → IsEdition problem changes → StandsAt changes (Started t o time) → StandsAt changes (Started t o other) → other ≡ time
+starts_alone problem changes t o time other edition one two = elim (cases_lt one.place two.place) [
+  | inl lt ↦ absurd (taken time other one two lt)
+  | inr le ↦ elim (cases_lt two.place one.place) [
+    | inl lt ↦ absurd (taken other time two one lt)
+    | inr ge ↦
+        let place : two.place ≡ one.place = omega (arith, le, ge) in
+        let same : Some (Fix (Started t o other)) ≡ Some (Fix (Started t o time)) = sym two.at ∙ ap (slice_get changes) place ∙ one.at in
+        cc (same)
+  ]
+]
+  where
+    taken : (early late : ℕ) (first : StandsAt changes (Started t o early)) (second : StandsAt changes (Started t o late)) → first.place < second.place → ⊥
+    taken early late first second lt =
+        let there = fixed_there (standing_of (take second.place changes)) t o early (stood_before changes (Started t o early) first second.place lt) in
+        start_was_free problem (take second.place changes) t o late (second.place + 1) there.0 (edition second.place (Fix (Started t o late)) second.at) there.1
+
+starts_late_enough : (problem : Problem) (changes : List Change) (t o time least : ℕ) → IsEdition problem changes → StandsAt changes (Started t o time) → StandsAt changes (NotBefore t o least) → least ≤ time
+starts_late_enough problem changes t o time least edition one two = elim (cases_lt two.place one.place) [
+  | inl lt ↦
+      let may = accepted_start problem (take one.place changes) t o time (one.place + 1) (edition one.place (Fix (Started t o time)) one.at) in
+      omega (arith, may.earliest, not_before_there (standing_of (take one.place changes)) t o least (stood_before changes (NotBefore t o least) two one.place lt))
+  | inr le ↦ elim (cases_lt one.place two.place) [
+    | inl lt ↦
+        let prefix = take two.place changes in
+        let before = stood_before changes (Started t o time) one two.place lt in
+        let there = fixed_there (standing_of prefix) t o time before in
+        let same = starts_alone problem prefix t o time there.0 (edition_before problem changes two.place edition) (stands_at prefix (Started t o time) before) (stands_at prefix (Started t o there.0) there.2) in
+        let late = start_is_not_earlier problem prefix t o least (two.place + 1) there.0 (edition two.place (Fix (NotBefore t o least)) two.at) there.1 in
+        omega (arith, same, late)
+    | inr ge ↦
+        let place : two.place ≡ one.place = omega (arith, le, ge) in
+        let same : Some (Fix (NotBefore t o least)) ≡ Some (Fix (Started t o time)) = sym two.at ∙ ap (slice_get changes) place ∙ one.at in
+        absurd (cc (same))
+  ]
+]
+
+not_before_within : (fixings : List Fixing) (t o time : ℕ) → ((least : ℕ) → Contains fixings (NotBefore t o least) → least ≤ time) → not_before fixings (record { train = t; op = o }) ≤ time
+not_before_within [] t o time each = omega arith
+not_before_within (f ∷ fixings) t o time each = by_first f each (not_before_within fixings t o time (λ least there. each least (suc there.0, omega (arith, there.1), there.2)))
+  where
+    by_first : (g : Fixing) → ((least : ℕ) → Contains (g ∷ fixings) (NotBefore t o least) → least ≤ time) → not_before fixings (record { train = t; op = o }) ≤ time → not_before (g ∷ fixings) (record { train = t; op = o }) ≤ time
+    by_first (Started u p s) each later = later
+    by_first (Chosen u p next) each later = later
+    by_first (NotBefore u p s) each later = here ((nat_eq u t) && (nat_eq p o)) refl
+      where
+        here : (b : Bool) → ((nat_eq u t) && (nat_eq p o)) ≡ b → cond b (max s (not_before fixings (record { train = t; op = o }))) (not_before fixings (record { train = t; op = o })) ≤ time
+        here false is = later
+        here true is =
+            let parts = and_parts (nat_eq u t) (nat_eq p o) is in
+            let own = each s (0, omega arith, ap (λ (n : ℕ). NotBefore n p s) (eqb-true u t parts.0) ∙ ap (λ (n : ℕ). NotBefore t n s) (eqb-true p o parts.1)) in
+            omega (arith, own, later)
+
+-- a train with an operation is there
+pub train_is_there : (problem : Problem) (t o : ℕ) (p : Operation) → slice_get (train_at problem t) o ≡ Some p → t < length problem.trains
+train_is_there problem t o p at = elim (cases_lt t (length problem.trains)) [
+  | inl lt ↦ lt
+  | inr le ↦ absurd (none-some p (subst (λ (train : List Operation). slice_get train o ≡ Some p) (get_or_past problem.trains t [] le) at))
+]
+
+pub edition_fits : (problem : Problem) (changes : List Change) → IsEdition problem changes → AreFit problem (standing_of changes)
+edition_fits problem changes edition = record {
+  starts = λ t o time there. starts t o time there;
+  choices = λ t o next there.
+      let stands = stands_at changes (Chosen t o next) there in
+      let found = by_place problem t o (Accepted (stands.place + 1)) (λ operation. RepliesToChoice problem (take stands.place changes) t o next (Accepted (stands.place + 1))) (λ e. absurd cc) (λ e. absurd cc)
+      (edition stands.place (Fix (Chosen t o next)) stands.at) in
+      train_is_there problem t o found.0 found.1;
+}
+  where
+    starts : (t o time : ℕ) → Contains (standing_of changes) (Started t o time) → FitsStart problem (standing_of changes) t o time
+    starts t o time there =
+        let stands = stands_at changes (Started t o time) there in
+        let may = accepted_start problem (take stands.place changes) t o time (stands.place + 1) (edition stands.place (Fix (Started t o time)) stands.at) in
+        record {
+          may = record {
+            operation = may.operation;
+            there = may.there;
+            lower = may.lower;
+            upper = may.upper;
+            earliest = not_before_within (standing_of changes) t o time (λ least also. starts_late_enough problem changes t o time least edition stands (stands_at changes (NotBefore t o least) also));
+          };
+          once = λ other also. starts_alone problem changes t o time other edition stands (stands_at changes (Started t o other) also);
+        }
