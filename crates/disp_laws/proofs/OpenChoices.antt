@@ -93,7 +93,7 @@ next_in x next (p ∷ q ∷ ops) at = here (nat_eq p x) at (λ later. next_in x 
     here false at later = inr (later at)
 
 -- what each allowed route goes on to is forced
-goes_to_forced : (node : Node) (o n : Op) → IsForced node o → GoesTo node o n → IsForced node n
+pub goes_to_forced : (node : Node) (o n : Op) → IsForced node o → GoesTo node o n → IsForced node n
 goes_to_forced node o n forced goes = record {
   train = subst (λ (t : ℕ). t < length node.problem.trains) (sym goes.0) forced.train;
   allowed = (forced.allowed.0, subst (λ (t : ℕ). IsAllowed node t forced.allowed.0) (sym goes.0) forced.allowed.1);

@@ -103,7 +103,7 @@ stood_before changes fixing stands l lt =
 
 -- ---- what an operation is fixed to
 
-fixed_there : (fixings : List Fixing) (t o time : ℕ) → Contains fixings (Started t o time) → (x : ℕ) × (fixed_start fixings (record { train = t; op = o }) ≡ Some x) × Contains fixings (Started t o x)
+pub fixed_there : (fixings : List Fixing) (t o time : ℕ) → Contains fixings (Started t o time) → (x : ℕ) × (fixed_start fixings (record { train = t; op = o }) ≡ Some x) × Contains fixings (Started t o x)
 fixed_there [] t o time (k, lt, e) = absurd (omega arith)
 fixed_there (f ∷ fixings) t o time (zero, lt, e) = subst (λ (g : Fixing). (x : ℕ) × (fixed_start (g ∷ fixings) (record { train = t; op = o }) ≡ Some x) × Contains (g ∷ fixings) (Started t o x)) (sym e) own
   where
@@ -126,7 +126,7 @@ fixed_there (f ∷ fixings) t o time (suc k, lt, e) = by_first f (fixed_there fi
             let parts = and_parts (nat_eq u t) (nat_eq p o) is in
             (s, refl, (0, omega arith, ap (λ (n : ℕ). Started n p s) (eqb-true u t parts.0) ∙ ap (λ (n : ℕ). Started t n s) (eqb-true p o parts.1)))
 
-fixed_is_there : (fixings : List Fixing) (o : Op) (time : ℕ) → fixed_start fixings o ≡ Some time → Contains fixings (Started o.train o.op time)
+pub fixed_is_there : (fixings : List Fixing) (o : Op) (time : ℕ) → fixed_start fixings o ≡ Some time → Contains fixings (Started o.train o.op time)
 fixed_is_there [] o time at = absurd (none-some time at)
 fixed_is_there (Chosen u p next ∷ fixings) o time at = let later = fixed_is_there fixings o time at in (suc later.0, omega (arith, later.1), later.2)
 fixed_is_there (NotBefore u p s ∷ fixings) o time at = let later = fixed_is_there fixings o time at in (suc later.0, omega (arith, later.1), later.2)
@@ -139,7 +139,7 @@ fixed_is_there (Started u p s ∷ fixings) o time at = here ((nat_eq u o.train) 
         let parts = and_parts (nat_eq u o.train) (nat_eq p o.op) is in
         (0, omega arith, ap (λ (n : ℕ). Started n p s) (eqb-true u o.train parts.0) ∙ ap (λ (n : ℕ). Started o.train n s) (eqb-true p o.op parts.1) ∙ ap (λ (n : ℕ). Started o.train o.op n) (same_Some s time at))
 
-not_before_there : (fixings : List Fixing) (t o time : ℕ) → Contains fixings (NotBefore t o time) → time ≤ not_before fixings (record { train = t; op = o })
+pub not_before_there : (fixings : List Fixing) (t o time : ℕ) → Contains fixings (NotBefore t o time) → time ≤ not_before fixings (record { train = t; op = o })
 not_before_there [] t o time (k, lt, e) = absurd (omega arith)
 not_before_there (f ∷ fixings) t o time (zero, lt, e) = subst (λ (g : Fixing). time ≤ not_before (g ∷ fixings) (record { train = t; op = o })) (sym e) own
   where
