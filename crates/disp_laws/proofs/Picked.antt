@@ -30,7 +30,7 @@ use Rattle.disp_model.specs.Arcs.{listings_of, shared_listings, Conflicts}
 use Rattle.disp_model.specs.Walks.{IsLongest}
 use Rattle.disp_model.specs.Nodes.{component_op, AddsForced, ForcedAddUp, IsForcedBound}
 use Rattle.disp_model.specs.Trees.{IsChoice, children_of}
-use Rattle.disp_model.specs.Earliest.{op_of, IsEarliest, IsFork, IsOpenClash, IsFixedPick}
+use Rattle.disp_model.specs.Earliest.{op_of, IsEarliest, IsFork, Clash, IsOpenClash, IsFixedPick}
 use Rattle.disp_laws.proofs.Paths.{IsIn, contains_in, goes_to_next, in_middle}
 use Rattle.disp_laws.proofs.Positions.{start_is_started}
 use Rattle.disp_laws.proofs.Arcs.{names_op}
@@ -145,19 +145,23 @@ no_shared a b l k own other same none = filter_keeps (λ l. list_any (λ k. k.re
     at : (b : List Listing) (k : Listing) → Contains b k → k.resource ≡ l.resource → Any (λ k. nat_eq k.resource l.resource ≡ true) b
     at b k (i, lt, e) same = (i, k, lt, e, eq-eqb k.resource l.resource same)
 
-pub clash_conflicts : (node : Node) (plan : List Event) (a b : Op) → IsOpenClash node plan a b → Conflicts node.problem a b
-clash_conflicts node plan a b free = record {
-  trains = λ same. omega (arith, free.trains, same);
-  shared = λ none. free.clash.not_apart (λ o p at there k d lt any. absurd (
-      elim free.clash.names [
-        | inl straight ↦ no_shared (listings_of node.problem a) (listings_of node.problem b) (get_or o.listings k d) any.1
-            (subst (λ (ls : List Listing). Contains ls (get_or o.listings k d)) (sym (names_op node.problem a free.clash.earlier o straight.0 at)) (Contains-get_or o.listings k d lt))
-            (subst (λ (ls : List Listing). Contains ls any.1) (sym (names_op node.problem b free.clash.later p straight.1 there)) (any.0, any.2, any.3)) any.4 none
-        | inr crossed ↦ no_shared (listings_of node.problem a) (listings_of node.problem b) any.1 (get_or o.listings k d)
-            (subst (λ (ls : List Listing). Contains ls any.1) (sym (names_op node.problem a free.clash.later p crossed.1 there)) (any.0, any.2, any.3))
-            (subst (λ (ls : List Listing). Contains ls (get_or o.listings k d)) (sym (names_op node.problem b free.clash.earlier o crossed.0 at)) (Contains-get_or o.listings k d lt)) (sym any.4) none
+-- operations of different trains that clash share a resource
+pub clash_shares : (problem : Problem) (plan : List Event) (a b : Op) → a.train ≢ b.train → Clash problem plan a b → Conflicts problem a b
+clash_shares problem plan a b trains clash = record {
+  trains = trains;
+  shared = λ none. clash.not_apart (λ o p at there k d lt any. absurd (
+      elim clash.names [
+        | inl straight ↦ no_shared (listings_of problem a) (listings_of problem b) (get_or o.listings k d) any.1
+            (subst (λ (ls : List Listing). Contains ls (get_or o.listings k d)) (sym (names_op problem a clash.earlier o straight.0 at)) (Contains-get_or o.listings k d lt))
+            (subst (λ (ls : List Listing). Contains ls any.1) (sym (names_op problem b clash.later p straight.1 there)) (any.0, any.2, any.3)) any.4 none
+        | inr crossed ↦ no_shared (listings_of problem a) (listings_of problem b) any.1 (get_or o.listings k d)
+            (subst (λ (ls : List Listing). Contains ls any.1) (sym (names_op problem a clash.later p crossed.1 there)) (any.0, any.2, any.3))
+            (subst (λ (ls : List Listing). Contains ls (get_or o.listings k d)) (sym (names_op problem b clash.earlier o crossed.0 at)) (Contains-get_or o.listings k d lt)) (sym any.4) none
       ]));
 }
+
+pub clash_conflicts : (node : Node) (plan : List Event) (a b : Op) → IsOpenClash node plan a b → Conflicts node.problem a b
+clash_conflicts node plan a b free = clash_shares node.problem plan a b (λ same. omega (arith, free.trains, same)) free.clash
 
 -- a picked choice may be made
 pub fixed_is_choice : (node : Node) (choice : Choice) → IsFixedPick node (Some choice) → IsChoice node.problem choice
