@@ -1,6 +1,6 @@
 -- Bounds of a node: each is one, both hold in valid plans, and the free one is no less than the fixed one.
-use Rattle.std.proofs.Common.{◌≡◌, ℕ, zero, suc, ◌+◌, ◌<◌, ◌≤◌, List, [], ◌∷◌, length, map, Option, Some, None, Bool, true, false, cond, refl, sym, ap, subst, ◌∙◌, arith, inl, inr}
-use Rattle.std.specs.Prelude.{nat_eq, nat_le, slice_get, Contains, sum_by, ◌⊎◌, ◌≢◌, max}
+use Rattle.std.proofs.Common.{◌≡◌, ℕ, zero, suc, ◌+◌, ◌<◌, ◌≤◌, List, [], ◌∷◌, length, Some, Bool, true, false, cond, refl, sym, ap, subst, ◌∙◌, arith, inl, inr}
+use Rattle.std.specs.Prelude.{nat_eq, nat_le, Contains, sum_by, max}
 use Rattle.std.proofs.lemmas.Bool.{cases_Bool, cases_lt, eq-eqb, eqb-true, eqb-false, ne_eqb, le-leb, lt-leb}
 use Rattle.std.proofs.lemmas.Option.{none-some, same_Some}
 use Rattle.std.proofs.lemmas.List.Sums.{sum_by-cons}
@@ -17,11 +17,10 @@ use Rattle.disp_model.specs.Node.{Node}
 use Rattle.disp_model.specs.Follows.{Follows}
 use Rattle.disp_model.specs.Routes.{IsAllowed, HasRoute, HasOneRoute, IsForced}
 use Rattle.disp_model.specs.Walks.{lower_of, IsLongest, HasCycle}
-use Rattle.disp_model.specs.Nodes.{component_op, AddsForced, ForcedAddUp, IsForcedBound}
-use Rattle.disp_model.specs.Shares.{reached_from, cost_along, route_cost, IsShareOver, own_cost, IsBase, IsShare, AddsShare, SharesAddUp, IsBound}
+use Rattle.disp_model.specs.Nodes.{component_op, AddsForced, ForcedAddUp}
+use Rattle.disp_model.specs.Shares.{reached_from, cost_along, IsBase, IsShare, AddsShare, SharesAddUp, IsBound}
 use Rattle.disp_model.specs.Earliest.{HaveOneRoute, IsEarliest}
 use Rattle.disp_laws.proofs.Paths.{IsIn, is_in, contains_in}
-use Rattle.disp_laws.proofs.Branching.{IsStartedAt}
 use Rattle.disp_laws.proofs.WalksHold.{walk_holds, starts_from_lower}
 use Rattle.disp_laws.proofs.Costs.{costs_grow, bound_holds}
 use Rattle.disp_laws.proofs.Picked.{one_longest, earliest_costs}

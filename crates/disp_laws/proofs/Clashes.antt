@@ -1,5 +1,5 @@
 -- Where the earliest plan is not valid some pair clashes, and one comes first.
-use Rattle.std.proofs.Common.{◌≡◌, ℕ, zero, suc, ◌+◌, ◌<◌, ◌≤◌, List, [], ◌∷◌, ◌++◌, length, get_or, map, Option, Some, None, refl, sym, ap, subst, ◌∙◌, arith, inl, inr}
+use Rattle.std.proofs.Common.{◌≡◌, ℕ, zero, suc, ◌+◌, ◌<◌, List, [], ◌∷◌, ◌++◌, length, map, Option, Some, None, refl, sym, ap, subst, ◌∙◌, arith, inl, inr}
 use Rattle.std.specs.Prelude.{slice_get, Contains, All, ◌⊎◌, ◌≢◌}
 use Rattle.std.specs.List.{Any}
 use Rattle.std.proofs.lemmas.Bool.{cases_lt}
@@ -20,7 +20,6 @@ use Rattle.disp_model.specs.Earliest.{op_of, IsEarliest, Clash, IsOpenClash, IsB
 use Rattle.disp_laws.proofs.Branching.{IsStartedAt, started_or_not, contains_map}
 use Rattle.disp_laws.proofs.RouteSearch.{Decided, both, implied, denied, same_number, all_or_not}
 use Rattle.disp_laws.proofs.LongestArcs.{some_or_not, decided_or_not}
-use Rattle.disp_laws.proofs.LeavesStay.{none_or_all}
 use Rattle.disp_laws.proofs.LeavesDecided.{le_or_not, lt_or_not}
 use Rattle.disp_laws.proofs.HorizonBounds.{get_within}
 use Rattle.disp_laws.proofs.Picked.{at_contains, same_op, clash_shares}
@@ -49,7 +48,7 @@ apart_or_not problem plan i j e f = by_names (operation_of problem e) refl (oper
     by_names (Some o) at None there = inl (λ q p own also. absurd (none-some p (sym there ∙ also)))
     by_names (Some o) at (Some p) there =
         elim (all_or_not (λ l. Any (λ k. k.resource ≡ l.resource) p.listings → IsReleased (end_of problem.trains plan i e) l j f)
-          (λ l. implied (any_or_not (λ k. k.resource ≡ l.resource) (λ k. same_number k.resource l.resource) p.listings) (released_or_not (end_of problem.trains plan i e) l j f)) o.listings) [
+        (λ l. implied (any_or_not (λ k. k.resource ≡ l.resource) (λ k. same_number k.resource l.resource) p.listings) (released_or_not (end_of problem.trains plan i e) l j f)) o.listings) [
           | inl all ↦ inl (λ q r own also. subst (λ (x : Operation). All (λ l. Any (λ k. k.resource ≡ l.resource) r.listings → IsReleased (end_of problem.trains plan i e) l j f) x.listings) (same_Some o q (sym at ∙ own))
               (subst (λ (x : Operation). All (λ l. Any (λ k. k.resource ≡ l.resource) x.listings → IsReleased (end_of problem.trains plan i e) l j f) o.listings) (same_Some p r (sym there ∙ also)) all))
           | inr not ↦ inr (λ keep. not (keep o p at there))
@@ -105,7 +104,7 @@ all_or_meets P M (suc n) each = elim (each n (omega arith)) [
 pub apart_or_meets : (node : Node) (plan : List Event) → AllApart node plan ⊎ Meets node plan
 apart_or_meets node plan =
     elim (all_or_meets (λ i. (j : ℕ) → j < length plan → ApartAt node plan i j) (Meets node plan) (length plan)
-      (λ i here. all_or_meets (λ j. ApartAt node plan i j) (Meets node plan) (length plan) (λ j there. apart_at_or_meets node plan i j here there))) [
+    (λ i here. all_or_meets (λ j. ApartAt node plan i j) (Meets node plan) (length plan) (λ j there. apart_at_or_meets node plan i j here there))) [
       | inl all ↦ inl (λ i j e f order one other trains. all i (slice_get_within plan i e one) j (slice_get_within plan j f other) e f order one other trains)
       | inr met ↦ inr met
     ]

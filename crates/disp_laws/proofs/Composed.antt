@@ -1,25 +1,24 @@
 -- Arcs of one train compose: by an operation that each allowed route has, least sums add up.
-use Rattle.std.proofs.Common.{◌≡◌, ℕ, zero, suc, ◌+◌, ◌<◌, ◌≤◌, List, [], ◌∷◌, ◌++◌, length, get_or, Option, Some, None, Bool, true, false, cond, refl, sym, ap, subst, ◌∙◌, arith, inl, inr, append_assoc}
-use Rattle.std.specs.Prelude.{nat_eq, Contains, sum_by, ◌⊎◌, All}
-use Rattle.std.proofs.lemmas.Bool.{cases_Bool, eq-eqb, eqb-true, eqb-false, ne_eqb}
-use Rattle.std.proofs.lemmas.Option.{none-some, same_Some}
-use Rattle.std.proofs.lemmas.List.Sums.{sum_by-cons, sum_by-append}
+use Rattle.std.proofs.Common.{◌≡◌, ℕ, ◌+◌, ◌<◌, ◌≤◌, List, [], ◌∷◌, ◌++◌, length, get_or, Option, Some, Bool, true, false, cond, refl, sym, ap, subst, ◌∙◌, arith, inl, inr, append_assoc}
+use Rattle.std.specs.Prelude.{nat_eq, sum_by, ◌⊎◌}
+use Rattle.std.proofs.lemmas.Bool.{eq-eqb, eqb-true, ne_eqb}
+use Rattle.std.proofs.lemmas.Option.{none-some}
+use Rattle.std.proofs.lemmas.List.Sums.{sum_by-append}
 use Rattle.disp_model.specs.declared.train.Op.{Op}
 use Rattle.disp_model.specs.declared.train.Operation.{Operation}
 use Rattle.disp_model.specs.declared.fixing.Fixing.{Fixing}
 use Rattle.disp_model.specs.declared.fixing.Fixing.TheVariants.{Started, Chosen, NotBefore}
 use Rattle.disp_model.specs.declared.decision.Decision.{Decision}
 use Rattle.disp_model.specs.declared.decision.Decision.TheVariants.{Go, First, Run, Skip}
-use Rattle.disp_model.specs.declared.problem.Problem.{Problem}
 use Rattle.disp_model.specs.WellFormed.{LeadsTo, IsAcyclic}
-use Rattle.disp_model.specs.Train.{duration_of, IsExit, GoesOn, IsRoute}
+use Rattle.disp_model.specs.Train.{duration_of, GoesOn, IsRoute}
 use Rattle.disp_model.specs.Fixing.{after}
 use Rattle.disp_model.specs.Valid.{train_at}
 use Rattle.disp_model.specs.Node.{Node}
 use Rattle.disp_model.specs.Routes.{AgreesWithFixing, AgreesWithDecision, IsAllowed, IsForced}
 use Rattle.disp_model.specs.Arcs.{Passes, IsTrainArc, IsArc, IsLongestArc}
 use Rattle.disp_model.specs.Walks.{lower_of, WalksOn, IsWalk}
-use Rattle.disp_laws.proofs.Paths.{IsIn, is_in, contains_in, in_or_not, in_middle, leads_along}
+use Rattle.disp_laws.proofs.Paths.{IsIn, is_in, contains_in, in_or_not, leads_along}
 use Rattle.disp_laws.proofs.Branching.{route_from}
 use Rattle.disp_laws.proofs.Positions.{leads_then, route_leads}
 use Rattle.disp_laws.proofs.Arcs.{passes_leads}

@@ -1,28 +1,21 @@
 -- What starts cost: a later start costs no less, and walks to distinct components cost together no more than a plan.
-use Rattle.std.proofs.Common.{◌≡◌, ℕ, zero, suc, ◌+◌, ◌-◌, ◌*◌, ◌≤◌, List, [], ◌∷◌, get_or, map, Option, Some, Bool, true, false, cond, refl, sym, ap, subst, ◌∙◌, arith, inl, inr, mul-le-mul_left}
-use Rattle.std.specs.Prelude.{nat_eq, slice_get, sum_by, ◌≢◌, ◌&&◌}
+use Rattle.std.proofs.Common.{◌≡◌, ℕ, zero, suc, ◌+◌, ◌-◌, ◌*◌, ◌≤◌, List, [], ◌∷◌, get_or, map, Option, Some, refl, sym, ap, arith, inl, inr, mul-le-mul_left}
+use Rattle.std.specs.Prelude.{slice_get, sum_by, ◌≢◌}
 use Rattle.std.specs.Option.{option_map_or}
-use Rattle.std.proofs.lemmas.Bool.{cases_lt, eq-eqb, le-leb, lt-leb}
+use Rattle.std.proofs.lemmas.Bool.{cases_lt, le-leb, lt-leb}
 use Rattle.std.proofs.lemmas.Option.{none-some, same_Some}
 use Rattle.std.proofs.lemmas.List.Sums.{sum_by-cons}
 use Rattle.disp_model.specs.declared.train.Op.{Op}
 use Rattle.disp_model.specs.declared.train.Component.{Component}
 use Rattle.disp_model.specs.declared.plan.Event.{Event}
-use Rattle.disp_model.specs.declared.fixing.Fixing.{Fixing}
-use Rattle.disp_model.specs.declared.decision.Decision.{Decision}
 use Rattle.disp_model.specs.declared.tree.ComponentWalk.{ComponentWalk}
-use Rattle.disp_model.specs.declared.problem.Problem.{Problem}
-use Rattle.disp_model.specs.Plan.{start_of}
 use Rattle.disp_model.specs.Valid.{IsValid}
 use Rattle.disp_model.specs.Cost.{cost_at, cost_in, cost_of}
 use Rattle.disp_model.specs.Node.{Node}
 use Rattle.disp_model.specs.Follows.{Follows}
-use Rattle.disp_model.specs.Routes.{Starts}
 use Rattle.disp_model.specs.Walks.{IsWalk, EndsIn}
 use Rattle.disp_model.specs.Nodes.{component_op, ForcedAddUp, IsForcedBound}
 use Rattle.disp_model.specs.Trees.{WalkCosts, WalksCost, HaveDistinct}
-use Rattle.disp_laws.proofs.Branching.{IsStartedAt}
-use Rattle.disp_laws.proofs.Positions.{start_is_started}
 use Rattle.disp_laws.proofs.WalksHold.{start_is, walk_holds, end_is_run}
 
 -- a later start costs no less

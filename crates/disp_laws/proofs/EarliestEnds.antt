@@ -1,36 +1,34 @@
 -- Where an event of an earliest plan ends, and which pairs keep apart there.
-use Rattle.std.proofs.Common.{◌≡◌, ℕ, zero, suc, ◌+◌, ◌<◌, ◌≤◌, List, [], ◌∷◌, ◌++◌, length, get_or, take, drop, map, Option, Some, None, Bool, true, false, cond, refl, sym, ap, subst, ◌∙◌, arith, inl, inr}
-use Rattle.std.specs.Prelude.{nat_eq, slice_get, slice_index_or, Contains, filter, ◌⊎◌, ◌≢◌, ◌==◌}
+use Rattle.std.proofs.Common.{◌≡◌, ℕ, zero, suc, ◌+◌, ◌<◌, ◌≤◌, List, [], ◌∷◌, ◌++◌, get_or, take, drop, map, Option, Some, None, Bool, true, false, cond, refl, sym, ap, subst, ◌∙◌, arith, inl, inr}
+use Rattle.std.specs.Prelude.{nat_eq, slice_get, slice_index_or, Contains, filter, ◌⊎◌, ◌==◌}
 use Rattle.std.specs.List.{list_any, Any}
-use Rattle.std.proofs.lemmas.Bool.{cases_Bool, cases_lt, eq-eqb}
+use Rattle.std.proofs.lemmas.Bool.{cases_lt, eq-eqb}
 use Rattle.std.proofs.lemmas.Option.{none-some, same_Some}
-use Rattle.std.proofs.lemmas.List.{map-append}
 use Rattle.std.proofs.lemmas.List.Elements.{Contains-get_or}
 use Rattle.std.proofs.lemmas.List.Folds.{list_any-from_Any}
 use Rattle.disp_model.specs.declared.train.Op.{Op}
 use Rattle.disp_model.specs.declared.train.Listing.{Listing}
-use Rattle.disp_model.specs.declared.train.Operation.{Operation}
 use Rattle.disp_model.specs.declared.plan.Event.{Event}
 use Rattle.disp_model.specs.declared.problem.Problem.{Problem}
 use Rattle.disp_model.specs.WellFormed.{greatest_release}
 use Rattle.disp_model.specs.Train.{duration_of}
 use Rattle.disp_model.specs.Plan.{run_of, operations_of, first_of, Ending, ending, end_of}
 use Rattle.disp_model.specs.Fixing.{after}
-use Rattle.disp_model.specs.Valid.{train_at, operation_of, IsReleased, KeepApart}
+use Rattle.disp_model.specs.Valid.{IsReleased, KeepApart}
 use Rattle.disp_model.specs.Node.{Node}
-use Rattle.disp_model.specs.Routes.{IsAllowed, HasOneRoute, IsForced, Starts}
+use Rattle.disp_model.specs.Routes.{HasOneRoute, IsForced}
 use Rattle.disp_model.specs.Arcs.{listings_of, shared_listings, release_of, min_of, GoesTo}
 use Rattle.disp_model.specs.Walks.{IsLongest}
 use Rattle.disp_model.specs.Choices.{IsEnd, Clears}
 use Rattle.disp_model.specs.Earliest.{op_of, IsEarliest}
-use Rattle.disp_laws.proofs.Paths.{IsIn, contains_in}
+use Rattle.disp_laws.proofs.Paths.{IsIn}
 use Rattle.disp_laws.proofs.Runs.{split_at}
 use Rattle.disp_laws.proofs.Branching.{IsStartedAt, own_operations, operations_append}
 use Rattle.disp_laws.proofs.Arcs.{IsFollowed, followed, get_dropped, names_op}
 use Rattle.disp_laws.proofs.Picked.{one_longest, same_op}
-use Rattle.disp_laws.proofs.Composed.{after_behind, in_front_or_back}
+use Rattle.disp_laws.proofs.Composed.{after_behind}
 use Rattle.disp_laws.proofs.EarliestPlans.{one_position, forced_at, longest_at, times_in_order}
-use Rattle.disp_laws.proofs.EarliestRuns.{Before, Places, before_places, run_is_route}
+use Rattle.disp_laws.proofs.EarliestRuns.{Before, before_places, run_is_route}
 
 -- ---- where an event ends
 
@@ -78,7 +76,7 @@ ends_at node plan i e route earliest at one = by_next (after e.operation route) 
             record {
               at = record { position = (held.place + 1) + held.gap; time = held.next.time };
               is = ap (ending (slice_index_or node.problem.trains e.train []) i e)
-              (ap (λ (m : ℕ). first_of e.train (m + 1) (drop (m + 1) plan)) (sym own) ∙ held.next_first (held.place + 1));
+                  (ap (λ (m : ℕ). first_of e.train (m + 1) (drop (m + 1) plan)) (sym own) ∙ held.next_first (held.place + 1));
               time_is = inl (next, goes_to, longest);
               place = inr (next, goes_to, held.next, (there, held.next_started.1), refl);
             }

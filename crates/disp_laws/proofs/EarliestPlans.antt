@@ -1,6 +1,6 @@
 -- The plan of earliest starts: its events are in order of time, and it is one.
-use Rattle.std.proofs.Common.{◌≡◌, ℕ, zero, suc, ◌+◌, ◌<◌, ◌≤◌, List, [], ◌∷◌, ◌++◌, length, get_or, take, drop, Option, Some, None, refl, sym, ap, subst, ◌∙◌, arith, inl, inr, append_assoc}
-use Rattle.std.specs.Prelude.{slice_get, Contains, ◌⊎◌, ◌≢◌}
+use Rattle.std.proofs.Common.{◌≡◌, ℕ, zero, suc, ◌+◌, ◌<◌, ◌≤◌, List, [], ◌∷◌, ◌++◌, length, get_or, take, drop, Some, refl, sym, ap, subst, ◌∙◌, arith, inl, inr, append_assoc}
+use Rattle.std.specs.Prelude.{slice_get, Contains, ◌⊎◌}
 use Rattle.std.specs.List.Sorted.{IsNonDecreasingBy}
 use Rattle.std.proofs.lemmas.Bool.{cases_lt}
 use Rattle.std.proofs.lemmas.Option.{none-some, same_Some, slice_get_within, slice_get-get_or, get_or_from_slice_get}
@@ -10,8 +10,8 @@ use Rattle.disp_model.specs.declared.plan.Event.{Event}
 use Rattle.disp_model.specs.Node.{Node}
 use Rattle.disp_model.specs.Routes.{IsForced, Starts}
 use Rattle.disp_model.specs.Arcs.{HasArc}
-use Rattle.disp_model.specs.Walks.{IsLongest, HasCycle}
-use Rattle.disp_model.specs.Earliest.{op_of, ComesBefore, IsReady, IsNext, IsEarliest}
+use Rattle.disp_model.specs.Walks.{IsLongest}
+use Rattle.disp_model.specs.Earliest.{op_of, ComesBefore, IsNext, IsEarliest}
 use Rattle.disp_laws.proofs.Branching.{IsStartedAt}
 use Rattle.disp_laws.proofs.Picked.{one_longest, contains_at, at_contains, same_op}
 use Rattle.disp_laws.proofs.EarliestExists.{same_events, comes_then}

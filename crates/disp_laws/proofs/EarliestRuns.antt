@@ -1,26 +1,25 @@
 -- In an earliest plan the run of each train is its one route, and each event ends where the longest walk of what follows says.
-use Rattle.std.proofs.Common.{◌≡◌, ℕ, zero, suc, ◌+◌, ◌<◌, ◌≤◌, List, [], ◌∷◌, ◌++◌, length, map, Option, Some, None, Bool, true, false, cond, refl, sym, ap, subst, ◌∙◌, arith, inl, inr}
-use Rattle.std.specs.Prelude.{nat_eq, slice_get, Contains, ◌⊎◌, ◌≢◌}
-use Rattle.std.proofs.lemmas.Bool.{cases_Bool, cases_lt, eqb-true, eqb-false}
-use Rattle.std.proofs.lemmas.Option.{none-some, same_Some}
+use Rattle.std.proofs.Common.{◌≡◌, ℕ, suc, ◌<◌, List, [], ◌∷◌, map, Bool, true, false, cond, refl, sym, ap, subst, ◌∙◌, arith, inl, inr}
+use Rattle.std.specs.Prelude.{nat_eq, ◌⊎◌}
+use Rattle.std.proofs.lemmas.Bool.{cases_Bool, eqb-true, eqb-false}
 use Rattle.disp_model.specs.declared.train.Op.{Op}
 use Rattle.disp_model.specs.declared.train.Operation.{Operation}
 use Rattle.disp_model.specs.declared.plan.Event.{Event}
-use Rattle.disp_model.specs.WellFormed.{LeadsTo, IsAcyclic}
+use Rattle.disp_model.specs.WellFormed.{LeadsTo}
 use Rattle.disp_model.specs.Train.{GoesOn, IsRoute}
 use Rattle.disp_model.specs.Plan.{run_of, operations_of}
 use Rattle.disp_model.specs.Valid.{train_at}
 use Rattle.disp_model.specs.Node.{Node}
-use Rattle.disp_model.specs.Routes.{HasOneRoute, IsForced, Starts}
+use Rattle.disp_model.specs.Routes.{HasOneRoute, IsForced}
 use Rattle.disp_model.specs.Arcs.{HasArc}
 use Rattle.disp_model.specs.Earliest.{op_of, IsEarliest}
-use Rattle.disp_laws.proofs.Paths.{IsIn, is_in, in_or_not, never_again, leads_along}
+use Rattle.disp_laws.proofs.Paths.{IsIn, is_in, leads_along}
 use Rattle.disp_laws.proofs.Branching.{IsStartedAt, started_is_in}
 use Rattle.disp_laws.proofs.Positions.{in_is_started}
 use Rattle.disp_laws.proofs.Picked.{same_op}
 use Rattle.disp_laws.proofs.LeastSums.{train_arc_exists}
 use Rattle.disp_laws.proofs.Bounds.{one_is_forced}
-use Rattle.disp_laws.proofs.EarliestPlans.{one_position, forced_at, event_of, arc_in_order}
+use Rattle.disp_laws.proofs.EarliestPlans.{forced_at, event_of, arc_in_order}
 
 -- ---- lists of numbers in one order
 

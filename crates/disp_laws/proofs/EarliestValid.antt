@@ -1,9 +1,8 @@
 -- At a node that is not dead the earliest plan is valid, but for pairs of trains that do not keep apart; decided ones do.
-use Rattle.std.proofs.Common.{◌≡◌, ℕ, zero, suc, ◌+◌, ◌<◌, ◌≤◌, List, [], ◌∷◌, length, get_or, Option, Some, None, refl, sym, ap, subst, ◌∙◌, arith, inl, inr}
-use Rattle.std.specs.Prelude.{slice_get, Contains, All, IsSome, IfSome, unwrap_or, ◌⊎◌, ◌≢◌, max}
-use Rattle.std.specs.Option.{option_map_or}
+use Rattle.std.proofs.Common.{◌≡◌, ℕ, ◌+◌, ◌<◌, ◌≤◌, List, [], ◌∷◌, get_or, Option, Some, None, refl, sym, ap, subst, ◌∙◌, arith, inl, inr}
+use Rattle.std.specs.Prelude.{slice_get, Contains, IsSome, IfSome, ◌⊎◌, ◌≢◌, max}
 use Rattle.std.proofs.lemmas.Bool.{cases_lt}
-use Rattle.std.proofs.lemmas.Option.{none-some, same_Some, slice_get-get_or}
+use Rattle.std.proofs.lemmas.Option.{same_Some, slice_get-get_or}
 use Rattle.std.proofs.lemmas.List.Elements.{All-contains, Contains-get_or}
 use Rattle.disp_model.specs.declared.train.Op.{Op}
 use Rattle.disp_model.specs.declared.train.Operation.{Operation}
@@ -11,13 +10,12 @@ use Rattle.disp_model.specs.declared.plan.Event.{Event}
 use Rattle.disp_model.specs.declared.fixing.Fixing.{Fixing}
 use Rattle.disp_model.specs.declared.fixing.Fixing.TheVariants.{Started, Chosen, NotBefore}
 use Rattle.disp_model.specs.declared.decision.Decision.TheVariants.{First}
-use Rattle.disp_model.specs.declared.problem.Problem.{Problem}
 use Rattle.disp_model.specs.Train.{IsRoute}
 use Rattle.disp_model.specs.Plan.{start_of, end_of, Ending}
 use Rattle.disp_model.specs.Fixing.{IsMet, after}
 use Rattle.disp_model.specs.Valid.{train_at, operation_of, MayStart, KeepApart, IsValid}
 use Rattle.disp_model.specs.Node.{Node}
-use Rattle.disp_model.specs.Routes.{AgreesWithFixing, IsForced, Starts}
+use Rattle.disp_model.specs.Routes.{AgreesWithFixing, IsForced}
 use Rattle.disp_model.specs.Arcs.{Conflicts, min_of, GoesTo, HasArc}
 use Rattle.disp_model.specs.Walks.{fixed_start, not_before, lower_of, upper_of, IsLongest}
 use Rattle.disp_model.specs.Nodes.{HasLate}

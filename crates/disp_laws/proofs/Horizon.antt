@@ -4,8 +4,6 @@ use Rattle.std.specs.Prelude.{sum_by, ◌⊎◌}
 use Rattle.std.proofs.lemmas.List.Sums.{sum_by-cons}
 use Rattle.disp_model.specs.declared.train.Op.{Op}
 use Rattle.disp_model.specs.declared.train.Operation.{Operation}
-use Rattle.disp_model.specs.declared.fixing.Fixing.{Fixing}
-use Rattle.disp_model.specs.declared.decision.Decision.{Decision}
 use Rattle.disp_model.specs.declared.problem.Problem.{Problem}
 use Rattle.disp_model.specs.Train.{duration_of, GoesOn, IsRoute}
 use Rattle.disp_model.specs.WellFormed.{LeadsTo, IsAcyclic}

@@ -1,6 +1,6 @@
 -- No walk of a node without a cycle is longer than the horizon.
 use Rattle.std.proofs.Common.{◌≡◌, ℕ, zero, suc, ◌+◌, ◌<◌, ◌≤◌, List, [], ◌∷◌, ◌++◌, length, get_or, take, map, Option, Some, None, Bool, true, false, cond, refl, ap, subst, ◌∙◌, arith, inl, inr}
-use Rattle.std.specs.Prelude.{nat_eq, slice_get, MatchOption, unwrap_or, sum_by, ◌&&◌, max}
+use Rattle.std.specs.Prelude.{nat_eq, slice_get, unwrap_or, sum_by, ◌&&◌, max}
 use Rattle.std.specs.Option.{option_map_or}
 use Rattle.std.proofs.lemmas.Option.{none-some, same_Some, slice_get_within, get_or_from_slice_get}
 use Rattle.std.proofs.lemmas.List.Sums.{sum_by_more, sum_by-take-le}
@@ -11,9 +11,8 @@ use Rattle.disp_model.specs.declared.fixing.Fixing.{Fixing}
 use Rattle.disp_model.specs.declared.fixing.Fixing.TheVariants.{Started, Chosen, NotBefore}
 use Rattle.disp_model.specs.declared.fixing.Change.{Change}
 use Rattle.disp_model.specs.declared.fixing.Change.TheVariants.{Fix, Withdraw}
-use Rattle.disp_model.specs.declared.decision.Decision.{Decision}
 use Rattle.disp_model.specs.declared.reply.Reply.TheVariants.{Accepted, Refused}
-use Rattle.disp_model.specs.declared.reply.Refusal.TheVariants.{NoTrain, NoOperation, TooLarge}
+use Rattle.disp_model.specs.declared.reply.Refusal.TheVariants.{TooLarge}
 use Rattle.disp_model.specs.declared.problem.Problem.{Problem}
 use Rattle.disp_model.specs.WellFormed.{span_of, horizon}
 use Rattle.disp_model.specs.Changes.{standing_of, standing_from, is_withdrawn}

@@ -6,8 +6,6 @@ use Rattle.std.proofs.lemmas.List.Sums.{sum_by-cons}
 use Rattle.disp_model.specs.declared.train.Op.{Op}
 use Rattle.disp_model.specs.declared.train.Operation.{Operation}
 use Rattle.disp_model.specs.declared.fixing.Fixing.{Fixing}
-use Rattle.disp_model.specs.declared.decision.Decision.{Decision}
-use Rattle.disp_model.specs.declared.problem.Problem.{Problem}
 use Rattle.disp_model.specs.Train.{duration_of, GoesOn, IsRoute}
 use Rattle.disp_model.specs.WellFormed.{LeadsTo, IsAcyclic}
 use Rattle.disp_model.specs.Valid.{train_at}
@@ -49,7 +47,7 @@ not_before train p v (x ∷ before) rest acyclic goes (inl same) =
     let later = leads_along train x v (before ++ v ∷ rest) goes.1 (in_middle v before rest) in
     acyclic.no_cycle later.0 v (subst (λ (y : ℕ). LeadsTo train later.0 y v) same later.1)
 
-not_before_on_route : (train : List Operation) (v : ℕ) (before rest : List ℕ) → IsAcyclic train → IsRoute train (before ++ v ∷ rest) → IsIn v before → ⊥
+pub not_before_on_route : (train : List Operation) (v : ℕ) (before rest : List ℕ) → IsAcyclic train → IsRoute train (before ++ v ∷ rest) → IsIn v before → ⊥
 not_before_on_route train v [] rest acyclic route there = there
 not_before_on_route train v (x ∷ before) rest acyclic route (inr there) = not_before train x v before rest acyclic route.1 there
 not_before_on_route train v (x ∷ before) rest acyclic route (inl same) =

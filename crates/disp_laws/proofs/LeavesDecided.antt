@@ -1,6 +1,6 @@
 -- Whether a leaf holds is decided.
 use Rattle.std.proofs.Common.{◌≡◌, ℕ, zero, suc, ◌+◌, ◌<◌, ◌≤◌, List, [], ◌∷◌, ◌++◌, length, get_or, Option, Some, None, refl, sym, ap, subst, ◌∙◌, arith, inl, inr}
-use Rattle.std.specs.Prelude.{slice_get, Contains, All, ◌≢◌, ◌⊎◌}
+use Rattle.std.specs.Prelude.{slice_get, All, ◌≢◌}
 use Rattle.std.proofs.lemmas.Bool.{cases_lt}
 use Rattle.std.proofs.lemmas.Option.{none-some, same_Some, slice_get_within, get_or_from_slice_get, slice_get-get_or}
 use Rattle.disp_model.specs.declared.train.Op.{Op}
@@ -14,16 +14,14 @@ use Rattle.disp_model.specs.declared.tree.Verdict.{Verdict}
 use Rattle.disp_model.specs.declared.tree.Verdict.TheVariants.{Optimal, Infeasible}
 use Rattle.disp_model.specs.Cost.{cost_at}
 use Rattle.disp_model.specs.Node.{Node}
-use Rattle.disp_model.specs.Routes.{HasRoute, HasNoRoute}
-use Rattle.disp_model.specs.Arcs.{HasArc}
 use Rattle.disp_model.specs.Walks.{upper_of, IsWalk, EndsIn, ClosesTo, IsCycle}
 use Rattle.disp_model.specs.Nodes.{component_op}
-use Rattle.disp_model.specs.Shares.{IsShareOver, Arrival, AreWalksOn, shown_base, ShowsShare, SharesCost, AreOfOthers}
-use Rattle.disp_model.specs.Trees.{IsLateWalk, WalkCosts, WalksCost, CostsEnough, SharesEnough, ReachVerdict, ShareVerdict, Shows, LeafHolds}
+use Rattle.disp_model.specs.Shares.{Arrival, AreWalksOn, shown_base, ShowsShare, SharesCost, AreOfOthers}
+use Rattle.disp_model.specs.Trees.{IsLateWalk, WalkCosts, WalksCost, CostsEnough, SharesEnough, Shows, LeafHolds}
 use Rattle.disp_laws.proofs.RouteSearch.{Decided, both, same_number, all_or_not, has_route_or_not}
 use Rattle.disp_laws.proofs.LongestArcs.{has_arc_or_not}
 use Rattle.disp_laws.proofs.LongestWalks.{is_walk_or_not, is_walk_same, ends_or_not}
-use Rattle.disp_laws.proofs.LeavesStay.{HaveRoutes, routes_or_none}
+use Rattle.disp_laws.proofs.LeavesStay.{routes_or_none}
 use Rattle.disp_laws.proofs.Shares.{train_there, share_exists, one_share}
 
 -- ---- numbers and lists

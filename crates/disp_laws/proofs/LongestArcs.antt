@@ -5,7 +5,6 @@ use Rattle.std.proofs.lemmas.Bool.{cases_lt}
 use Rattle.disp_model.specs.declared.train.Op.{Op}
 use Rattle.disp_model.specs.declared.train.Listing.{Listing}
 use Rattle.disp_model.specs.declared.train.Operation.{Operation}
-use Rattle.disp_model.specs.declared.fixing.Fixing.{Fixing}
 use Rattle.disp_model.specs.declared.decision.Decision.{Decision}
 use Rattle.disp_model.specs.declared.decision.Decision.TheVariants.{Go, First, Run, Skip}
 use Rattle.disp_model.specs.declared.problem.Problem.{Problem}

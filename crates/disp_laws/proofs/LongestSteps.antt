@@ -1,12 +1,11 @@
 -- Without a cycle an arc's end has a walk at least as long as its beginning's and the arc.
-use Rattle.std.proofs.Common.{◌≡◌, ℕ, ◌+◌, ◌≤◌, List, [], ◌∷◌, ◌++◌, refl, sym, ap, subst, ◌∙◌, arith}
-use Rattle.std.proofs.lemmas.List.{append_assoc}
+use Rattle.std.proofs.Common.{◌≡◌, ℕ, ◌+◌, ◌≤◌, List, [], ◌∷◌, ◌++◌, refl, sym, ap, subst, arith}
 use Rattle.disp_model.specs.declared.train.Op.{Op}
 use Rattle.disp_model.specs.Node.{Node}
 use Rattle.disp_model.specs.Arcs.{IsArc, IsLongestArc}
-use Rattle.disp_model.specs.Walks.{lower_of, WalksOn, IsWalk, EndsIn, HasNoRepeat, IsLongest, HasCycle}
+use Rattle.disp_model.specs.Walks.{lower_of, WalksOn, IsWalk, EndsIn, IsLongest, HasCycle}
 use Rattle.disp_laws.proofs.LongestArcs.{longest_arc}
-use Rattle.disp_laws.proofs.LongestWalks.{Once, from_once}
+use Rattle.disp_laws.proofs.LongestWalks.{from_once}
 use Rattle.disp_laws.proofs.EarliestExists.{walk_once}
 
 last_is : (u v : Op) (front : List Op) → u ∷ [] ≡ front ++ v ∷ [] → u ≡ v

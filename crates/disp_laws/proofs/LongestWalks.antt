@@ -6,8 +6,6 @@ use Rattle.std.proofs.lemmas.Option.{none-some, same_Some}
 use Rattle.std.proofs.lemmas.List.{length-append}
 use Rattle.std.proofs.lemmas.List.Elements.{Contains-append_left, Contains-append_right}
 use Rattle.disp_model.specs.declared.train.Op.{Op}
-use Rattle.disp_model.specs.declared.fixing.Fixing.{Fixing}
-use Rattle.disp_model.specs.declared.decision.Decision.{Decision}
 use Rattle.disp_model.specs.declared.problem.Problem.{Problem}
 use Rattle.disp_model.specs.Train.{IsRoute}
 use Rattle.disp_model.specs.Valid.{train_at}

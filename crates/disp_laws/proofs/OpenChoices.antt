@@ -1,29 +1,28 @@
 -- What is open at a node may be branched on and is not decided there; what the fixed rule picks is open.
-use Rattle.std.proofs.Common.{◌≡◌, ℕ, zero, suc, ◌+◌, ◌<◌, ◌≤◌, List, [], ◌∷◌, ◌++◌, length, Option, Some, None, Bool, true, false, cond, refl, sym, ap, subst, ◌∙◌, arith, inl, inr}
-use Rattle.std.specs.Prelude.{nat_eq, slice_get, Contains, ◌⊎◌, ◌≢◌}
-use Rattle.std.proofs.lemmas.Bool.{cases_lt, eqb-true}
+use Rattle.std.proofs.Common.{◌≡◌, ℕ, zero, suc, ◌+◌, ◌<◌, ◌≤◌, List, [], ◌∷◌, length, Option, Some, None, Bool, true, false, cond, refl, sym, ap, subst, ◌∙◌, arith, inl, inr}
+use Rattle.std.specs.Prelude.{nat_eq, slice_get, Contains, ◌⊎◌}
+use Rattle.std.proofs.lemmas.Bool.{cases_lt}
 use Rattle.std.proofs.lemmas.Option.{none-some, same_Some}
 use Rattle.std.proofs.lemmas.List.Elements.{All-contains}
 use Rattle.disp_model.specs.declared.train.Op.{Op}
 use Rattle.disp_model.specs.declared.plan.Event.{Event}
 use Rattle.disp_model.specs.declared.decision.Decision.{Decision}
-use Rattle.disp_model.specs.declared.decision.Decision.TheVariants.{Go, First, Run as RunIt, Skip}
+use Rattle.disp_model.specs.declared.decision.Decision.TheVariants.{Go, Run as RunIt, Skip}
 use Rattle.disp_model.specs.declared.decision.Choice.{Choice}
 use Rattle.disp_model.specs.declared.decision.Choice.TheVariants.{Route, Order, Run}
 use Rattle.disp_model.specs.declared.settings.Rule.{Rule}
 use Rattle.disp_model.specs.declared.settings.Rule.TheVariants.{Fixed, Free}
-use Rattle.disp_model.specs.Train.{next_of, IsRoute, IsSuccessor}
+use Rattle.disp_model.specs.Train.{next_of, IsRoute}
 use Rattle.disp_model.specs.Fixing.{after}
 use Rattle.disp_model.specs.Valid.{train_at, IsValid, KeepApart}
 use Rattle.disp_model.specs.Node.{Node}
-use Rattle.disp_model.specs.Routes.{AgreesWithDecision, IsAllowed, IsForced, Starts}
+use Rattle.disp_model.specs.Routes.{AgreesWithDecision, IsAllowed, IsForced}
 use Rattle.disp_model.specs.Arcs.{min_of, GoesTo}
 use Rattle.disp_model.specs.Walks.{IsLongest, HasCycle}
 use Rattle.disp_model.specs.Trees.{IsChoice, children_of}
-use Rattle.disp_model.specs.Choices.{IsEnd, Clears, IsOpenRoute, IsOpenOrder, IsOpenRun, IsOpen}
+use Rattle.disp_model.specs.Choices.{IsEnd, Clears, IsOpenRoute, IsOpenOrder, IsOpen}
 use Rattle.disp_model.specs.Earliest.{op_of, IsEarliest, HaveOneRoute, IsFork, Clash, IsOpenClash, PicksNone, IsFixedPick, IsPicked}
 use Rattle.disp_laws.proofs.Paths.{IsIn, is_in, contains_in, in_middle}
-use Rattle.disp_laws.proofs.Branching.{IsStartedAt}
 use Rattle.disp_laws.proofs.RouteSearch.{each_within}
 use Rattle.disp_laws.proofs.Shares.{train_there}
 use Rattle.disp_laws.proofs.Bounds.{next_step}

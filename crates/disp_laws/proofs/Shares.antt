@@ -1,20 +1,19 @@
 -- Shares of trains: they exist, they grow, and no valid plan costs less.
-use Rattle.std.proofs.Common.{◌≡◌, ℕ, zero, suc, ◌+◌, ◌<◌, ◌≤◌, List, [], ◌∷◌, length, map, Option, Some, None, Bool, true, false, cond, refl, sym, ap, subst, ◌∙◌, arith, inl, inr}
-use Rattle.std.specs.Prelude.{nat_eq, slice_get, Contains, sum_by, ◌⊎◌, ◌≢◌, ◌&&◌, ◌||◌, max, unwrap_or}
+use Rattle.std.proofs.Common.{◌≡◌, ℕ, zero, suc, ◌+◌, ◌<◌, ◌≤◌, List, [], ◌∷◌, length, map, Option, Some, Bool, true, false, cond, refl, sym, ap, subst, ◌∙◌, arith, inl, inr}
+use Rattle.std.specs.Prelude.{nat_eq, Contains, sum_by, ◌⊎◌, ◌&&◌, ◌||◌, max, unwrap_or}
 use Rattle.std.specs.List.{list_any}
 use Rattle.std.specs.Option.{option_map_or}
-use Rattle.std.proofs.lemmas.Bool.{cases_Bool, cases_lt, and_parts, eq-eqb, eqb-true, eqb-false, ne_eqb, false≢true}
+use Rattle.std.proofs.lemmas.Bool.{cases_Bool, cases_lt, and_parts, eq-eqb, eqb-true, false≢true}
 use Rattle.std.proofs.lemmas.Option.{none-some, same_Some}
 use Rattle.std.proofs.lemmas.List.{get_or_past}
 use Rattle.std.proofs.lemmas.List.Sums.{sum_by-cons}
-use Rattle.disp_model.specs.declared.train.Op.{Op}
 use Rattle.disp_model.specs.declared.train.Operation.{Operation}
 use Rattle.disp_model.specs.declared.train.Component.{Component}
 use Rattle.disp_model.specs.declared.plan.Event.{Event}
 use Rattle.disp_model.specs.declared.problem.Problem.{Problem}
 use Rattle.disp_model.specs.Train.{duration_of, IsRoute}
 use Rattle.disp_model.specs.Plan.{run_of, operations_of}
-use Rattle.disp_model.specs.Cost.{cost_at, cost_in, cost_of}
+use Rattle.disp_model.specs.Cost.{cost_at, cost_in}
 use Rattle.disp_model.specs.Valid.{train_at, IsValid}
 use Rattle.disp_model.specs.Node.{Node}
 use Rattle.disp_model.specs.Follows.{Follows}
@@ -27,7 +26,7 @@ use Rattle.disp_laws.proofs.Positions.{valid_spaced}
 use Rattle.disp_laws.proofs.Arcs.{run_allowed}
 use Rattle.disp_laws.proofs.WalksHold.{start_is}
 use Rattle.disp_laws.proofs.Costs.{costs_grow}
-use Rattle.disp_laws.proofs.RouteSearch.{Decided, IsListed, both, allowed_routes, is_allowed_or_not, contained_or_not, decided_part}
+use Rattle.disp_laws.proofs.RouteSearch.{IsListed, both, allowed_routes, is_allowed_or_not, contained_or_not, decided_part}
 use Rattle.disp_laws.proofs.LeastSums.{least_of, IsLeastOf}
 
 -- a train with an allowed route is there

@@ -1,24 +1,20 @@
 -- Shares that a leaf shows: what they say of valid plans, and that they stay with more fixings.
-use Rattle.std.proofs.Common.{◌≡◌, ℕ, zero, suc, ◌+◌, ◌<◌, ◌≤◌, List, [], ◌∷◌, map, get_or, Option, Some, None, Bool, true, false, cond, refl, sym, ap, subst, ◌∙◌, arith, inl, inr}
+use Rattle.std.proofs.Common.{◌≡◌, ℕ, suc, ◌+◌, ◌≤◌, List, [], ◌∷◌, map, Some, Bool, true, false, cond, refl, sym, subst, arith}
 use Rattle.std.specs.Prelude.{nat_eq, slice_get, sum_by, ◌≢◌, ◌||◌, max}
 use Rattle.std.specs.List.{list_any}
-use Rattle.std.proofs.lemmas.Bool.{cases_Bool, eq-eqb, eqb-true, eqb-false, ne_eqb, false≢true}
-use Rattle.std.proofs.lemmas.Option.{none-some, same_Some}
+use Rattle.std.proofs.lemmas.Bool.{eq-eqb, eqb-true, eqb-false, ne_eqb}
 use Rattle.disp_model.specs.declared.train.Op.{Op}
 use Rattle.disp_model.specs.declared.train.Component.{Component}
 use Rattle.disp_model.specs.declared.plan.Event.{Event}
-use Rattle.disp_model.specs.declared.fixing.Fixing.{Fixing}
-use Rattle.disp_model.specs.declared.problem.Problem.{Problem}
 use Rattle.disp_model.specs.declared.tree.ComponentWalk.{ComponentWalk}
 use Rattle.disp_model.specs.declared.tree.TrainWalks.{TrainWalks}
 use Rattle.disp_model.specs.Cost.{cost_in, cost_of}
 use Rattle.disp_model.specs.Valid.{IsValid}
-use Rattle.disp_model.specs.Node.{Node, with_fixings}
+use Rattle.disp_model.specs.Node.{Node}
 use Rattle.disp_model.specs.Follows.{Follows}
-use Rattle.disp_model.specs.Routes.{HasRoute, IsForced}
-use Rattle.disp_model.specs.Walks.{lower_of, IsWalk, EndsIn}
-use Rattle.disp_model.specs.Shares.{IsShareOver, own_cost, Arrival, AreWalksOn, greatest_to, shown_base, ShowsShare, SharesCost, HaveDistinctTrains, AreOfOthers}
-use Rattle.disp_model.specs.Trees.{WalkCosts, WalksCost, HaveDistinct, SharesEnough}
+use Rattle.disp_model.specs.Walks.{EndsIn}
+use Rattle.disp_model.specs.Shares.{own_cost, Arrival, AreWalksOn, greatest_to, shown_base, SharesCost, HaveDistinctTrains}
+use Rattle.disp_model.specs.Trees.{SharesEnough}
 use Rattle.disp_laws.proofs.Branching.{IsStartedAt}
 use Rattle.disp_laws.proofs.WalksHold.{walk_holds, starts_from_lower}
 use Rattle.disp_laws.proofs.Costs.{walk_costs_in, total_of_map, cost_at_place, EachWithin, walks_within}

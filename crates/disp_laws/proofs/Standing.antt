@@ -1,9 +1,8 @@
 -- The fixings of an edition fit each other and the problem.
-use Rattle.std.proofs.Common.{◌≡◌, ℕ, zero, suc, ◌+◌, ◌<◌, ◌≤◌, List, [], ◌∷◌, ◌++◌, length, take, map, Option, Some, None, Bool, true, false, cond, refl, sym, ap, subst, ◌∙◌, arith, inl, inr}
-use Rattle.std.specs.Prelude.{nat_eq, slice_get, Contains, IfSome, MatchOption, ◌⊎◌, ◌&&◌, ◌||◌, max}
-use Rattle.std.specs.List.{list_any}
+use Rattle.std.proofs.Common.{◌≡◌, ℕ, zero, suc, ◌+◌, ◌<◌, ◌≤◌, List, [], ◌∷◌, length, take, map, Option, Some, None, Bool, true, false, cond, refl, sym, ap, subst, ◌∙◌, arith, inl, inr}
+use Rattle.std.specs.Prelude.{nat_eq, slice_get, Contains, MatchOption, ◌&&◌, ◌||◌, max}
 use Rattle.std.proofs.lemmas.Bool.{cases_lt, and_parts, eq-eqb, eqb-true}
-use Rattle.std.proofs.lemmas.Option.{none-some, same_Some, get_or_from_slice_get}
+use Rattle.std.proofs.lemmas.Option.{none-some, same_Some}
 use Rattle.std.proofs.lemmas.List.{get_or_past}
 use Rattle.disp_model.specs.declared.train.Op.{Op}
 use Rattle.disp_model.specs.declared.train.Operation.{Operation}
@@ -12,12 +11,12 @@ use Rattle.disp_model.specs.declared.fixing.Fixing.TheVariants.{Started, Chosen,
 use Rattle.disp_model.specs.declared.fixing.Change.{Change}
 use Rattle.disp_model.specs.declared.fixing.Change.TheVariants.{Fix, Withdraw}
 use Rattle.disp_model.specs.declared.reply.Reply.TheVariants.{Accepted, Known, Refused}
-use Rattle.disp_model.specs.declared.reply.Refusal.TheVariants.{NoTrain, NoOperation, TooLarge, BelowLower, AboveUpper, StartedAt, EarliestIs}
+use Rattle.disp_model.specs.declared.reply.Refusal.TheVariants.{TooLarge, BelowLower, AboveUpper, StartedAt}
 use Rattle.disp_model.specs.declared.problem.Problem.{Problem}
-use Rattle.disp_model.specs.Changes.{withdraws, is_withdrawn, standing_from, numbered_standing, standing_of}
+use Rattle.disp_model.specs.Changes.{withdraws, is_withdrawn, standing_from, standing_of}
 use Rattle.disp_model.specs.Valid.{train_at}
 use Rattle.disp_model.specs.Walks.{fixed_start, not_before}
-use Rattle.disp_model.specs.Replies.{Row, IsCounted, RepliesToStart, RepliesToChoice, RepliesToEarliest, IsReply, IsEdition, known_as}
+use Rattle.disp_model.specs.Replies.{Row, RepliesToStart, RepliesToChoice, RepliesToEarliest, IsReply, IsEdition}
 use Rattle.disp_laws.proofs.Tightened.{MayBegin, within_row, at_least, by_place, accepted_start}
 
 -- ---- which fixings stand

@@ -1,11 +1,13 @@
 // Laws over the definitions, each the contract of a function without a body, for every crate to cite.
-ghost use Rattle.std.specs.Prelude.{◌≡◌, ◌≢◌, ◌⊎◌, ◌↔◌, ◌+◌, ◌<◌, ◌≤◌, ℕ, List, [], ◌∷◌, ◌++◌, Contains, Some, None, slice_get, length, sum_by};
+ghost use Rattle.std.specs.Prelude.{◌≡◌, ◌≢◌, ◌⊎◌, ◌↔◌, ◌+◌, ◌<◌, ◌≤◌, ℕ, List, [], ◌∷◌, ◌++◌, Contains, Option, Some, None, slice_get, length, sum_by};
+ghost use Rattle.std.specs.List.Sorted.{IsNonDecreasingBy};
 ghost use Rattle.disp_model.specs.declared.problem.Problem.{Problem};
 ghost use Rattle.disp_model.specs.declared.train.Component.{Component};
 ghost use Rattle.disp_model.specs.declared.train.Op.{Op};
 ghost use Rattle.disp_model.specs.declared.fixing.Fixing.{Fixing};
 ghost use Rattle.disp_model.specs.declared.plan.Event.{Event};
 ghost use Rattle.disp_model.specs.declared.decision.Decision.{Decision};
+ghost use Rattle.disp_model.specs.declared.decision.Decision.TheVariants.{First};
 ghost use Rattle.disp_model.specs.declared.fixing.Change.{Change};
 ghost use Rattle.disp_model.specs.declared.fixing.Change.TheVariants.{Fix};
 ghost use Rattle.disp_model.specs.declared.settings.Rule.{Rule};
@@ -27,16 +29,17 @@ ghost use Rattle.disp_model.specs.Numbers.{number_of};
 ghost use Rattle.disp_model.specs.Plan.{operations_of};
 ghost use Rattle.disp_model.specs.Fixing.{after};
 ghost use Rattle.disp_model.specs.Cost.{cost_at, cost_of, IsInfeasible};
-ghost use Rattle.disp_model.specs.Valid.{train_at, IsValid};
+ghost use Rattle.disp_model.specs.Valid.{train_at, KeepApart, IsValid};
 ghost use Rattle.disp_model.specs.Follows.{Follows};
 ghost use Rattle.disp_model.specs.Routes.{Starts, IsAllowed, HasRoute, HasNoRoute, IsForced};
-ghost use Rattle.disp_model.specs.Arcs.{IsTrainArc, IsArc, IsLongestArc};
+ghost use Rattle.disp_model.specs.Arcs.{Conflicts, IsTrainArc, IsArc, IsLongestArc};
 ghost use Rattle.disp_model.specs.Walks.{lower_of, upper_of, IsWalk, EndsIn, IsLongest, HasCycle};
 ghost use Rattle.disp_model.specs.Nodes.{IsDead};
 ghost use Rattle.disp_model.specs.Shares.{IsShare, own_cost, IsBound};
 ghost use Rattle.disp_model.specs.Trees.{IsChoice, children_of, HaveDistinct, WalksCost, LeafHolds, Accepts};
 ghost use Rattle.disp_model.specs.Replies.{IsReply, IsEdition};
-ghost use Rattle.disp_model.specs.Earliest.{HaveOneRoute, IsEarliest, IsPicked};
+ghost use Rattle.disp_model.specs.Choices.{IsOpen};
+ghost use Rattle.disp_model.specs.Earliest.{op_of, HaveOneRoute, IsEarliest, IsPicked};
 
 /// Each train of a problem has one entry and one exit.
 pub fn trains_have_ends()
@@ -135,17 +138,57 @@ pub fn trees_say_yes()
         → Accepts problem fixings Infeasible tree → IsInfeasible problem fixings }
 {}
 
-/// What is picked: a choice that a branch may have, of which no child is decided there; a route's
-/// operation goes on to two successors on allowed routes.
+/// What is picked, whatever the rule: a choice that a branch may have, of which no child is decided there. What
+/// the fixed rule picks is picked under the free one; an operation that all allowed routes have, and from which
+/// two go on differently, goes on to two successors.
 pub fn picked_is_open()
-    ensures allowed { (node : Node) (choice : Choice)
-        → IsPicked node Fixed (Some choice) → IsChoice node.problem choice }
-    ensures undecided { (node : Node) (choice : Choice) (child : Decision)
-        → IsPicked node Fixed (Some choice) → Contains (children_of node.problem choice) child → Contains node.decisions child → ⊥ }
+    ensures allowed { (node : Node) (rule : Rule) (choice : Choice)
+        → IsPicked node rule (Some choice) → IsChoice node.problem choice }
+    ensures undecided { (node : Node) (rule : Rule) (choice : Choice) (child : Decision)
+        → IsPicked node rule (Some choice) → Contains (children_of node.problem choice) child → Contains node.decisions child → ⊥ }
+    ensures fixed { (node : Node) (picked : Option Choice)
+        → IsPicked node Fixed picked → IsPicked node Free picked }
     ensures two_ways { (node : Node) (o : Op)
-        → IsPicked node Fixed (Some (Route o))
+        → IsOpen node (Route o)
         → (one other : List ℕ) × (next another : ℕ) × IsAllowed node o.train one × IsAllowed node o.train other
         × (after o.op one ≡ Some next) × (after o.op other ≡ Some another) × (next ≢ another) }
+{}
+
+/// An open choice is allowed in a tree, and no child of it is decided.
+pub fn open_choices_are_free()
+    ensures allowed { (node : Node) (choice : Choice)
+        → IsOpen node choice → IsChoice node.problem choice }
+    ensures undecided { (node : Node) (choice : Choice) (child : Decision)
+        → IsOpen node choice → Contains (children_of node.problem choice) child → Contains node.decisions child → ⊥ }
+{}
+
+/// With an edition's fixings, at a node that is not dead: none is picked or some choice is, by either rule, and
+/// never both. Where nothing is open there the earliest plan, if each train has one route, is valid.
+pub fn something_is_picked()
+    ensures some { (node : Node) (changes : List Change) (rule : Rule)
+        → IsEdition node.problem changes → node.fixings ≡ standing_of changes → (IsDead node → ⊥)
+        → IsPicked node rule None ⊎ ((choice : Choice) × IsPicked node rule (Some choice)) }
+    ensures one { (node : Node) (rule : Rule) (choice : Choice)
+        → IsPicked node rule (Some choice) → IsPicked node rule None → ⊥ }
+    ensures closed { (node : Node) (changes : List Change) (plan : List Event)
+        → IsEdition node.problem changes → node.fixings ≡ standing_of changes → (IsDead node → ⊥)
+        → ((choice : Choice) → IsOpen node choice → ⊥) → IsEarliest node plan → IsValid node.problem node.fixings plan }
+{}
+
+/// There is one plan of earliest starts at a node, its times do not fall, and with an edition's fixings, at a
+/// node that is not dead, it is valid where its events keep apart; those whose order is decided do.
+pub fn earliest_plans_are_one()
+    ensures alone { (node : Node) (plan other : List Event)
+        → IsEarliest node plan → IsEarliest node other → plan ≡ other }
+    ensures in_order { (node : Node) (plan : List Event)
+        → IsEarliest node plan → IsNonDecreasingBy (λ e. e.time) plan }
+    ensures decided { (node : Node) (plan : List Event) (i j : ℕ) (e f : Event) → IsEarliest node plan → i < j
+        → slice_get plan i ≡ Some e → slice_get plan j ≡ Some f → Conflicts node.problem (op_of e) (op_of f)
+        → Contains node.decisions (First (op_of e) (op_of f)) → KeepApart node.problem plan i e j f }
+    ensures valid { (node : Node) (changes : List Change) (plan : List Event)
+        → IsEdition node.problem changes → node.fixings ≡ standing_of changes → (IsDead node → ⊥) → IsEarliest node plan
+        → ((i j : ℕ) (e f : Event) → i < j → slice_get plan i ≡ Some e → slice_get plan j ≡ Some f → e.train ≢ f.train → KeepApart node.problem plan i e j f)
+        → IsValid node.problem node.fixings plan }
 {}
 
 /// None is picked exactly where each train has one allowed route and the earliest plan is valid; then its
