@@ -11,7 +11,7 @@ use Rattle.disp_model.specs.declared.train.Operation.{Operation}
 use Rattle.disp_model.specs.declared.train.Component.{Component}
 use Rattle.disp_model.specs.declared.limits.TheConstants.{MOST_OPERATIONS}
 use Rattle.disp_model.specs.WellFormed.{HasFitNumbers, RefersInside, IsAcyclic, IsWellFormed}
-use Rattle.displib_reader.specs.Field.{members_at}
+use Rattle.json_claims.specs.Field.{members_at}
 use Rattle.displib_reader.specs.ProblemOf.{names_of_train, names_in, trains_of}
 use Rattle.displib_reader.specs.Graphs.{entry_count, exit_count, first_not_one, HasNoCycle, AreInside}
 use Rattle.displib_reader.specs.Outcome.{IsLinked, HaveGraphs, KeepsRules}

@@ -1,7 +1,4 @@
-pub mod Field
 pub mod ProblemOf
-pub mod Gives
-pub mod Json
 pub mod Claims
 pub mod Counts
 pub mod Graphs
