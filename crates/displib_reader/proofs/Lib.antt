@@ -1,9 +1,7 @@
 pub mod Components
 pub mod Distinct
-pub mod Marks
 pub mod Once
 pub mod OneAnswer
 pub mod Parts
-pub mod Reached
 pub mod Trains
 pub mod Whole

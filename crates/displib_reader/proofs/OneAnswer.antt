@@ -1,8 +1,6 @@
 -- Each text has one answer, beside want of memory.
 use Rattle.std.proofs.Common.{◌≡◌, ◌⊎◌, ℕ, ◌<◌, ◌≤◌, List, Option, Some, None, refl, sym, ap, subst, ◌∙◌, inl, inr, arith}
-use Rattle.std.specs.Prelude.{All, codes, slice_get}
-use Rattle.std.proofs.lemmas.Bool.{cases_lt}
-use Rattle.std.proofs.lemmas.List.Elements.{recursion_from_All}
+use Rattle.std.specs.Prelude.{All, codes}
 use Rattle.std.proofs.lemmas.Option.{same_Some}
 use Rattle.serde_json.specs.Data.{Data}
 use Rattle.displib_reader.specs.declared.fault.ProblemNo.{ProblemNo}
@@ -16,11 +14,12 @@ use Rattle.json_claims.proofs.OneAnswer.{same_value, At, same_at, AtPlaces, same
 use Rattle.displib_reader.specs.Claims.{problem_claims}
 use Rattle.json_claims.specs.Field.{members_at}
 use Rattle.displib_reader.specs.Counts.{too_many}
-use Rattle.displib_reader.specs.Graphs.{entry_count, exit_count, first_not_one, HasNoCycle, IsOnCycle, IsFirstLoop}
+use Rattle.train_graphs.specs.Graphs.{entry_count, exit_count, first_not_one, HasNoCycle, IsFirstLoop}
+use Rattle.train_graphs.specs.Costs.{greatest_sum}
+use Rattle.train_graphs.proofs.FirstLoops.{first_loops_agree, loop_is_cycle}
 use Rattle.displib_reader.specs.Types.{first_unknown}
 use Rattle.displib_reader.specs.ProblemOf.{trains_of, components_of, IsProblemOf}
-use Rattle.displib_reader.specs.Outcome.{broken_at, IsLinked, greatest_sum, KeepsRules, Breaks, IsReadAs, IsRefused}
-use Rattle.displib_reader.proofs.Distinct.{at_all}
+use Rattle.displib_reader.specs.Outcome.{broken_at, IsLinked, KeepsRules, Breaks, IsReadAs, IsRefused}
 
 -- ---- the rules in their order, as one chain
 
@@ -54,33 +53,6 @@ abbrev Chain : Data → Option ProblemNo → Type 0
 Chain d answer = AtPlaces (problem_claims d) Shape NotWhole TooLarge (Counted d answer) answer
 
 -- ---- one answer
-
-first_loops_agree : (trains : List (List Operation)) (t o t' o' : ℕ) → IsFirstLoop trains t o → IsFirstLoop trains t' o' → (t ≡ t') × (o ≡ o')
-first_loops_agree trains t o t' o' a b = (same-t, same-o)
-  where
-    same-t : t ≡ t'
-    same-t = elim (cases_lt t t') [
-      | inl lt ↦ absurd (b.before t a.train lt a.at o a.least.on)
-      | inr le ↦ elim (cases_lt t' t) [
-        | inl lt ↦ absurd (a.before t' b.train lt b.at o' b.least.on)
-        | inr ge ↦ omega (arith, le, ge)
-      ]
-    ]
-
-    same-train : a.train ≡ b.train
-    same-train = same_Some a.train b.train (sym a.at ∙ subst (λ k. slice_get trains k ≡ Some b.train) (sym same-t) b.at)
-
-    same-o : o ≡ o'
-    same-o = elim (cases_lt o o') [
-      | inl lt ↦ absurd (b.least.least o lt (subst (λ l. IsOnCycle l o) same-train a.least.on))
-      | inr le ↦ elim (cases_lt o' o) [
-        | inl lt ↦ absurd (a.least.least o' lt (subst (λ l. IsOnCycle l o') (sym same-train) b.least.on))
-        | inr ge ↦ omega (arith, le, ge)
-      ]
-    ]
-
-loop_is_cycle : (trains : List (List Operation)) (t o : ℕ) → IsFirstLoop trains t o → All HasNoCycle trains → ⊥
-loop_is_cycle trains t o loop none = at_all HasNoCycle trains t loop.train (recursion_from_All HasNoCycle trains none) loop.at o loop.least.on
 
 same_cheap : (trains : List (List Operation)) (components : List Component) (a b : Option ProblemNo) → Cheap trains components a → Cheap trains components b → a ≡ b
 same_cheap trains components a b (inl (x, p)) (inl (y, q)) = p ∙ sym q

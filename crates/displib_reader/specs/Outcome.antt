@@ -1,5 +1,5 @@
 -- What `read_problem` answers, beside the bytes.
-use Rattle.std.specs.Prelude.{◌≡◌, ◌≤◌, ◌<◌, ℕ, List, All, sum_by, Option, Some, None, codes, Result, Ok, Err}
+use Rattle.std.specs.Prelude.{◌≡◌, ◌≤◌, ◌<◌, ℕ, List, Option, Some, None, codes, Result, Ok, Err}
 use Rattle.serde_json.specs.Data.{Data}
 use Rattle.displib_reader.specs.declared.place.Place.{Place}
 use Rattle.displib_reader.specs.declared.fault.ProblemNo.{ProblemNo}
@@ -9,7 +9,6 @@ use Rattle.json_claims.specs.declared.rule.Rule.TheVariants as rule
 use Rattle.disp_model.specs.declared.problem.Problem.{Problem}
 use Rattle.disp_model.specs.declared.train.Operation.{Operation}
 use Rattle.disp_model.specs.declared.train.Component.{Component}
-use Rattle.disp_model.specs.WellFormed.{most_of, horizon}
 use Rattle.disp_model.specs.declared.limits.TheConstants.{GREATEST_COST}
 use Rattle.json_claims.specs.Json.{IsJson, IsNoJson}
 use Rattle.json_claims.specs.Field.{members_at}
@@ -17,7 +16,8 @@ use Rattle.json_claims.specs.Claims.{first_broken, ArePlain}
 use Rattle.json_claims.specs.Refusals.{BreaksFirst}
 use Rattle.displib_reader.specs.Claims.{problem_claims}
 use Rattle.displib_reader.specs.Counts.{too_many}
-use Rattle.displib_reader.specs.Graphs.{entry_count, exit_count, first_not_one, HasNoCycle, IsFirstLoop}
+use Rattle.train_graphs.specs.Graphs.{entry_count, exit_count, first_not_one, IsFirstLoop, HaveGraphs}
+use Rattle.train_graphs.specs.Costs.{greatest_sum}
 use Rattle.displib_reader.specs.Types.{first_unknown}
 use Rattle.displib_reader.specs.ProblemOf.{trains_of, components_of, IsProblemOf}
 
@@ -42,20 +42,10 @@ pub record HasTrains (d : Data) (trains : List (List Operation)) : Type 0 where
   pub linked : IsLinked d
   pub trains_are : trains_of d ≡ Some trains
 
--- each train has one entry, one exit and no cycle
-pub record HaveGraphs (trains : List (List Operation)) : Type 0 where
-  pub entries : first_not_one entry_count 0 trains ≡ None
-  pub exits : first_not_one exit_count 0 trains ≡ None
-  pub no_cycle : All HasNoCycle trains
-
 -- each component is of the one type that there is, and these are the value's components
 pub record HasComponents (d : Data) (components : List Component) : Type 0 where
   pub types : first_unknown 0 (members_at (codes "objective") d) ≡ None
   pub components_are : components_of d ≡ Some components
-
--- what the components cost at most, at the horizon
-abbrev pub greatest_sum : List (List Operation) → List Component → ℕ
-greatest_sum trains components = sum_by (most_of (horizon trains)) components
 
 -- no rule is broken
 pub record KeepsRules (d : Data) (trains : List (List Operation)) (components : List Component) : Type 0 where

@@ -5,20 +5,16 @@
 // is printed for it.
 #![tactic(auto)]
 
-mod check;
 mod claims;
 mod component;
 mod counts;
-mod cycle;
 mod fault;
-mod graph;
 mod laws;
 mod names;
 mod objective;
 mod operation;
 mod place;
 mod problem;
-mod ranks;
 mod train;
 mod why;
 

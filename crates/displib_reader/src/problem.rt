@@ -2,12 +2,11 @@ ghost use Rattle.std.specs.Prelude.{◌≡◌, ◌≤◌, All, IfOk, IfErr, OnOk
 ghost use Rattle.serde_json.specs.View.{view};
 ghost use Rattle.json_claims.specs.Json.{IsJson};
 ghost use Rattle.displib_reader.specs.ProblemOf.{names_in};
-ghost use Rattle.displib_reader.specs.Graphs.{AreInside};
+ghost use Rattle.train_graphs.specs.Graphs.{AreInside, HaveGraphs};
 ghost use Rattle.json_claims.specs.Field.{members_at};
 ghost use Rattle.displib_reader.specs.Types.{first_unknown};
-ghost use Rattle.displib_reader.specs.Outcome.{IsReadAs, IsRefused, IsPlain, IsLinked, HasTrains, HaveGraphs, BreaksGraphs, FindsComponents, HasComponents, Breaks, Answers};
+ghost use Rattle.displib_reader.specs.Outcome.{IsReadAs, IsRefused, IsPlain, IsLinked, HasTrains, BreaksGraphs, FindsComponents, HasComponents, Breaks, Answers};
 
-use crate::check::{first_loop, first_not_entered, first_not_left, greatest_sum};
 use crate::component::{first_unknown, read_components};
 use crate::counts::too_many;
 use crate::fault::ProblemNo;
@@ -20,6 +19,7 @@ use disp_model::{
 use json_claims::{Rule, Unread, members_at, read_json};
 use serde_json::Value;
 use std::alloc::Global;
+use train_graphs::{first_loop, first_not_entered, first_not_left, greatest_sum};
 
 /// The value of JSON bytes.
 fn value_of(alloc: Global, bytes: &[u8]) -> Result<Value, ProblemNo>
