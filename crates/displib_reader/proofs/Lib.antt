@@ -1,3 +1,4 @@
+pub mod Answered
 pub mod Components
 pub mod Distinct
 pub mod Once

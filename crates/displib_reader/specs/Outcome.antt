@@ -1,5 +1,5 @@
 -- What `read_problem` answers, beside the bytes.
-use Rattle.std.specs.Prelude.{◌≡◌, ◌≤◌, ◌<◌, ℕ, List, Option, Some, None, codes, Result, Ok, Err}
+use Rattle.std.specs.Prelude.{◌≡◌, ◌≢◌, ◌⊎◌, ◌≤◌, ◌<◌, ℕ, List, Option, Some, None, codes, Result, Ok, Err}
 use Rattle.serde_json.specs.Data.{Data}
 use Rattle.displib_reader.specs.declared.place.Place.{Place}
 use Rattle.displib_reader.specs.declared.fault.ProblemNo.{ProblemNo}
@@ -130,6 +130,10 @@ IsRefused bytes (Loop t o) = BreaksFirst Breaks bytes (Loop t o)
 IsRefused bytes (UnknownObjective c) = BreaksFirst Breaks bytes (UnknownObjective c)
 IsRefused bytes (TooCostly sum) = BreaksFirst Breaks bytes (TooCostly sum)
 IsRefused bytes Memory = Unit {0}
+
+-- a problem is read of the text, or it is refused for another cause than want of memory
+abbrev pub HasAnswer : List ℕ → Type 0
+HasAnswer bytes = ((problem : Problem) × IsReadAs bytes problem) ⊎ ((why : ProblemNo) × IsRefused bytes why × (why ≢ Memory))
 
 -- ---- for private clauses
 

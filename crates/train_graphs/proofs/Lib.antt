@@ -2,3 +2,4 @@ pub mod Marks
 pub mod Reached
 pub mod FirstLoops
 pub mod Acyclic
+pub mod Decided
