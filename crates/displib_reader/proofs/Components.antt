@@ -12,13 +12,14 @@ use Rattle.disp_model.specs.declared.limits.TheConstants.{GREATEST_NUMBER, MOST_
 use Rattle.disp_model.specs.WellFormed.{IsComponent}
 use Rattle.displib_reader.specs.declared.place.Place.TheVariants as place
 use Rattle.displib_reader.specs.declared.place.ComponentKey.TheVariants as key
-use Rattle.displib_reader.specs.Field.{field, text_at, number_at, number_or, members_in, members_at, array_at, each}
+use Rattle.json_claims.specs.Field.{field, text_at, number_at, number_or, members_in, members_at, array_at, each}
 use Rattle.displib_reader.specs.ProblemOf.{is_delay, component_of, components_of, train_of, trains_of, names_in}
-use Rattle.displib_reader.specs.Claims.{claims_from, component_claims, train_claims, count_at, whole_in}
+use Rattle.json_claims.specs.Claims.{claims_from, whole_in}
+use Rattle.displib_reader.specs.Claims.{component_claims, train_claims, count_at}
 use Rattle.displib_reader.specs.Types.{is_known, first_unknown}
 use Rattle.displib_reader.specs.Outcome.{IsLinked, HasComponents}
-use Rattle.displib_reader.proofs.Kept.{AreKept, kept_head, kept_both, default_there, index_there, text_there, needed_list_there, each_kept}
-use Rattle.displib_reader.proofs.Numbers.{default_fits}
+use Rattle.json_claims.proofs.Kept.{AreKept, kept_head, kept_both, default_there, index_there, text_there, needed_list_there, each_kept}
+use Rattle.json_claims.proofs.Numbers.{default_fits}
 use Rattle.displib_reader.proofs.Trains.{all_weaker, each_at, each_length, train_length, trains_each, kept_problem, has_few}
 
 -- a component's costs are within the limit, and it names an operation of a train of the value
@@ -29,8 +30,8 @@ pub record IsGoodComponent (trains : List Data) (c : Component) : Type 0 where
   pub train : c.train < length trains
   pub operation : c.operation < count_at trains (Some c.train)
 
-component_made : (d : Data) (kind : List ℕ) (train operation threshold increment coeff : ℕ) → text_at (codes "type") d ≡ Some kind → number_at (codes "train") d ≡ Some train → number_at (codes "operation") d ≡ Some operation
-    → number_or (codes "threshold") 0 d ≡ Some threshold → number_or (codes "increment") 0 d ≡ Some increment → number_or (codes "coeff") 0 d ≡ Some coeff → is_delay kind ≡ true
+component_made : (d : Data) (kind : List ℕ) (train operation threshold increment coeff : ℕ) → text_at (codes "type") d ≡ Some kind → number_at (codes "train") GREATEST_NUMBER d ≡ Some train → number_at (codes "operation") GREATEST_NUMBER d ≡ Some operation
+    → number_or (codes "threshold") GREATEST_NUMBER 0 d ≡ Some threshold → number_or (codes "increment") GREATEST_NUMBER 0 d ≡ Some increment → number_or (codes "coeff") GREATEST_NUMBER 0 d ≡ Some coeff → is_delay kind ≡ true
     → component_of d ≡ Some (record { train = train; operation = operation; threshold = threshold; increment = increment; coeff = coeff })
 unfolding component_of
 component_made d kind train operation threshold increment coeff kind-is train-is operation-is threshold-is increment-is coeff-is known =
@@ -49,18 +50,18 @@ read_component trains c d known kept =
     let k5 = kept_head _ _ k4.1 in
     let k6 = kept_head _ _ k5.1 in
     let k7 = kept_head _ _ k6.1 in
-    let kind = text_there (place.ComponentKey c key.Kind) (field (codes "type") d) k2.0 in
-    let train = index_there (place.ComponentKey c key.Train) (length trains) (field (codes "train") d) k3.0 in
-    let operation = index_there (place.ComponentKey c key.Operation) (count_at trains (whole_in (field (codes "train") d))) (field (codes "operation") d) k4.0 in
-    let threshold = default_there (place.ComponentKey c key.Threshold) (field (codes "threshold") d) k5.0 in
-    let increment = default_there (place.ComponentKey c key.Increment) (field (codes "increment") d) k6.0 in
-    let coeff = default_there (place.ComponentKey c key.Coeff) (field (codes "coeff") d) k7.0 in (
+    let kind = text_there (place.ComponentKey c key.Kind) (field (codes "type") d) k2.0.plain in
+    let train = index_there (place.ComponentKey c key.Train) (length trains) GREATEST_NUMBER (field (codes "train") d) k3.0 in
+    let operation = index_there (place.ComponentKey c key.Operation) (count_at trains (whole_in (field (codes "train") d))) GREATEST_NUMBER (field (codes "operation") d) k4.0 in
+    let threshold = default_there (place.ComponentKey c key.Threshold) GREATEST_NUMBER (field (codes "threshold") d) k5.0.plain in
+    let increment = default_there (place.ComponentKey c key.Increment) GREATEST_NUMBER (field (codes "increment") d) k6.0.plain in
+    let coeff = default_there (place.ComponentKey c key.Coeff) GREATEST_NUMBER (field (codes "coeff") d) k7.0.plain in (
       record { train = train.0; operation = operation.0; threshold = threshold.0; increment = increment.0; coeff = coeff.0 },
       component_made d kind.0 train.0 operation.0 threshold.0 increment.0 coeff.0 kind.1 train.1 operation.1 threshold.1 increment.1 coeff.1 (known_kind (text_at (codes "type") d) kind.0 kind.1 known),
       record {
-        threshold = default_fits (field (codes "threshold") d) threshold.0 threshold.1;
-        increment = default_fits (field (codes "increment") d) increment.0 increment.1;
-        coeff = default_fits (field (codes "coeff") d) coeff.0 coeff.1;
+        threshold = default_fits GREATEST_NUMBER (field (codes "threshold") d) threshold.0 threshold.1;
+        increment = default_fits GREATEST_NUMBER (field (codes "increment") d) increment.0 increment.1;
+        coeff = default_fits GREATEST_NUMBER (field (codes "coeff") d) coeff.0 coeff.1;
         train = train.3;
         operation = subst (λ t. operation.0 < count_at trains t) train.2 operation.3;
       },
@@ -87,7 +88,7 @@ read_components d linked types =
     let two = kept_head _ _ one.1 in
     let three = kept_both (claims_from train_claims 0 ts) _ two.1 in
     let four = kept_head _ _ three.1 in
-    let list = needed_list_there place.Objective (field (codes "objective") d) four.0 in
+    let list = needed_list_there place.Objective (field (codes "objective") d) four.0.plain in
     let read = each_kept (component_claims ts) component_of (λ c. is_known c ≡ true) (IsGoodComponent ts) (read_component ts) 0 ds (all_known 0 ds types) four.1 in (
       read.0,
       components_made d ds read.0 list read.1,

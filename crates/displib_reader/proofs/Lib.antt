@@ -1,16 +1,8 @@
+pub mod Answered
 pub mod Components
 pub mod Distinct
-pub mod Each
-pub mod Kept
-pub mod Marks
-pub mod Numbers
 pub mod Once
 pub mod OneAnswer
 pub mod Parts
-pub mod Reached
-pub mod Steps
 pub mod Trains
-pub mod Unreadable
-pub mod Values
-pub mod Verdicts
 pub mod Whole

@@ -14,13 +14,14 @@ use Rattle.disp_model.specs.declared.train.Operation.{Operation}
 use Rattle.disp_model.specs.declared.limits.TheConstants.{MOST_TRAINS, MOST_OPERATIONS, MOST_COMPONENTS}
 use Rattle.disp_model.specs.WellFormed.{operation_count}
 use Rattle.displib_reader.specs.declared.place.Place.TheVariants as place
-use Rattle.displib_reader.specs.Field.{field, values_of, members_in, members_at, text_at, array_at, each}
+use Rattle.json_claims.specs.Field.{field, values_of, members_in, members_at, text_at, array_at, each}
 use Rattle.displib_reader.specs.ProblemOf.{once, names_of_operation, names_of_train, names_in, operation_of, train_of, trains_with, trains_of}
-use Rattle.displib_reader.specs.Claims.{claims_from, operation_claims, train_claims, problem_claims}
+use Rattle.json_claims.specs.Claims.{claims_from}
+use Rattle.displib_reader.specs.Claims.{operation_claims, train_claims, problem_claims}
 use Rattle.displib_reader.specs.Counts.{too_many, trains_given, operations_given, components_given}
 use Rattle.displib_reader.specs.Outcome.{IsLinked}
-use Rattle.displib_reader.proofs.Steps.{bind_some, each_some}
-use Rattle.displib_reader.proofs.Kept.{AreKept, kept_head, kept_both, needed_list_there, each_kept}
+use Rattle.json_claims.proofs.Steps.{bind_some, each_some}
+use Rattle.json_claims.proofs.Kept.{AreKept, kept_head, kept_both, needed_list_there, each_kept}
 use Rattle.displib_reader.proofs.Distinct.{once_any}
 use Rattle.displib_reader.proofs.Parts.{IsNamed, AreNamed, IsGoodOperation, read_operation}
 
@@ -110,13 +111,13 @@ unfolding train_claims
 read_train names t d named kept =
     let one = kept_head _ _ kept in
     let ds = members_in (Some d) in
-    let list = needed_list_there (place.Train t) (Some d) one.0 in
+    let list = needed_list_there (place.Train t) (Some d) one.0.plain in
     let ops = each_kept (operation_claims (length ds) t) (operation_of names) (AreNamed names) (IsGoodOperation (length ds) (length names)) (read_operation names (length ds) t) 0 ds named one.1 in
     let long : length ops.0 ≡ length ds = each_length (operation_of names) ds ops.0 ops.1 in
     (ops.0, train_made names d ds ops.0 list ops.1, subst (λ n. AllByRecursion (IsGoodOperation n (length names)) ops.0) (sym long) ops.2)
 
 pub kept_problem : (d : Data) → IsLinked d → AreKept (problem_claims d)
-kept_problem d linked = record { shape = linked.plain.shape; whole = linked.plain.whole; limit = linked.plain.limit; index = linked.index }
+kept_problem d linked = record { plain = linked.plain; index = linked.index }
 
 trains_made : (names : List (List ℕ)) (d : Data) (ds : List Data) (trains : List (List Operation)) → array_at (codes "trains") d ≡ Some ds → each (train_of names) ds ≡ Some trains → trains_with names d ≡ Some trains
 trains_made names d ds trains list read = rw list read
@@ -127,7 +128,7 @@ read_trains d linked =
     let one = kept_head _ _ (kept_problem d linked) in
     let two = kept_head _ _ one.1 in
     let three = kept_both (claims_from train_claims 0 (members_at (codes "trains") d)) _ two.1 in
-    let list = needed_list_there place.Trains (field (codes "trains") d) two.0 in
+    let list = needed_list_there place.Trains (field (codes "trains") d) two.0.plain in
     let read = each_kept train_claims (train_of (names_in d)) (IsTrainNamed (names_in d)) (IsGoodTrain (length (names_in d))) (read_train (names_in d)) 0 (members_at (codes "trains") d) (trains_named d) three.0 in
     (read.0, trains_made (names_in d) d (members_at (codes "trains") d) read.0 list read.1, read.2)
 
@@ -136,7 +137,7 @@ pub trains_each : (d : Data) → IsLinked d → (trains : List (List Operation))
 trains_each d linked trains is =
     let one = kept_head _ _ (kept_problem d linked) in
     let two = kept_head _ _ one.1 in
-    let list = needed_list_there place.Trains (field (codes "trains") d) two.0 in
+    let list = needed_list_there place.Trains (field (codes "trains") d) two.0.plain in
     sym (rw list refl) ∙ is
 
 pub good_trains : (d : Data) → IsLinked d → (trains : List (List Operation)) → trains_of d ≡ Some trains → AllByRecursion (IsGoodTrain (length (names_in d))) trains

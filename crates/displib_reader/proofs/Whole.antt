@@ -1,23 +1,22 @@
 -- A problem that breaks no rule is well formed.
-use Rattle.std.proofs.Common.{◌≡◌, ◌≢◌, ℕ, ◌+◌, ◌<◌, ◌≤◌, List, [], ◌∷◌, length, Option, Some, None, Bool, true, false, cond, refl, ap, subst}
-use Rattle.std.specs.Prelude.{All, codes, slice_get, ◌==◌}
+use Rattle.std.proofs.Common.{◌≡◌, ◌≢◌, ℕ, ◌<◌, ◌≤◌, List, length, Some, ap, subst}
+use Rattle.std.specs.Prelude.{All, codes, slice_get}
 use Rattle.std.specs.List.{AllByRecursion}
 use Rattle.std.specs.Str.{bytes_eq}
 use Rattle.std.specs.Cmp.Lexicographic.{nat_list_eq_equiv}
-use Rattle.std.proofs.lemmas.Bool.{eqb-true}
-use Rattle.std.proofs.lemmas.List.Elements.{All-from_recursion, recursion_from_All}
+use Rattle.std.proofs.lemmas.List.Elements.{All-from_recursion}
 use Rattle.serde_json.specs.Data.{Data}
 use Rattle.disp_model.specs.declared.train.Operation.{Operation}
 use Rattle.disp_model.specs.declared.train.Component.{Component}
 use Rattle.disp_model.specs.declared.limits.TheConstants.{MOST_OPERATIONS}
-use Rattle.disp_model.specs.WellFormed.{HasFitNumbers, RefersInside, IsAcyclic, IsWellFormed}
-use Rattle.displib_reader.specs.Field.{members_at}
+use Rattle.disp_model.specs.WellFormed.{HasFitNumbers, RefersInside, IsWellFormed}
+use Rattle.json_claims.specs.Field.{members_at}
 use Rattle.displib_reader.specs.ProblemOf.{names_of_train, names_in, trains_of}
-use Rattle.displib_reader.specs.Graphs.{entry_count, exit_count, first_not_one, HasNoCycle, AreInside}
-use Rattle.displib_reader.specs.Outcome.{IsLinked, HaveGraphs, KeepsRules}
+use Rattle.train_graphs.specs.Graphs.{AreInside}
+use Rattle.train_graphs.proofs.Acyclic.{all_acyclic}
+use Rattle.displib_reader.specs.Outcome.{IsLinked, KeepsRules}
 use Rattle.std.specs.List.{flat_map}
 use Rattle.displib_reader.proofs.Distinct.{distinct_places, once_distinct}
-use Rattle.displib_reader.proofs.Marks.{one_entry, one_exit, entered}
 use Rattle.displib_reader.proofs.Parts.{IsGoodOperation}
 use Rattle.displib_reader.proofs.Trains.{IsGoodTrain, all_weaker, good_trains, few_trains, few_operations, short_trains}
 use Rattle.displib_reader.proofs.Components.{good_components, components_named}
@@ -38,25 +37,6 @@ all_inside d linked trains is =
 
 pub all_short : (d : Data) → IsLinked d → (trains : List (List Operation)) → trains_of d ≡ Some trains → All (λ train. length train ≤ MOST_OPERATIONS) trains
 all_short d linked trains is = All-from_recursion (λ train. length train ≤ MOST_OPERATIONS) trains (short_trains d linked trains is)
-
-one_by : (b : Bool) (x : ℕ × ℕ) (rest : Option (ℕ × ℕ)) → cond b rest (Some x) ≡ None → (b ≡ true) × (rest ≡ None)
-one_by true x rest e = (refl, e)
-one_by false x rest e = absurd cc
-
-all_one : (count : List Operation → ℕ) (t : ℕ) (trains : List (List Operation)) → first_not_one count t trains ≡ None → AllByRecursion (λ train. count train ≡ 1) trains
-all_one count t [] e = tt
-all_one count t (train ∷ trains) e = let p = one_by (count train == 1) (t, count train) (first_not_one count (t + 1) trains) e in (eqb-true (count train) 1 p.0, all_one count (t + 1) trains p.1)
-
-acyclic : (trains : List (List Operation)) → AllByRecursion (λ train. entry_count train ≡ 1) trains → AllByRecursion (λ train. exit_count train ≡ 1) trains → AllByRecursion HasNoCycle trains → AllByRecursion IsAcyclic trains
-acyclic [] entries exits cycles = tt
-acyclic (train ∷ trains) entries exits cycles = (
-  record { entered = entered train entries.0; one_entry = one_entry train entries.0; one_exit = one_exit train exits.0; no_cycle = λ n o h. cycles.0 o (n, h) },
-  acyclic trains entries.1 exits.1 cycles.1,
-)
-
-all_acyclic : (trains : List (List Operation)) → HaveGraphs trains → All IsAcyclic trains
-all_acyclic trains graphs =
-    All-from_recursion IsAcyclic trains (acyclic trains (all_one entry_count 0 trains graphs.entries) (all_one exit_count 0 trains graphs.exits) (recursion_from_All HasNoCycle trains graphs.no_cycle))
 
 pub well_formed : (d : Data) (trains : List (List Operation)) (components : List Component) (names : List (List ℕ)) → KeepsRules d trains components → names_in d ≡ names → IsWellFormed trains components names
 well_formed d trains components names keeps names-are =

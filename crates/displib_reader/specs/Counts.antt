@@ -4,7 +4,7 @@ use Rattle.serde_json.specs.Data.{Data}
 use Rattle.disp_model.specs.declared.limits.TheConstants.{MOST_TRAINS, MOST_OPERATIONS, MOST_COMPONENTS}
 use Rattle.displib_reader.specs.declared.fault.Kind.{Kind}
 use Rattle.displib_reader.specs.declared.fault.Kind.TheVariants.{Trains, Operations, Components}
-use Rattle.displib_reader.specs.Field.{members_in, members_at}
+use Rattle.json_claims.specs.Field.{members_in, members_at}
 
 abbrev pub trains_given : Data → ℕ
 trains_given d = length (members_at (codes "trains") d)

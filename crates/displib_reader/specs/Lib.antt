@@ -1,13 +1,7 @@
-pub mod Field
 pub mod ProblemOf
-pub mod Gives
-pub mod Json
 pub mod Claims
 pub mod Counts
-pub mod Graphs
 pub mod Types
 pub mod Outcome
 pub mod Why
 pub mod Names
-pub mod Reach
-pub mod Ranks

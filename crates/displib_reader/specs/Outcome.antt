@@ -1,21 +1,23 @@
 -- What `read_problem` answers, beside the bytes.
-use Rattle.std.specs.Prelude.{◌≡◌, ◌≤◌, ◌<◌, ℕ, List, All, sum_by, Option, Some, None, codes, Result, Ok, Err}
+use Rattle.std.specs.Prelude.{◌≡◌, ◌≢◌, ◌⊎◌, ◌≤◌, ◌<◌, ℕ, List, Option, Some, None, codes, Result, Ok, Err}
 use Rattle.serde_json.specs.Data.{Data}
 use Rattle.displib_reader.specs.declared.place.Place.{Place}
 use Rattle.displib_reader.specs.declared.fault.ProblemNo.{ProblemNo}
 use Rattle.displib_reader.specs.declared.fault.ProblemNo.TheVariants.{NotJson, Shape, NotWhole, TooLarge, TooMany, BadIndex, NotOneEntry, NotOneExit, Loop, UnknownObjective, TooCostly, Memory}
-use Rattle.displib_reader.specs.declared.rule.Rule.{Rule}
-use Rattle.displib_reader.specs.declared.rule.Rule.TheVariants as rule
+use Rattle.json_claims.specs.declared.rule.Rule.{Rule}
+use Rattle.json_claims.specs.declared.rule.Rule.TheVariants as rule
 use Rattle.disp_model.specs.declared.problem.Problem.{Problem}
 use Rattle.disp_model.specs.declared.train.Operation.{Operation}
 use Rattle.disp_model.specs.declared.train.Component.{Component}
-use Rattle.disp_model.specs.WellFormed.{most_of, horizon}
 use Rattle.disp_model.specs.declared.limits.TheConstants.{GREATEST_COST}
-use Rattle.displib_reader.specs.Json.{IsJson}
-use Rattle.displib_reader.specs.Field.{members_at}
-use Rattle.displib_reader.specs.Claims.{problem_claims, first_broken}
+use Rattle.json_claims.specs.Json.{IsJson, IsNoJson}
+use Rattle.json_claims.specs.Field.{members_at}
+use Rattle.json_claims.specs.Claims.{first_broken, ArePlain}
+use Rattle.json_claims.specs.Refusals.{BreaksFirst}
+use Rattle.displib_reader.specs.Claims.{problem_claims}
 use Rattle.displib_reader.specs.Counts.{too_many}
-use Rattle.displib_reader.specs.Graphs.{entry_count, exit_count, first_not_one, HasNoCycle, IsFirstLoop}
+use Rattle.train_graphs.specs.Graphs.{entry_count, exit_count, first_not_one, IsFirstLoop, HaveGraphs}
+use Rattle.train_graphs.specs.Costs.{greatest_sum}
 use Rattle.displib_reader.specs.Types.{first_unknown}
 use Rattle.displib_reader.specs.ProblemOf.{trains_of, components_of, IsProblemOf}
 
@@ -26,10 +28,8 @@ abbrev pub broken_at : Rule → Data → Option Place
 broken_at rule d = first_broken rule (problem_claims d)
 
 -- each value is of its kind, needed ones are there, and numbers are whole and within the limit
-pub record IsPlain (d : Data) : Type 0 where
-  pub shape : broken_at rule.Shape d ≡ None
-  pub whole : broken_at rule.Whole d ≡ None
-  pub limit : broken_at rule.Limit d ≡ None
+abbrev pub IsPlain : Data → Type 0
+IsPlain d = ArePlain (problem_claims d)
 
 -- there are few enough trains, operations and components, and each index names something that is there
 pub record IsLinked (d : Data) : Type 0 where
@@ -42,20 +42,10 @@ pub record HasTrains (d : Data) (trains : List (List Operation)) : Type 0 where
   pub linked : IsLinked d
   pub trains_are : trains_of d ≡ Some trains
 
--- each train has one entry, one exit and no cycle
-pub record HaveGraphs (trains : List (List Operation)) : Type 0 where
-  pub entries : first_not_one entry_count 0 trains ≡ None
-  pub exits : first_not_one exit_count 0 trains ≡ None
-  pub no_cycle : All HasNoCycle trains
-
 -- each component is of the one type that there is, and these are the value's components
 pub record HasComponents (d : Data) (components : List Component) : Type 0 where
   pub types : first_unknown 0 (members_at (codes "objective") d) ≡ None
   pub components_are : components_of d ≡ Some components
-
--- what the components cost at most, at the horizon
-abbrev pub greatest_sum : List (List Operation) → List Component → ℕ
-greatest_sum trains components = sum_by (most_of (horizon trains)) components
 
 -- no rule is broken
 pub record KeepsRules (d : Data) (trains : List (List Operation)) (components : List Component) : Type 0 where
@@ -72,10 +62,6 @@ pub record IsReadAs (bytes : List ℕ) (problem : Problem) : Type 0 where
   pub json : IsJson bytes value
   pub keeps : KeepsRules value problem.trains problem.components
   pub problem_is : IsProblemOf value problem
-
--- the bytes are not UTF-8, or serde_json refuses them
-abbrev pub IsNoJson : List ℕ → Type 0
-IsNoJson bytes = (d : Data) → IsJson bytes d → ⊥
 
 -- the trains break a rule on their graphs first: all are judged for entries before any is for exits
 abbrev pub BreaksGraphs : List (List Operation) → ProblemNo → Type 0
@@ -130,26 +116,24 @@ Breaks d (UnknownObjective c) = HasUnknown d c
 Breaks d (TooCostly sum) = CostsTooMuch d sum
 Breaks d Memory = Unit {0}
 
--- the bytes are JSON, and their value breaks the rule of the refusal and none before it
-pub record BreaksFirst (bytes : List ℕ) (why : ProblemNo) : Type 0 where
-  pub value : Data
-  pub json : IsJson bytes value
-  pub breaks : Breaks value why
-
 -- why there is no problem of the bytes; want of memory may come whatever they are
 abbrev pub IsRefused : List ℕ → ProblemNo → Type 0
 IsRefused bytes NotJson = IsNoJson bytes
-IsRefused bytes (Shape place) = BreaksFirst bytes (Shape place)
-IsRefused bytes (NotWhole place) = BreaksFirst bytes (NotWhole place)
-IsRefused bytes (TooLarge place) = BreaksFirst bytes (TooLarge place)
-IsRefused bytes (TooMany kind count) = BreaksFirst bytes (TooMany kind count)
-IsRefused bytes (BadIndex place) = BreaksFirst bytes (BadIndex place)
-IsRefused bytes (NotOneEntry t count) = BreaksFirst bytes (NotOneEntry t count)
-IsRefused bytes (NotOneExit t count) = BreaksFirst bytes (NotOneExit t count)
-IsRefused bytes (Loop t o) = BreaksFirst bytes (Loop t o)
-IsRefused bytes (UnknownObjective c) = BreaksFirst bytes (UnknownObjective c)
-IsRefused bytes (TooCostly sum) = BreaksFirst bytes (TooCostly sum)
+IsRefused bytes (Shape place) = BreaksFirst Breaks bytes (Shape place)
+IsRefused bytes (NotWhole place) = BreaksFirst Breaks bytes (NotWhole place)
+IsRefused bytes (TooLarge place) = BreaksFirst Breaks bytes (TooLarge place)
+IsRefused bytes (TooMany kind count) = BreaksFirst Breaks bytes (TooMany kind count)
+IsRefused bytes (BadIndex place) = BreaksFirst Breaks bytes (BadIndex place)
+IsRefused bytes (NotOneEntry t count) = BreaksFirst Breaks bytes (NotOneEntry t count)
+IsRefused bytes (NotOneExit t count) = BreaksFirst Breaks bytes (NotOneExit t count)
+IsRefused bytes (Loop t o) = BreaksFirst Breaks bytes (Loop t o)
+IsRefused bytes (UnknownObjective c) = BreaksFirst Breaks bytes (UnknownObjective c)
+IsRefused bytes (TooCostly sum) = BreaksFirst Breaks bytes (TooCostly sum)
 IsRefused bytes Memory = Unit {0}
+
+-- a problem is read of the text, or it is refused for another cause than want of memory
+abbrev pub HasAnswer : List ℕ → Type 0
+HasAnswer bytes = ((problem : Problem) × IsReadAs bytes problem) ⊎ ((why : ProblemNo) × IsRefused bytes why × (why ≢ Memory))
 
 -- ---- for private clauses
 

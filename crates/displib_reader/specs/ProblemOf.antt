@@ -4,11 +4,12 @@ use Rattle.std.specs.List.{flat_map, filter_map, position_or_len}
 use Rattle.std.specs.Str.{bytes_eq}
 use Rattle.serde_json.specs.Data.{Data}
 use Rattle.serde_json.specs.Find.{as_array, as_object}
+use Rattle.disp_model.specs.declared.limits.TheConstants.{GREATEST_NUMBER}
 use Rattle.disp_model.specs.declared.train.Listing.{Listing}
 use Rattle.disp_model.specs.declared.train.Operation.{Operation}
 use Rattle.disp_model.specs.declared.train.Component.{Component}
 use Rattle.disp_model.specs.declared.problem.Problem.{Problem}
-use Rattle.displib_reader.specs.Field.{◌>>=◌, number_at, number_or, optional_number, whole_of, values_of, members_in, members_at, array_at, array_or_empty, text_at, each}
+use Rattle.json_claims.specs.Field.{◌>>=◌, number_at, number_or, optional_number, whole_of, values_of, members_in, members_at, array_at, array_or_empty, text_at, each}
 
 -- each member once, where it first stands
 abbrev pub once : {A : Type 0} → (A → A → Bool) → List A → List A
@@ -30,20 +31,20 @@ names_in d = once bytes_eq (flat_map names_of_train (members_at (codes "trains")
 abbrev pub listing_of : List (List ℕ) → Data → Option Listing
 listing_of names d = do
   name ← text_at (codes "resource") d
-  release ← number_or (codes "release_time") 0 d
+  release ← number_or (codes "release_time") GREATEST_NUMBER 0 d
   Some (record { resource = position_or_len (bytes_eq name) names; release = release })
 
 -- an operation; a successor that is named twice counts once
 unfoldable pub operation_of : List (List ℕ) → Data → Option Operation
 operation_of names d = do
   members ← as_object d
-  lower ← number_or (codes "start_lb") 0 d
-  upper ← optional_number (codes "start_ub") d
-  min ← number_or (codes "min_duration") 0 d
+  lower ← number_or (codes "start_lb") GREATEST_NUMBER 0 d
+  upper ← optional_number (codes "start_ub") GREATEST_NUMBER d
+  min ← number_or (codes "min_duration") GREATEST_NUMBER 0 d
   resources ← array_or_empty (codes "resources") d
   listings ← each (listing_of names) resources
   successors ← array_or_empty (codes "successors") d
-  next ← each whole_of successors
+  next ← each (whole_of GREATEST_NUMBER) successors
   Some (record { lower = lower; upper = upper; min = min; listings = listings; next = once nat_eq next })
 
 abbrev pub train_of : List (List ℕ) → Data → Option (List Operation)
@@ -56,11 +57,11 @@ is_delay kind = bytes_eq kind (codes "op_delay")
 unfoldable pub component_of : Data → Option Component
 component_of d = do
   kind ← text_at (codes "type") d
-  train ← number_at (codes "train") d
-  operation ← number_at (codes "operation") d
-  threshold ← number_or (codes "threshold") 0 d
-  increment ← number_or (codes "increment") 0 d
-  coeff ← number_or (codes "coeff") 0 d
+  train ← number_at (codes "train") GREATEST_NUMBER d
+  operation ← number_at (codes "operation") GREATEST_NUMBER d
+  threshold ← number_or (codes "threshold") GREATEST_NUMBER 0 d
+  increment ← number_or (codes "increment") GREATEST_NUMBER 0 d
+  coeff ← number_or (codes "coeff") GREATEST_NUMBER 0 d
   if is_delay kind then Some (record { train = train; operation = operation; threshold = threshold; increment = increment; coeff = coeff }) else None
 
 -- the trains, where the resources have these names

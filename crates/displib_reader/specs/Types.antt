@@ -2,7 +2,7 @@
 use Rattle.std.specs.Prelude.{ℕ, ◌+◌, List, [], ◌∷◌, Bool, false, Option, Some, None, codes, if◌then◌else◌}
 use Rattle.std.specs.Option.{option_map_or}
 use Rattle.serde_json.specs.Data.{Data}
-use Rattle.displib_reader.specs.Field.{text_at}
+use Rattle.json_claims.specs.Field.{text_at}
 use Rattle.displib_reader.specs.ProblemOf.{is_delay}
 
 -- the component is of the one type that there is

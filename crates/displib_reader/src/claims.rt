@@ -1,11 +1,11 @@
 ghost use Rattle.std.specs.Prelude.{◌≡◌, map, length};
 ghost use Rattle.serde_json.specs.View.{view};
-ghost use Rattle.displib_reader.specs.Claims.{verdict, claims_from, listing_claims, successor_claims, operation_claims, train_claims};
+ghost use Rattle.json_claims.specs.Claims.{verdict, claims_from};
+ghost use Rattle.displib_reader.specs.Claims.{listing_claims, successor_claims, operation_claims, train_claims};
 
-use crate::field::{field, members, members_at};
-use crate::judge::{allow, need};
 use crate::place::{ListingKey, OperationKey, Place};
-use crate::rule::{Rule, Want};
+use disp_model::GREATEST_NUMBER;
+use json_claims::{Rule, Want, allow, field, members, members_at, need};
 use serde_json::Value;
 
 /// Tests a rule on a listing of an operation.
@@ -14,10 +14,11 @@ fn check_listing(rule: Rule, t: u64, o: u64, k: u64, value: &Value) -> Result<()
 {
     let resource = field(value, "resource");
     let release = field(value, "release_time");
+    let number = Want::Number(u64::from(GREATEST_NUMBER));
     let at = |key| Place::ListingKey(t, o, k, key);
     need(rule, Place::Listing(t, o, k), Want::Object, Some(value))?;
     need(rule, at(ListingKey::Resource), Want::Text, resource)?;
-    allow(rule, at(ListingKey::ReleaseTime), Want::Number, release)?;
+    allow(rule, at(ListingKey::ReleaseTime), number, release)?;
     Ok(())
 }
 
@@ -35,19 +36,17 @@ fn check_listings(rule: Rule, t: u64, o: u64, values: &[Value]) -> Result<(), Pl
 fn check_successors(rule: Rule, count: u64, t: u64, o: u64, values: &[Value]) -> Result<(), Place>
     ensures { result ≡ verdict rule (claims_from (successor_claims count t o) 0 (map view values.now)) }
 {
+    let limit = u64::from(GREATEST_NUMBER);
+    let successor = Want::Index { count, limit };
     for (k, value) in values.iter().enumerate() {
-        need(
-            rule,
-            Place::Successor(t, o, k as u64),
-            Want::Index(count),
-            Some(value),
-        )?;
+        let place = Place::Successor(t, o, k as u64);
+        need(rule, place, successor, Some(value))?;
     }
     Ok(())
 }
 
 /// Tests a rule on an operation of a train of so many.
-#[tactic(auto, using(crate::proofs::Verdicts::verdict_append), unfolding(crate::specs::Claims::operation_claims))]
+#[tactic(auto, using(json_claims::proofs::Verdicts::verdict_append), unfolding(crate::specs::Claims::operation_claims))]
 fn check_operation(rule: Rule, count: u64, t: u64, o: u64, value: &Value) -> Result<(), Place>
     ensures { result ≡ verdict rule (operation_claims count t o (view value.now)) }
 {
@@ -56,11 +55,12 @@ fn check_operation(rule: Rule, count: u64, t: u64, o: u64, value: &Value) -> Res
     let min = field(value, "min_duration");
     let resources = field(value, "resources");
     let successors = field(value, "successors");
+    let number = Want::Number(u64::from(GREATEST_NUMBER));
     let at = |key| Place::OperationKey(t, o, key);
     need(rule, Place::Operation(t, o), Want::Object, Some(value))?;
-    allow(rule, at(OperationKey::StartLb), Want::Number, lower)?;
-    allow(rule, at(OperationKey::StartUb), Want::Number, upper)?;
-    allow(rule, at(OperationKey::MinDuration), Want::Number, min)?;
+    allow(rule, at(OperationKey::StartLb), number, lower)?;
+    allow(rule, at(OperationKey::StartUb), number, upper)?;
+    allow(rule, at(OperationKey::MinDuration), number, min)?;
     allow(rule, at(OperationKey::Resources), Want::List, resources)?;
     check_listings(rule, t, o, members_at(value, "resources"))?;
     allow(rule, at(OperationKey::Successors), Want::List, successors)?;
@@ -69,7 +69,7 @@ fn check_operation(rule: Rule, count: u64, t: u64, o: u64, value: &Value) -> Res
 }
 
 /// Tests a rule on the operations of a train.
-#[tactic(auto, using(crate::proofs::Verdicts::verdict_append))]
+#[tactic(auto, using(json_claims::proofs::Verdicts::verdict_append))]
 fn check_operations(rule: Rule, t: u64, values: &[Value]) -> Result<(), Place>
     ensures { result ≡ verdict rule (claims_from (operation_claims (length values.now) t) 0 (map view values.now)) }
 {
@@ -90,7 +90,7 @@ fn check_train(rule: Rule, t: u64, value: &Value) -> Result<(), Place>
 }
 
 /// Tests a rule on the trains.
-#[tactic(auto, using(crate::proofs::Verdicts::verdict_append))]
+#[tactic(auto, using(json_claims::proofs::Verdicts::verdict_append))]
 pub(crate) fn check_trains(rule: Rule, values: &[Value]) -> Result<(), Place>
     ensures { result ≡ verdict rule (claims_from train_claims 0 (map view values.now)) }
 {

@@ -1,12 +1,11 @@
 ghost use Rattle.std.specs.Prelude.{◌≡◌, ◌<◌, map, IfSome, length};
 ghost use Rattle.serde_json.specs.View.{view};
-ghost use Rattle.displib_reader.specs.Gives.{Gives};
+ghost use Rattle.json_claims.specs.Gives.{Gives};
 ghost use Rattle.displib_reader.specs.ProblemOf.{component_of, components_of};
 ghost use Rattle.displib_reader.specs.Types.{is_known, first_unknown};
 
-use crate::field::{array_at, number_at, number_or, text_at};
-use crate::unread::Unread;
-use disp_model::{Component, List};
+use disp_model::{Component, GREATEST_NUMBER, List};
+use json_claims::{Unread, array_at, index_at, index_or, text_at};
 use serde_json::Value;
 use std::alloc::Global;
 
@@ -39,11 +38,11 @@ fn read_component(value: &Value) -> Result<Component, Unread>
     ensures { Gives result (component_of (view value.now)) }
 {
     let kind = text_at(value, "type").ok_or(Unread::Nothing)?;
-    let train = number_at(value, "train").ok_or(Unread::Nothing)?;
-    let operation = number_at(value, "operation").ok_or(Unread::Nothing)?;
-    let threshold = number_or(value, "threshold", 0).ok_or(Unread::Nothing)?;
-    let increment = number_or(value, "increment", 0).ok_or(Unread::Nothing)?;
-    let coeff = number_or(value, "coeff", 0).ok_or(Unread::Nothing)?;
+    let train = index_at(value, "train", GREATEST_NUMBER).ok_or(Unread::Nothing)?;
+    let operation = index_at(value, "operation", GREATEST_NUMBER).ok_or(Unread::Nothing)?;
+    let threshold = index_or(value, "threshold", GREATEST_NUMBER, 0).ok_or(Unread::Nothing)?;
+    let increment = index_or(value, "increment", GREATEST_NUMBER, 0).ok_or(Unread::Nothing)?;
+    let coeff = index_or(value, "coeff", GREATEST_NUMBER, 0).ok_or(Unread::Nothing)?;
     if kind != "op_delay" {
         return Err(Unread::Nothing);
     }

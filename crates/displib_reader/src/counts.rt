@@ -1,11 +1,11 @@
 ghost use Rattle.std.specs.Prelude.{◌≡◌, IfOk, map, sum_by, length, Some};
 ghost use Rattle.serde_json.specs.View.{view};
-ghost use Rattle.displib_reader.specs.Field.{members_in};
+ghost use Rattle.json_claims.specs.Field.{members_in};
 ghost use Rattle.displib_reader.specs.Counts.{too_many};
 
 use crate::fault::Kind;
-use crate::field::{members, members_at};
 use disp_model::{MOST_COMPONENTS, MOST_OPERATIONS, MOST_TRAINS, Memory};
+use json_claims::{members, members_at};
 use serde_json::Value;
 
 /// How many operations the trains have. More than 64 bits count are more than memory holds.

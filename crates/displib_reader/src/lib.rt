@@ -5,29 +5,21 @@
 // is printed for it.
 #![tactic(auto)]
 
-mod check;
 mod claims;
 mod component;
 mod counts;
-mod cycle;
 mod fault;
-mod field;
-mod graph;
-mod judge;
 mod laws;
 mod names;
 mod objective;
 mod operation;
 mod place;
 mod problem;
-mod ranks;
-mod rule;
 mod train;
-mod unread;
 mod why;
 
 pub use fault::{Kind, ProblemNo};
-pub use laws::answers_exclude_each_other;
+pub use laws::{answers_exclude_each_other, each_text_has_an_answer};
 pub use place::{ComponentKey, ListingKey, OperationKey, Place};
 pub use problem::read_problem;
 

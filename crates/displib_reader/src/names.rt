@@ -1,12 +1,12 @@
 ghost use Rattle.std.specs.Prelude.{◌≡◌, IfOk, OnOk, map, string_bytes, codes};
 ghost use Rattle.serde_json.specs.View.{view};
-ghost use Rattle.displib_reader.specs.Field.{text_at, members_at};
+ghost use Rattle.json_claims.specs.Field.{text_at, members_at};
 ghost use Rattle.displib_reader.specs.ProblemOf.{names_of_operation, names_of_train, names_in};
 ghost use Rattle.displib_reader.specs.Names.{with_name, with_found, with_names};
 
-use crate::field::{members, members_at, text_at};
 use disp_model::{List, Memory, Text};
 use indexmap::IndexSet;
+use json_claims::{members, members_at, text_at};
 use serde_json::Value;
 use std::alloc::Global;
 

@@ -1,13 +1,13 @@
 ghost use Rattle.std.specs.Prelude.{◌≡◌, map, None, option_map};
 ghost use Rattle.serde_json.specs.View.{view};
-ghost use Rattle.displib_reader.specs.Claims.{verdict, claims_from, cost_claims, component_claims, problem_claims, count_at, whole_in, IsFirst};
+ghost use Rattle.json_claims.specs.Claims.{verdict, claims_from, whole_in, IsFirst};
+ghost use Rattle.displib_reader.specs.Claims.{cost_claims, component_claims, problem_claims, count_at};
 ghost use Rattle.displib_reader.specs.Outcome.{broken_at};
 
 use crate::claims::check_trains;
-use crate::field::{field, members, members_at};
-use crate::judge::{allow, need};
 use crate::place::{ComponentKey, Place};
-use crate::rule::{Rule, Want};
+use disp_model::GREATEST_NUMBER;
+use json_claims::{Rule, Want, allow, field, members, members_at, need};
 use serde_json::Value;
 
 /// How many operations the train has whose number this is, none where there is no such train.
@@ -30,8 +30,15 @@ fn check_component(rule: Rule, trains: &[Value], c: u64, value: &Value) -> Resul
 {
     let train = field(value, "train");
     let operation = field(value, "operation");
-    let trains_there = Want::Index(trains.len() as u64);
-    let operations_there = Want::Index(count_at(trains, train));
+    let limit = u64::from(GREATEST_NUMBER);
+    let trains_there = Want::Index {
+        count: trains.len() as u64,
+        limit,
+    };
+    let operations_there = Want::Index {
+        count: count_at(trains, train),
+        limit,
+    };
     let at = |key| Place::ComponentKey(c, key);
     need(rule, Place::Component(c), Want::Object, Some(value))?;
     need(
@@ -58,15 +65,16 @@ fn check_costs(rule: Rule, c: u64, value: &Value) -> Result<(), Place>
     let threshold = field(value, "threshold");
     let increment = field(value, "increment");
     let coeff = field(value, "coeff");
+    let number = Want::Number(u64::from(GREATEST_NUMBER));
     let at = |key| Place::ComponentKey(c, key);
-    allow(rule, at(ComponentKey::Threshold), Want::Number, threshold)?;
-    allow(rule, at(ComponentKey::Increment), Want::Number, increment)?;
-    allow(rule, at(ComponentKey::Coeff), Want::Number, coeff)?;
+    allow(rule, at(ComponentKey::Threshold), number, threshold)?;
+    allow(rule, at(ComponentKey::Increment), number, increment)?;
+    allow(rule, at(ComponentKey::Coeff), number, coeff)?;
     Ok(())
 }
 
 /// Tests a rule on the components.
-#[tactic(auto, using(crate::proofs::Verdicts::verdict_append))]
+#[tactic(auto, using(json_claims::proofs::Verdicts::verdict_append))]
 fn check_components(rule: Rule, trains: &[Value], values: &[Value]) -> Result<(), Place>
     ensures { result ≡ verdict rule (claims_from (component_claims (map view trains.now)) 0 (map view values.now)) }
 {
@@ -84,7 +92,7 @@ pub(crate) fn check(rule: Rule, value: &Value) -> Result<(), Place>
 }
 
 /// Tests a rule on a problem.
-#[tactic(auto, using(crate::proofs::Verdicts::verdict_append))]
+#[tactic(auto, using(json_claims::proofs::Verdicts::verdict_append))]
 fn check_problem(rule: Rule, value: &Value) -> Result<(), Place>
     ensures { result ≡ verdict rule (problem_claims (view value.now)) }
 {

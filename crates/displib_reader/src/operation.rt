@@ -2,14 +2,13 @@ ghost use Rattle.std.specs.Prelude.{◌≡◌, map, nat_eq, IfOk, string_bytes, 
 ghost use Rattle.std.specs.List.{position_or_len};
 ghost use Rattle.std.specs.Str.{bytes_eq};
 ghost use Rattle.serde_json.specs.View.{view};
-ghost use Rattle.displib_reader.specs.Gives.{Gives};
-ghost use Rattle.displib_reader.specs.Field.{each, whole_of};
+ghost use Rattle.json_claims.specs.Gives.{Gives};
+ghost use Rattle.json_claims.specs.Field.{each, whole_of};
 ghost use Rattle.displib_reader.specs.ProblemOf.{once, listing_of, operation_of};
 
-use crate::field::{array_or_empty, number_or, optional_number, text_at, whole};
-use crate::unread::Unread;
-use disp_model::{List, Listing, Memory, Operation};
+use disp_model::{GREATEST_NUMBER, List, Listing, Memory, Operation};
 use indexmap::IndexSet;
+use json_claims::{Unread, array_or_empty, index, index_or, optional_index, text_at};
 use serde_json::Value;
 use std::alloc::Global;
 
@@ -31,7 +30,7 @@ fn read_listing(names: &IndexSet<String>, value: &Value) -> Result<Listing, Unre
     ensures { Gives result (listing_of (map string_bytes names.now.keys) (view value.now)) }
 {
     let name = text_at(value, "resource").ok_or(Unread::Nothing)?;
-    let release = number_or(value, "release_time", 0).ok_or(Unread::Nothing)?;
+    let release = index_or(value, "release_time", GREATEST_NUMBER, 0).ok_or(Unread::Nothing)?;
     let resource = place_of(names, name)?;
     Ok(Listing { resource, release })
 }
@@ -53,11 +52,11 @@ fn read_listings(
 
 /// The numbers of a list.
 fn read_numbers(alloc: Global, values: &[Value]) -> Result<List<u32>, Unread>
-    ensures { Gives result (each whole_of (map view values.now)) }
+    ensures { Gives result (each (whole_of GREATEST_NUMBER) (map view values.now)) }
 {
     let mut numbers = Vec::new(alloc);
     for value in values {
-        numbers.push(whole(value).ok_or(Unread::Nothing)?)?;
+        numbers.push(index(value, GREATEST_NUMBER).ok_or(Unread::Nothing)?)?;
     }
     Ok(List::from_vec(numbers))
 }
@@ -93,9 +92,9 @@ pub(crate) fn read_operation(
     if !value.is_object() {
         return Err(Unread::Nothing);
     }
-    let lower = number_or(value, "start_lb", 0).ok_or(Unread::Nothing)?;
-    let upper = optional_number(value, "start_ub").ok_or(Unread::Nothing)?;
-    let min = number_or(value, "min_duration", 0).ok_or(Unread::Nothing)?;
+    let lower = index_or(value, "start_lb", GREATEST_NUMBER, 0).ok_or(Unread::Nothing)?;
+    let upper = optional_index(value, "start_ub", GREATEST_NUMBER).ok_or(Unread::Nothing)?;
+    let min = index_or(value, "min_duration", GREATEST_NUMBER, 0).ok_or(Unread::Nothing)?;
     let resources = array_or_empty(value, "resources").ok_or(Unread::Nothing)?;
     let listings = read_listings(alloc, names, resources)?;
     let successors = array_or_empty(value, "successors").ok_or(Unread::Nothing)?;

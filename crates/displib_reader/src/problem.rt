@@ -1,37 +1,35 @@
 ghost use Rattle.std.specs.Prelude.{◌≡◌, ◌≤◌, All, IfOk, IfErr, OnOk, length, None, codes};
 ghost use Rattle.serde_json.specs.View.{view};
-ghost use Rattle.displib_reader.specs.Json.{IsJson};
+ghost use Rattle.json_claims.specs.Json.{IsJson};
 ghost use Rattle.displib_reader.specs.ProblemOf.{names_in};
-ghost use Rattle.displib_reader.specs.Graphs.{AreInside};
-ghost use Rattle.displib_reader.specs.Field.{members_at};
+ghost use Rattle.train_graphs.specs.Graphs.{AreInside, HaveGraphs};
+ghost use Rattle.json_claims.specs.Field.{members_at};
 ghost use Rattle.displib_reader.specs.Types.{first_unknown};
-ghost use Rattle.displib_reader.specs.Outcome.{IsReadAs, IsRefused, IsPlain, IsLinked, HasTrains, HaveGraphs, BreaksGraphs, FindsComponents, HasComponents, Breaks, Answers};
+ghost use Rattle.displib_reader.specs.Outcome.{IsReadAs, IsRefused, IsPlain, IsLinked, HasTrains, BreaksGraphs, FindsComponents, HasComponents, Breaks, Answers};
 
-use crate::check::{first_loop, first_not_entered, first_not_left, greatest_sum};
 use crate::component::{first_unknown, read_components};
 use crate::counts::too_many;
 use crate::fault::ProblemNo;
-use crate::field::members_at;
 use crate::names::{list_names, read_names};
 use crate::objective::check;
-use crate::rule::Rule;
 use crate::train::read_trains;
-use crate::unread::Unread;
 use disp_model::{
     Component, GREATEST_COST, List, MOST_OPERATIONS, MOST_TRAINS, Memory, Problem, Text, Train,
 };
-use serde_json::{Category, Value};
+use json_claims::{Rule, Unread, members_at, read_json};
+use serde_json::Value;
 use std::alloc::Global;
+use train_graphs::{first_loop, first_not_entered, first_not_left, greatest_sum};
 
 /// The value of JSON bytes.
 fn value_of(alloc: Global, bytes: &[u8]) -> Result<Value, ProblemNo>
     ensures ok { IfOk result (λ v. IsJson bytes.now (view v)) }
     ensures no { IfErr result (IsRefused bytes.now) }
 {
-    match Value::from_slice(alloc, bytes) {
+    match read_json(alloc, bytes) {
         Ok(value) => Ok(value),
-        Err(e) if e.classify() == Category::Memory => Err(ProblemNo::Memory),
-        Err(_) => Err(ProblemNo::NotJson),
+        Err(Unread::Memory) => Err(ProblemNo::Memory),
+        Err(Unread::Nothing) => Err(ProblemNo::NotJson),
     }
 }
 

@@ -1,13 +1,12 @@
 ghost use Rattle.std.specs.Prelude.{map, string_bytes};
 ghost use Rattle.serde_json.specs.View.{view};
-ghost use Rattle.displib_reader.specs.Gives.{Gives};
+ghost use Rattle.json_claims.specs.Gives.{Gives};
 ghost use Rattle.displib_reader.specs.ProblemOf.{train_of, trains_with};
 
-use crate::field::{array_at, elements};
 use crate::operation::read_operation;
-use crate::unread::Unread;
 use disp_model::{List, Train};
 use indexmap::IndexSet;
+use json_claims::{Unread, array_at, elements};
 use serde_json::Value;
 use std::alloc::Global;
 

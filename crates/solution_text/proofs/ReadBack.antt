@@ -5,25 +5,28 @@ use Rattle.std.specs.List.{AllByRecursion}
 use Rattle.std.proofs.lemmas.List.Elements.{recursion_from_All}
 use Rattle.disp_model.specs.declared.plan.Event.{Event}
 use Rattle.disp_model.specs.declared.limits.TheConstants.{GREATEST_NUMBER, GREATEST_EVENT_TIME, GREATEST_COST}
-use Rattle.solution_text.specs.declared.rule.Rule.{Rule}
-use Rattle.solution_text.specs.declared.rule.Rule.TheVariants as rule
-use Rattle.solution_text.specs.Field.{values_of, each}
-use Rattle.solution_text.specs.Claims.{Claim, breaks, first_broken, event_claims, events_claims}
+use Rattle.json_claims.specs.declared.rule.Rule.{Rule}
+use Rattle.json_claims.specs.declared.rule.Rule.TheVariants as rule
+use Rattle.json_claims.specs.Field.{values_of, each}
+use Rattle.json_claims.specs.Claims.{Claim, breaks, first_broken, claims_from}
+use Rattle.json_claims.proofs.Kept.{fits}
+use Rattle.json_claims.proofs.Steps.{each_cons}
+use Rattle.solution_text.specs.declared.place.SolutionPlace.{SolutionPlace}
+use Rattle.solution_text.specs.Claims.{event_claims}
 use Rattle.solution_text.specs.PlanOf.{event_of, stated_of}
 use Rattle.solution_text.specs.Reading.{IsPlain, IsReadAs}
 use Rattle.solution_text.specs.Texts.{solution_text}
 use Rattle.solution_text.specs.Limits.{IsWithin, AreWithin}
-use Rattle.solution_text.proofs.Kept.{fits, each_cons}
 use Rattle.solution_text.proofs.Written.{event_data, events_data, solution_data, text_is_json}
 
 -- ---- the rules
 
-broken_by : (broken : Bool) (c : Claim) (rest more : Option Claim) → (option_map (λ (x : Claim). x.place) rest ≡ None → option_map (λ (x : Claim). x.place) more ≡ None)
-    → option_map (λ (x : Claim). x.place) (cond broken (Some c) rest) ≡ None → option_map (λ (x : Claim). x.place) (cond broken (Some c) more) ≡ None
+broken_by : (broken : Bool) (c : Claim SolutionPlace) (rest more : Option (Claim SolutionPlace)) → (option_map (λ (x : Claim SolutionPlace). x.place) rest ≡ None → option_map (λ (x : Claim SolutionPlace). x.place) more ≡ None)
+    → option_map (λ (x : Claim SolutionPlace). x.place) (cond broken (Some c) rest) ≡ None → option_map (λ (x : Claim SolutionPlace). x.place) (cond broken (Some c) more) ≡ None
 broken_by true c rest more on e = absurd cc
 broken_by false c rest more on e = on e
 
-none_both : (rule : Rule) (a b : List Claim) → first_broken rule a ≡ None → first_broken rule b ≡ None → first_broken rule (a ++ b) ≡ None
+none_both : (rule : Rule) (a b : List (Claim SolutionPlace)) → first_broken rule a ≡ None → first_broken rule b ≡ None → first_broken rule (a ++ b) ≡ None
 none_both rule [] b e f = f
 none_both rule (c ∷ a) b e f = broken_by (breaks rule c) c (find (breaks rule) a) (find (breaks rule) (a ++ b)) (λ g. none_both rule a b g f) e
 
@@ -40,24 +43,24 @@ unfolding event_claims breaks
 event_limit k e within =
     rw (le-ltb GREATEST_NUMBER e.operation within.operation, le-ltb GREATEST_EVENT_TIME e.time within.time, le-ltb GREATEST_NUMBER e.train within.train) refl
 
-events_shape : (k : ℕ) (plan : List Event) → first_broken rule.Shape (events_claims k (values_of (events_data plan))) ≡ None
+events_shape : (k : ℕ) (plan : List Event) → first_broken rule.Shape (claims_from event_claims k (values_of (events_data plan))) ≡ None
 events_shape k [] = refl
 events_shape k (e ∷ plan) = none_both rule.Shape (event_claims k (event_data e)) _ (event_shape k e) (events_shape (k + 1) plan)
 
-events_whole : (k : ℕ) (plan : List Event) → first_broken rule.Whole (events_claims k (values_of (events_data plan))) ≡ None
+events_whole : (k : ℕ) (plan : List Event) → first_broken rule.Whole (claims_from event_claims k (values_of (events_data plan))) ≡ None
 events_whole k [] = refl
 events_whole k (e ∷ plan) = none_both rule.Whole (event_claims k (event_data e)) _ (event_whole k e) (events_whole (k + 1) plan)
 
-events_limit : (k : ℕ) (plan : List Event) → AllByRecursion IsWithin plan → first_broken rule.Limit (events_claims k (values_of (events_data plan))) ≡ None
+events_limit : (k : ℕ) (plan : List Event) → AllByRecursion IsWithin plan → first_broken rule.Limit (claims_from event_claims k (values_of (events_data plan))) ≡ None
 events_limit k [] within = refl
 events_limit k (e ∷ plan) within = none_both rule.Limit (event_claims k (event_data e)) _ (event_limit k e within.0) (events_limit (k + 1) plan within.1)
 
 solution_plain : (plan : List Event) (cost : ℕ) → AllByRecursion IsWithin plan → cost ≤ GREATEST_COST → IsPlain (solution_data plan cost)
 unfolding breaks
 solution_plain plan cost within fits = record {
-  shape = none_both rule.Shape (events_claims 0 (values_of (events_data plan))) _ (events_shape 0 plan) refl;
-  whole = none_both rule.Whole (events_claims 0 (values_of (events_data plan))) _ (events_whole 0 plan) refl;
-  limit = none_both rule.Limit (events_claims 0 (values_of (events_data plan))) _ (events_limit 0 plan within) (rw (le-ltb GREATEST_COST cost fits) refl);
+  shape = none_both rule.Shape (claims_from event_claims 0 (values_of (events_data plan))) _ (events_shape 0 plan) refl;
+  whole = none_both rule.Whole (claims_from event_claims 0 (values_of (events_data plan))) _ (events_whole 0 plan) refl;
+  limit = none_both rule.Limit (claims_from event_claims 0 (values_of (events_data plan))) _ (events_limit 0 plan within) (rw (le-ltb GREATEST_COST cost fits) refl);
 }
 
 as_many : (plan : List Event) → length (values_of (events_data plan)) ≡ length plan

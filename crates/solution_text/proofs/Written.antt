@@ -20,7 +20,7 @@ use Rattle.serde_json.proofs.Numbers.{number_of-decimal}
 use Rattle.serde_json.proofs.Texts.{print-outline}
 use Rattle.disp_model.specs.declared.plan.Event.{Event}
 use Rattle.solution_text.specs.Texts.{event_text, next_event_text, events_text, solution_text}
-use Rattle.solution_text.specs.Json.{IsJson}
+use Rattle.json_claims.specs.Json.{IsJson}
 use Rattle.solution_text.specs.Limits.{IsWithin}
 
 -- ---- the value

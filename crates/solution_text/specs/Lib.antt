@@ -1,7 +1,4 @@
 pub mod Texts
-pub mod Json
-pub mod Field
-pub mod Gives
 pub mod Claims
 pub mod PlanOf
 pub mod Reading

@@ -3,7 +3,7 @@ use Rattle.std.specs.Prelude.{ℕ, List, length, Option, Some, codes}
 use Rattle.serde_json.specs.Data.{Data}
 use Rattle.disp_model.specs.declared.plan.Event.{Event}
 use Rattle.disp_model.specs.declared.limits.TheConstants.{GREATEST_NUMBER, GREATEST_EVENT_TIME, GREATEST_COST}
-use Rattle.solution_text.specs.Field.{◌>>=◌, number_at, optional_number, members_at, array_at, each}
+use Rattle.json_claims.specs.Field.{◌>>=◌, number_at, optional_number, members_at, array_at, each}
 
 unfoldable pub event_of : Data → Option Event
 event_of d = do

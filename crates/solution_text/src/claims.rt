@@ -1,13 +1,12 @@
 ghost use Rattle.std.specs.Prelude.{◌≡◌, map};
 ghost use Rattle.serde_json.specs.View.{view};
-ghost use Rattle.solution_text.specs.Claims.{verdict, event_claims, events_claims, solution_claims, IsFirst};
+ghost use Rattle.json_claims.specs.Claims.{verdict, claims_from, IsFirst};
+ghost use Rattle.solution_text.specs.Claims.{event_claims, solution_claims};
 ghost use Rattle.solution_text.specs.Reading.{broken_at};
 
-use crate::field::{field, members_at};
-use crate::judge::{allow, need};
 use crate::place::{EventKey, SolutionPlace};
-use crate::rule::{Rule, Want};
 use disp_model::{GREATEST_COST, GREATEST_EVENT_TIME, GREATEST_NUMBER};
+use json_claims::{Rule, Want, allow, field, members_at, need};
 use serde_json::Value;
 
 /// Tests a rule on an event.
@@ -29,9 +28,9 @@ fn check_event(rule: Rule, k: u64, value: &Value) -> Result<(), SolutionPlace>
 }
 
 /// Tests a rule on the events.
-#[tactic(auto, using(crate::proofs::Verdicts::verdict_append))]
+#[tactic(auto, using(json_claims::proofs::Verdicts::verdict_append))]
 fn check_events(rule: Rule, values: &[Value]) -> Result<(), SolutionPlace>
-    ensures { result ≡ verdict rule (events_claims 0 (map view values.now)) }
+    ensures { result ≡ verdict rule (claims_from event_claims 0 (map view values.now)) }
 {
     for (k, value) in values.iter().enumerate() {
         check_event(rule, k as u64, value)?;
@@ -40,7 +39,7 @@ fn check_events(rule: Rule, values: &[Value]) -> Result<(), SolutionPlace>
 }
 
 /// Tests a rule on a solution.
-#[tactic(auto, using(crate::proofs::Verdicts::verdict_append))]
+#[tactic(auto, using(json_claims::proofs::Verdicts::verdict_append))]
 fn check_solution(rule: Rule, value: &Value) -> Result<(), SolutionPlace>
     ensures { result ≡ verdict rule (solution_claims (view value.now)) }
 {

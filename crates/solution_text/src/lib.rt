@@ -7,18 +7,14 @@
 
 mod claims;
 mod fault;
-mod field;
-mod judge;
 mod laws;
 mod place;
 mod read;
-mod rule;
-mod unread;
 mod why;
 mod write;
 
 pub use fault::SolutionNo;
-pub use laws::{answers_exclude_each_other, written_is_read};
+pub use laws::{answers_exclude_each_other, each_text_has_an_answer, written_is_read};
 pub use place::{EventKey, SolutionPlace};
 pub use read::read_solution;
 pub use write::write_solution;

@@ -1,19 +1,19 @@
 ghost use Rattle.std.specs.Prelude.{◌≡◌, ◌≤◌, IfOk, IfErr, OnOk, Some};
 ghost use Rattle.serde_json.specs.View.{view};
-ghost use Rattle.solution_text.specs.Json.{IsJson};
-ghost use Rattle.solution_text.specs.Gives.{Gives};
+ghost use Rattle.json_claims.specs.Json.{IsJson};
+ghost use Rattle.json_claims.specs.Gives.{Gives};
 ghost use Rattle.solution_text.specs.PlanOf.{event_of, plan_of, stated_of, events_given};
 ghost use Rattle.solution_text.specs.Reading.{IsReadAs, IsRefused, IsPlain, Breaks, KeepsRules, Answers};
 
 use crate::claims::check;
 use crate::fault::SolutionNo;
-use crate::field::{array_at, index_at, members_at, number_at, optional_number};
-use crate::rule::Rule;
-use crate::unread::Unread;
 use disp_model::{
     Event, GREATEST_COST, GREATEST_EVENT_TIME, GREATEST_NUMBER, List, MOST_EVENTS, Memory, Plan,
 };
-use serde_json::{Category, Value};
+use json_claims::{
+    Rule, Unread, array_at, index_at, members_at, number_at, optional_number, read_json,
+};
+use serde_json::Value;
 use std::alloc::Global;
 
 /// The value of JSON bytes.
@@ -21,10 +21,10 @@ fn value_of(alloc: Global, bytes: &[u8]) -> Result<Value, SolutionNo>
     ensures ok { IfOk result (λ v. IsJson bytes.now (view v)) }
     ensures no { IfErr result (IsRefused bytes.now) }
 {
-    match Value::from_slice(alloc, bytes) {
+    match read_json(alloc, bytes) {
         Ok(value) => Ok(value),
-        Err(e) if e.classify() == Category::Memory => Err(SolutionNo::Memory),
-        Err(_) => Err(SolutionNo::NotJson),
+        Err(Unread::Memory) => Err(SolutionNo::Memory),
+        Err(Unread::Nothing) => Err(SolutionNo::NotJson),
     }
 }
 

@@ -1,7 +1,7 @@
 use Rattle.std.proofs.lemmas.Result.{err_from_is_err_and}
 use Rattle.serde_json.specs.View.{view}
 use Rattle.displib_reader.specs.Claims.{train_claims}
-use Rattle.displib_reader.proofs.Verdicts.{verdict_err, verdict_ok}
+use Rattle.json_claims.proofs.Verdicts.{verdict_err, verdict_ok}
 use Rattle.displib_reader.proofs.claims.check_trains.Goals as goal
 
 pub returns-in_err-check_train : goal.returns-in_err-check_train

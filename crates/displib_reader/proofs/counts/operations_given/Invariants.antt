@@ -2,7 +2,7 @@
 use Rattle.std.proofs.Common.{◌≡◌, map, take, length, Some}
 use Rattle.std.specs.Prelude.{sum_by}
 use Rattle.serde_json.specs.View.{view}
-use Rattle.displib_reader.specs.Field.{members_in}
+use Rattle.json_claims.specs.Field.{members_in}
 use Rattle.displib_reader.proofs.counts.operations_given.Given as goal
 
 abbrev pub invariant-loop-train : goal.invariant-loop-train

@@ -2,7 +2,7 @@ use Rattle.std.proofs.Common.{◌∙◌, ap, sym, map, take, string_bytes}
 use Rattle.std.specs.Prelude.{codes}
 use Rattle.std.specs.List.{filter_map}
 use Rattle.serde_json.specs.View.{view}
-use Rattle.displib_reader.specs.Field.{text_at}
+use Rattle.json_claims.specs.Field.{text_at}
 use Rattle.displib_reader.specs.Names.{with_found, with_names}
 use Rattle.displib_reader.proofs.Once.{found_more, with_none}
 use Rattle.displib_reader.proofs.names.add_names_of_operation.Goals as goal

@@ -3,7 +3,7 @@ use Rattle.std.proofs.Math.Seq.{take-length}
 use Rattle.std.specs.List.{flat_map}
 use Rattle.serde_json.specs.View.{view}
 use Rattle.std.specs.Prelude.{codes}
-use Rattle.displib_reader.specs.Field.{members_at}
+use Rattle.json_claims.specs.Field.{members_at}
 use Rattle.displib_reader.specs.ProblemOf.{names_of_train}
 use Rattle.displib_reader.specs.Names.{with_names}
 use Rattle.displib_reader.proofs.Once.{gathered_names, names_more, with_none}

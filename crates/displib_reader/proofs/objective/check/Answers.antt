@@ -1,6 +1,6 @@
 use Rattle.serde_json.specs.View.{view}
 use Rattle.displib_reader.specs.Claims.{problem_claims}
-use Rattle.displib_reader.proofs.Verdicts.{verdict_is_first}
+use Rattle.json_claims.proofs.Verdicts.{verdict_is_first}
 use Rattle.displib_reader.proofs.objective.check.Goals as goal
 
 pub returns : goal.returns

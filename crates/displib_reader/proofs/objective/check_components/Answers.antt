@@ -2,7 +2,7 @@ use Rattle.std.proofs.Common.{map}
 use Rattle.std.proofs.lemmas.Result.{err_from_is_err_and}
 use Rattle.serde_json.specs.View.{view}
 use Rattle.displib_reader.specs.Claims.{component_claims}
-use Rattle.displib_reader.proofs.Verdicts.{verdict_err, verdict_ok}
+use Rattle.json_claims.proofs.Verdicts.{verdict_err, verdict_ok}
 use Rattle.displib_reader.proofs.objective.check_components.Goals as goal
 
 pub returns-in_err-check_component : goal.returns-in_err-check_component

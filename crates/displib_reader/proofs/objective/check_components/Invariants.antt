@@ -1,7 +1,8 @@
 -- what is left gives the verdict on the whole
 use Rattle.std.proofs.Common.{◌≡◌, map, drop}
 use Rattle.serde_json.specs.View.{view}
-use Rattle.displib_reader.specs.Claims.{verdict, claims_from, component_claims}
+use Rattle.json_claims.specs.Claims.{verdict, claims_from}
+use Rattle.displib_reader.specs.Claims.{component_claims}
 use Rattle.displib_reader.proofs.objective.check_components.Given as goal
 
 abbrev pub invariant-loop-c : goal.invariant-loop-c

@@ -1,9 +1,9 @@
 -- the listings read so far, before those that are left, are those of the values
 use Rattle.std.proofs.Common.{◌≡◌, map, drop, string_bytes}
 use Rattle.serde_json.specs.View.{view}
-use Rattle.displib_reader.specs.Field.{each}
+use Rattle.json_claims.specs.Field.{each}
 use Rattle.displib_reader.specs.ProblemOf.{listing_of}
-use Rattle.displib_reader.proofs.Each.{with_front}
+use Rattle.json_claims.proofs.Steps.{with_front}
 use Rattle.displib_reader.proofs.operation.read_listings.Given as goal
 
 abbrev pub invariant-loop-value : goal.invariant-loop-value

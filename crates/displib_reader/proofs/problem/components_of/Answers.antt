@@ -1,7 +1,7 @@
 use Rattle.serde_json.specs.View.{view}
 use Rattle.displib_reader.specs.ProblemOf.{components_of}
 use Rattle.displib_reader.proofs.Components.{read_components}
-use Rattle.displib_reader.proofs.Unreadable.{is_readable}
+use Rattle.json_claims.proofs.Unreadable.{is_readable}
 use Rattle.displib_reader.proofs.problem.components_of.Goals as goal
 
 pub unreachable-requires : goal.unreachable-requires

@@ -1,6 +1,6 @@
 use Rattle.std.proofs.Common.{◌≡◌, sym, arith}
 use Rattle.serde_json.specs.View.{view}
-use Rattle.displib_reader.specs.Outcome.{greatest_sum}
+use Rattle.train_graphs.specs.Costs.{greatest_sum}
 use Rattle.displib_reader.proofs.Whole.{all_inside, all_short, well_formed}
 use Rattle.displib_reader.proofs.Trains.{few_trains, few_operations}
 use Rattle.displib_reader.proofs.Components.{good_components}

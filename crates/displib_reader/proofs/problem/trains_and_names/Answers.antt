@@ -2,7 +2,7 @@ use Rattle.std.proofs.Common.{map, string_bytes, ap, ◌∙◌}
 use Rattle.serde_json.specs.View.{view}
 use Rattle.displib_reader.specs.ProblemOf.{trains_with}
 use Rattle.displib_reader.proofs.Trains.{read_trains}
-use Rattle.displib_reader.proofs.Unreadable.{is_readable}
+use Rattle.json_claims.proofs.Unreadable.{is_readable}
 use Rattle.displib_reader.proofs.problem.trains_and_names.Goals as goal
 
 pub unreachable-requires : goal.unreachable-requires

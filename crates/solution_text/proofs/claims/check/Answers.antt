@@ -1,6 +1,6 @@
 use Rattle.serde_json.specs.View.{view}
 use Rattle.solution_text.specs.Claims.{solution_claims}
-use Rattle.solution_text.proofs.Verdicts.{verdict_is_first}
+use Rattle.json_claims.proofs.Verdicts.{verdict_is_first}
 use Rattle.solution_text.proofs.claims.check.Goals as goal
 
 pub returns : goal.returns

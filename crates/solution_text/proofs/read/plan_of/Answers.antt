@@ -1,7 +1,7 @@
 use Rattle.serde_json.specs.View.{view}
 use Rattle.solution_text.specs.PlanOf.{plan_of}
 use Rattle.solution_text.proofs.Kept.{plan_there}
-use Rattle.solution_text.proofs.Unreadable.{is_readable}
+use Rattle.json_claims.proofs.Unreadable.{is_readable}
 use Rattle.solution_text.proofs.read.plan_of.Goals as goal
 
 pub unreachable-requires : goal.unreachable-requires

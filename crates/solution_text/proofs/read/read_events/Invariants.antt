@@ -1,9 +1,9 @@
 -- the events read so far, before those that are left, are those of the value
 use Rattle.std.proofs.Common.{◌≡◌, map, drop}
 use Rattle.serde_json.specs.View.{view}
-use Rattle.solution_text.specs.Field.{each}
+use Rattle.json_claims.specs.Field.{each}
 use Rattle.solution_text.specs.PlanOf.{event_of, plan_of}
-use Rattle.solution_text.proofs.Each.{with_front}
+use Rattle.json_claims.proofs.Steps.{with_front}
 use Rattle.solution_text.proofs.read.read_events.Given as goal
 
 abbrev pub invariant-loop-item : goal.invariant-loop-item

@@ -1,9 +1,0 @@
--- no train so far has a cycle
-use Rattle.std.proofs.Common.{◌≡◌, ◌<◌, ℕ, List, Some}
-use Rattle.std.specs.Prelude.{slice_get}
-use Rattle.disp_model.specs.declared.train.Operation.{Operation}
-use Rattle.displib_reader.specs.Graphs.{HasNoCycle}
-use Rattle.displib_reader.proofs.check.first_loop.Given as goal
-
-abbrev pub invariant-loop-t : goal.invariant-loop-t
-invariant-loop-t l = (k : ℕ) (other : List Operation) → k < l.t → slice_get l.trains k ≡ Some other → HasNoCycle other

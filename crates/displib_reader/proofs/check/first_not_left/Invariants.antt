@@ -1,7 +1,0 @@
--- the first among what is left is the first of all
-use Rattle.std.proofs.Common.{◌≡◌, drop}
-use Rattle.displib_reader.specs.Graphs.{exit_count, first_not_one}
-use Rattle.displib_reader.proofs.check.first_not_left.Given as goal
-
-abbrev pub invariant-loop-t : goal.invariant-loop-t
-invariant-loop-t l = first_not_one exit_count l.t (drop l.t l.trains) ≡ first_not_one exit_count 0 l.trains

@@ -1,6 +1,0 @@
-use Rattle.std.proofs.lemmas.List.{take_more}
-use Rattle.displib_reader.proofs.Reached.{visits_then}
-use Rattle.displib_reader.proofs.cycle.visit.Goals as goal
-
-pub loop-number-preserved : goal.loop-number-preserved
-loop-number-preserved c = rw (take_more c.args.numbers.now c.loop-number.number-index 0 c.loop-number-test.true) (visits_then c.loop-number.invariant c.in_ok-visit_one.ensures.ok)

@@ -1,7 +1,0 @@
--- the numbers so far are visited
-use Rattle.std.proofs.Common.{take}
-use Rattle.displib_reader.specs.Reach.{Visits}
-use Rattle.displib_reader.proofs.cycle.visit.Given as goal
-
-abbrev pub invariant-loop-number : goal.invariant-loop-number
-invariant-loop-number l = Visits (take l.number-index l.numbers) l.fn.marks l.marks l.fn.ahead.items l.ahead.items

@@ -1,8 +1,0 @@
--- the successors of the operations so far are marked
-use Rattle.std.proofs.Common.{◌≡◌, take}
-use Rattle.std.specs.List.{flat_map}
-use Rattle.displib_reader.specs.Graphs.{marked}
-use Rattle.displib_reader.proofs.graph.mark_successors.Given as goal
-
-abbrev pub invariant-loop-operation : goal.invariant-loop-operation
-invariant-loop-operation l = l.marks ≡ marked l.fn.marks (flat_map (λ p. p.next) (take l.operation-index l.train))

@@ -1,0 +1,5 @@
+pub mod Json
+pub mod Field
+pub mod Claims
+pub mod Gives
+pub mod Refusals

@@ -1,0 +1,5 @@
+pub mod Marks
+pub mod Reached
+pub mod FirstLoops
+pub mod Acyclic
+pub mod Decided

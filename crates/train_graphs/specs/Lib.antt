@@ -1,0 +1,4 @@
+pub mod Graphs
+pub mod Ranks
+pub mod Reach
+pub mod Costs
