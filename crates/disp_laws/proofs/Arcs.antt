@@ -12,15 +12,16 @@ use Rattle.disp_model.specs.declared.train.Listing.{Listing}
 use Rattle.disp_model.specs.declared.train.Operation.{Operation}
 use Rattle.disp_model.specs.declared.plan.Event.{Event}
 use Rattle.disp_model.specs.declared.fixing.Fixing.{Fixing}
-use Rattle.disp_model.specs.declared.fixing.Fixing.TheVariants.{Started, Chosen}
+use Rattle.disp_model.specs.declared.fixing.Fixing.TheVariants.{Started, Chosen, NotBefore}
 use Rattle.disp_model.specs.declared.decision.Decision.{Decision}
-use Rattle.disp_model.specs.declared.decision.Decision.TheVariants.{Go, First}
+use Rattle.disp_model.specs.declared.decision.Decision.TheVariants.{Go, First, Run, Skip}
 use Rattle.disp_model.specs.declared.problem.Problem.{Problem}
 use Rattle.disp_model.specs.Train.{duration_of, IsRoute}
 use Rattle.disp_model.specs.WellFormed.{LeadsTo, IsAcyclic, greatest_release}
 use Rattle.disp_model.specs.Plan.{run_of, operations_of, first_of, ending, end_of, Ending}
 use Rattle.disp_model.specs.Fixing.{after, IsMet}
 use Rattle.disp_model.specs.Valid.{train_at, operation_of, IsReleased, IsValid}
+use Rattle.disp_model.specs.Node.{Node}
 use Rattle.disp_model.specs.Follows.{FollowsDecision, Follows}
 use Rattle.disp_model.specs.Routes.{Starts, AgreesWithFixing, AgreesWithDecision, IsAllowed, IsForced}
 use Rattle.disp_model.specs.Arcs.{listings_of, shared_listings, Conflicts, release_of, min_of, Passes, IsTrainArc, IsOrderArc, IsReleaseArc, IsArc}
@@ -35,11 +36,14 @@ fixing_agrees t plan (Started u o time) met = λ same.
     let found = start_is_started u o time plan met in
     subst (λ (v : ℕ). Contains (operations_of v plan) o) same (contains_in o (operations_of u plan) (started_is_in (record { train = u; op = o }) plan found.0 found.1 found.2))
 fixing_agrees t plan (Chosen u o next) met = λ same. subst (λ (v : ℕ). after o (operations_of v plan) ≡ Some next) same met
+fixing_agrees t plan (NotBefore u o time) met = tt
 
 decision_agrees : (t : ℕ) (plan : List Event) (decision : Decision) → FollowsDecision plan decision → AgreesWithDecision t (operations_of t plan) decision
 decision_agrees t plan (Go o next) follows = λ same there.
     subst (λ (v : ℕ). after o.op (operations_of v plan) ≡ Some next) same (follows (subst (λ (v : ℕ). Contains (operations_of v plan) o.op) (sym same) there))
 decision_agrees t plan (First a b) follows = tt
+decision_agrees t plan (Run o) follows = λ same. subst (λ (v : ℕ). Contains (operations_of v plan) o.op) same follows
+decision_agrees t plan (Skip o) follows = λ same there. follows (subst (λ (v : ℕ). Contains (operations_of v plan) o.op) (sym same) there)
 
 pub run_allowed : (node : Node) (plan : List Event) (t : ℕ) → IsValid node.problem node.fixings plan → Follows plan node.decisions → t < length node.problem.trains → IsAllowed node t (operations_of t plan)
 run_allowed node plan t valid follows there = record {

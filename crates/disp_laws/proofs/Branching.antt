@@ -10,18 +10,19 @@ use Rattle.disp_model.specs.declared.train.Operation.{Operation}
 use Rattle.disp_model.specs.declared.plan.Event.{Event}
 use Rattle.disp_model.specs.declared.fixing.Fixing.{Fixing}
 use Rattle.disp_model.specs.declared.decision.Decision.{Decision}
-use Rattle.disp_model.specs.declared.decision.Decision.TheVariants.{Go, First}
+use Rattle.disp_model.specs.declared.decision.Decision.TheVariants.{Go, First, Run as RunIt, Skip}
 use Rattle.disp_model.specs.declared.decision.Choice.{Choice}
-use Rattle.disp_model.specs.declared.decision.Choice.TheVariants.{Route, Order}
+use Rattle.disp_model.specs.declared.decision.Choice.TheVariants.{Route, Order, Run}
 use Rattle.disp_model.specs.declared.problem.Problem.{Problem}
 use Rattle.disp_model.specs.Train.{next_of, IsSuccessor, IsExit, GoesOn, IsRoute}
 use Rattle.disp_model.specs.Plan.{run_of, operations_of}
 use Rattle.disp_model.specs.Fixing.{after}
 use Rattle.disp_model.specs.Valid.{train_at, operation_of, IsValid}
+use Rattle.disp_model.specs.Node.{Node}
 use Rattle.disp_model.specs.Routes.{Starts}
 use Rattle.disp_model.specs.Follows.{FollowsDecision, Follows}
 use Rattle.disp_model.specs.Trees.{IsChoice, children_of}
-use Rattle.disp_laws.proofs.Paths.{IsIn, is_in, in_or_not, goes_to_next, never_again}
+use Rattle.disp_laws.proofs.Paths.{IsIn, is_in, contains_in, in_or_not, goes_to_next, never_again}
 use Rattle.disp_laws.proofs.Runs.{split_at}
 
 pub contains_map : {X Y : Type 0} (f : X → Y) (xs : List X) (x : X) → Contains xs x → Contains (map f xs) (f x)
@@ -193,9 +194,16 @@ order_child problem fixings plan a b valid conflicts =
         let alike : e ≡ f = same_Some e f (sym first.0 ∙ ap (slice_get plan) same ∙ second.0) in
         sym first.1.train ∙ ap (λ (g : Event). g.train) alike ∙ second.1.train
 
+run_child : (problem : Problem) (plan : List Event) (o : Op) → (child : Decision) × Contains (children_of problem (Run o)) child × FollowsDecision plan child
+run_child problem plan o = elim (in_or_not o.op (operations_of o.train plan)) [
+  | inl run ↦ (RunIt o, (0, omega arith, refl), contains_in o.op (operations_of o.train plan) run)
+  | inr not ↦ (Skip o, (1, omega arith, refl), λ h. not (is_in o.op (operations_of o.train plan) h))
+]
+
 some_child : (problem : Problem) (fixings : List Fixing) (plan : List Event) (choice : Choice) → IsValid problem fixings plan → IsChoice problem choice → (child : Decision) × Contains (children_of problem choice) child × FollowsDecision plan child
 some_child problem fixings plan (Route o) valid is = route_child problem fixings plan o valid is
 some_child problem fixings plan (Order a b) valid is = order_child problem fixings plan a b valid is
+some_child problem fixings plan (Run o) valid is = run_child problem plan o
 
 pub covers : (node : Node) (plan : List Event) (choice : Choice) → IsValid node.problem node.fixings plan → Follows plan node.decisions → IsChoice node.problem choice
     → (child : Decision) × Contains (children_of node.problem choice) child × Follows plan (node.decisions ++ child ∷ [])

@@ -12,6 +12,7 @@ use Rattle.disp_model.specs.declared.decision.Decision.TheVariants.{First}
 use Rattle.disp_model.specs.declared.problem.Problem.{Problem}
 use Rattle.disp_model.specs.WellFormed.{LeadsTo, greatest_release}
 use Rattle.disp_model.specs.Valid.{train_at}
+use Rattle.disp_model.specs.Node.{Node}
 use Rattle.disp_model.specs.Routes.{IsForced}
 use Rattle.disp_model.specs.Arcs.{listings_of, Conflicts, release_of, min_of, GoesTo, IsReleaseArc, HasArc}
 use Rattle.disp_model.specs.Walks.{WalksOn, ClosesTo, HasCycle}
@@ -91,14 +92,14 @@ min_again node u v x walked rest total arc takes walk w there forced from = by_p
     to_v : Before node.problem w v → HasCycle node
     to_v before = back_is_cycle node v walked rest total walk w there (before_arc node w v before forced arc.1.to_forced)
 
-    to_u : Before problem w u → HasCycle problem fixings decisions
-    to_u before = round_is_cycle problem fixings decisions u v walked rest total arc walk w there (before_arc problem fixings decisions w u before forced arc.1.from_forced)
+    to_u : Before node.problem w u → HasCycle node
+    to_u before = round_is_cycle node u v walked rest total arc walk w there (before_arc node w u before forced arc.1.from_forced)
 
-    by_past : (x ≡ u) ⊎ Before problem x v → FromOn problem w x → HasCycle problem fixings decisions
-    by_past (inr past) (inl same) = to_v (subst (λ (y : Op). Before problem y v) (sym same) past)
-    by_past (inr past) (inr before) = to_v (before_then problem w x v before past)
-    by_past (inl own) (inl same) = back_is_cycle problem fixings decisions v walked rest total walk w there (subst (λ (y : Op). HasArc problem fixings decisions y v) (sym (same ∙ own)) arc)
-    by_past (inl own) (inr before) = to_u (subst (Before problem w) own before)
+    by_past : (x ≡ u) ⊎ Before node.problem x v → FromOn node.problem w x → HasCycle node
+    by_past (inr past) (inl same) = to_v (subst (λ (y : Op). Before node.problem y v) (sym same) past)
+    by_past (inr past) (inr before) = to_v (before_then node.problem w x v before past)
+    by_past (inl own) (inl same) = back_is_cycle node v walked rest total walk w there (subst (λ (y : Op). HasArc node y v) (sym (same ∙ own)) arc)
+    by_past (inl own) (inr before) = to_u (subst (Before node.problem w) own before)
 
 -- w is h, or follows it on each allowed route
 abbrev pub Follows : Node → Op → Op → Type 0
@@ -123,15 +124,15 @@ release_again node u v h walked rest total arc takes walk w there forced later =
     alike : u ≡ w → HasCycle node
     alike same = back_is_cycle node v walked rest total walk w there (subst (λ (y : Op). HasArc node y v) same arc)
 
-    by_at : Follows problem fixings decisions h u → Follows problem fixings decisions h w → HasCycle problem fixings decisions
+    by_at : Follows node h u → Follows node h w → HasCycle node
     by_at (inl own) (inl same) = alike (sym own ∙ same)
     by_at (inl own) (inr goes) =
-        let release : IsReleaseArc problem fixings decisions w v (release_of problem h v) = record { holder = h; decided = takes.decided; forced = takes.forced; conflicts = takes.conflicts; goes_to = goes; length_is = refl } in
-        back_is_cycle problem fixings decisions v walked rest total walk w there (release_of problem h v, record { from_forced = forced; to_forced = arc.1.to_forced; kind = inr (inr release) })
+        let release : IsReleaseArc node w v (release_of node.problem h v) = record { holder = h; decided = takes.decided; forced = takes.forced; conflicts = takes.conflicts; goes_to = goes; length_is = refl } in
+        back_is_cycle node v walked rest total walk w there (release_of node.problem h v, record { from_forced = forced; to_forced = arc.1.to_forced; kind = inr (inr release) })
     by_at (inr goes) (inl same) =
-        let before = goes_before problem fixings decisions h u takes.forced goes in
-        round_is_cycle problem fixings decisions u v walked rest total arc walk w there (before_arc problem fixings decisions w u (subst (λ (y : Op). Before problem y u) same before) forced arc.1.from_forced)
-    by_at (inr goes) (inr later) = alike (one_after problem fixings decisions h u w takes.forced goes later)
+        let before = goes_before node h u takes.forced goes in
+        round_is_cycle node u v walked rest total arc walk w there (before_arc node w u (subst (λ (y : Op). Before node.problem y u) same before) forced arc.1.from_forced)
+    by_at (inr goes) (inr later) = alike (one_after node h u w takes.forced goes later)
 
 -- ---- sums over operations
 

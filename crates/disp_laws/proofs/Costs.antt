@@ -15,14 +15,15 @@ use Rattle.disp_model.specs.declared.problem.Problem.{Problem}
 use Rattle.disp_model.specs.Plan.{start_of}
 use Rattle.disp_model.specs.Valid.{IsValid}
 use Rattle.disp_model.specs.Cost.{cost_at, cost_in, cost_of}
+use Rattle.disp_model.specs.Node.{Node}
 use Rattle.disp_model.specs.Follows.{Follows}
 use Rattle.disp_model.specs.Routes.{Starts}
 use Rattle.disp_model.specs.Walks.{IsWalk, EndsIn}
-use Rattle.disp_model.specs.Nodes.{component_op, AddUp, IsBound}
+use Rattle.disp_model.specs.Nodes.{component_op, ForcedAddUp, IsForcedBound}
 use Rattle.disp_model.specs.Trees.{WalkCosts, WalksCost, HaveDistinct}
 use Rattle.disp_laws.proofs.Branching.{IsStartedAt}
 use Rattle.disp_laws.proofs.Positions.{start_is_started}
-use Rattle.disp_laws.proofs.WalksHold.{one_event, walk_holds, end_is_run}
+use Rattle.disp_laws.proofs.WalksHold.{start_is, walk_holds, end_is_run}
 
 -- a later start costs no less
 pub costs_grow : (c : Component) (s t : ℕ) → s ≤ t → cost_at c s ≤ cost_at c t
@@ -32,26 +33,6 @@ costs_grow c s t le =
       | inl lt ↦ rw (lt-leb c.threshold s lt) (omega (arith, product))
       | inr ge ↦ rw (le-leb c.threshold s ge, le-leb c.threshold t (omega arith)) (omega (arith, product))
     ]
-
--- ---- the start of what is run
-
-start_here : (o : Op) (e : Event) (plan : List Event) → Starts o e → start_of (e ∷ plan) o.train o.op ≡ Some e.time
-start_here o e plan starts = rw (eq-eqb e.train o.train starts.train, eq-eqb e.operation o.op starts.operation) refl
-
-start_behind : (o : Op) (e : Event) (plan : List Event) (b : Bool) → ((nat_eq e.train o.train) && (nat_eq e.operation o.op)) ≡ b → ((time : ℕ) × (start_of plan o.train o.op ≡ Some time)) → (time : ℕ) × (cond b (Some e.time) (start_of plan o.train o.op) ≡ Some time)
-start_behind o e plan true is later = (e.time, refl)
-start_behind o e plan false is later = later
-
-has_start : (o : Op) (plan : List Event) (i : ℕ) (e : Event) → IsStartedAt plan o i e → (time : ℕ) × (start_of plan o.train o.op ≡ Some time)
-has_start o [] i e started = absurd (none-some e started.0)
-has_start o (f ∷ plan) zero e started = (f.time, start_here o f plan (subst (Starts o) (sym (same_Some f e started.0)) started.1))
-has_start o (f ∷ plan) (suc i) e started = start_behind o f plan ((nat_eq f.train o.train) && (nat_eq f.operation o.op)) refl (has_start o plan i e (started.0, started.1))
-
-pub start_is : (problem : Problem) (fixings : List Fixing) (plan : List Event) (o : Op) (i : ℕ) (e : Event) → IsValid problem fixings plan → IsStartedAt plan o i e → start_of plan o.train o.op ≡ Some e.time
-start_is problem fixings plan o i e valid started =
-    let found = has_start o plan i e started in
-    let there = start_is_started o.train o.op found.0 plan found.1 in
-    found.1 ∙ ap (λ (t : ℕ). Some t) (sym (ap (λ (g : Event). g.time) (one_event problem fixings plan o i there.0 e there.1 valid started there.2) ∙ there.3))
 
 -- ---- a walk to a component's operation
 
@@ -122,7 +103,7 @@ walks_cost node plan walks sum valid follows distinct adds =
 
 -- ---- the bound
 
-add_up : (node : Node) (plan : List Event) → IsValid node.problem node.fixings plan → Follows plan node.decisions → (components : List Component) (bound : ℕ) → AddUp node components bound → bound ≤ sum_by (cost_in plan) components
+add_up : (node : Node) (plan : List Event) → IsValid node.problem node.fixings plan → Follows plan node.decisions → (components : List Component) (bound : ℕ) → ForcedAddUp node components bound → bound ≤ sum_by (cost_in plan) components
 add_up node plan valid follows [] bound adds = omega (arith, adds)
 add_up node plan valid follows (c ∷ components) bound adds =
     let rest = add_up node plan valid follows components adds.1 adds.3 in
@@ -134,5 +115,5 @@ add_up node plan valid follows (c ∷ components) bound adds =
     rw (sum_by-cons (cost_in plan) c components) (omega (arith, adds.4, here, rest))
 
 -- a node's bound is at most the cost of each valid plan that follows its decisions
-pub bound_holds : (node : Node) (plan : List Event) (bound : ℕ) → IsValid node.problem node.fixings plan → Follows plan node.decisions → IsBound node bound → bound ≤ cost_of node.problem.components plan
+pub bound_holds : (node : Node) (plan : List Event) (bound : ℕ) → IsValid node.problem node.fixings plan → Follows plan node.decisions → IsForcedBound node bound → bound ≤ cost_of node.problem.components plan
 bound_holds node plan bound valid follows is = add_up node plan valid follows node.problem.components bound is

@@ -10,6 +10,7 @@ use Rattle.disp_model.specs.declared.decision.Decision.{Decision}
 use Rattle.disp_model.specs.declared.plan.Event.{Event}
 use Rattle.disp_model.specs.declared.problem.Problem.{Problem}
 use Rattle.disp_model.specs.Valid.{train_at}
+use Rattle.disp_model.specs.Node.{Node}
 use Rattle.disp_model.specs.Routes.{Starts, IsForced}
 use Rattle.disp_model.specs.Arcs.{HasArc}
 use Rattle.disp_model.specs.Walks.{WalksOn, IsLongest, HasCycle}
@@ -176,11 +177,11 @@ chain node stood rest covered waits e left (suc n) = longer (chain node stood re
             let walk : WalksOn node o 0 (op_of c.event ∷ c.tail) on.0 = (longest.0, longest.1, on.1) in
             record { event = f; left = there; tail = op_of c.event ∷ c.tail; long = ap (λ (m : ℕ). suc m) c.long; total = on.0; walk = subst (λ (p : Op). WalksOn node p 0 (op_of c.event ∷ c.tail) on.0) (sym own) walk }
 
-        by_place : (c : Chain problem fixings decisions rest n) (o : Op) → HasArc problem fixings decisions o (op_of c.event) → (((f : Event) × In f stood × Starts o f) → ⊥) → (f : Event) → (In f stood ⊎ In f rest) → Starts o f → Chain problem fixings decisions rest (suc n)
+        by_place : (c : Chain node rest n) (o : Op) → HasArc node o (op_of c.event) → (((f : Event) × In f stood × Starts o f) → ⊥) → (f : Event) → (In f stood ⊎ In f rest) → Starts o f → Chain node rest (suc n)
         by_place c o arc none f (inl stands) starts = absurd (none (f, stands, starts))
         by_place c o arc none f (inr there) starts = placed c o f there starts arc
 
-        longer_by : (c : Chain problem fixings decisions rest n) → ((o : Op) × HasArc problem fixings decisions o (op_of c.event) × (((f : Event) × In f stood × Starts o f) → ⊥)) → Chain problem fixings decisions rest (suc n)
+        longer_by : (c : Chain node rest n) → ((o : Op) × HasArc node o (op_of c.event) × (((f : Event) × In f stood × Starts o f) → ⊥)) → Chain node rest (suc n)
         longer_by c waiting = let found = covered waiting.0 waiting.1.1.from_forced in by_place c waiting.0 waiting.1 waiting.2 found.0 found.1 found.2
 
 abbrev AreForced : Node → List Event → Type 0
@@ -231,29 +232,29 @@ best node stood (x ∷ l) start ready = elim (ready_or_waits node stood x) [
     deeper e (inl same) = inl same
     deeper e (inr there) = inr (inr there)
 
-    first_of_all : (e : Event) → (IsReady problem fixings decisions stood x → (x ≡ e) ⊎ ComesBefore e x) → ((f : Event) → In f l → IsReady problem fixings decisions stood f → (f ≡ e) ⊎ ComesBefore e f)
-        → (f : Event) → In f (x ∷ l) → IsReady problem fixings decisions stood f → (f ≡ e) ⊎ ComesBefore e f
-    first_of_all e here later f (inl same) is = subst (λ (g : Event). (g ≡ e) ⊎ ComesBefore e g) same (here (subst (IsReady problem fixings decisions stood) (sym same) is))
+    first_of_all : (e : Event) → (IsReady node stood x → (x ≡ e) ⊎ ComesBefore e x) → ((f : Event) → In f l → IsReady node stood f → (f ≡ e) ⊎ ComesBefore e f)
+        → (f : Event) → In f (x ∷ l) → IsReady node stood f → (f ≡ e) ⊎ ComesBefore e f
+    first_of_all e here later f (inl same) is = subst (λ (g : Event). (g ≡ e) ⊎ ComesBefore e g) same (here (subst (IsReady node stood) (sym same) is))
     first_of_all e here later f (inr there) is = later f there is
 
-    skip : Best problem fixings decisions stood l start → (IsReady problem fixings decisions stood x → ⊥) → Best problem fixings decisions stood (x ∷ l) start
+    skip : Best node stood l start → (IsReady node stood x → ⊥) → Best node stood (x ∷ l) start
     skip b no_ready = record { event = b.event; where_is = deeper b.event b.where_is; ready = b.ready; not_behind = b.not_behind; first = first_of_all b.event (λ is. absurd (no_ready is)) b.first }
 
     behind_start : (e : Event) → (e ≡ start) ⊎ ComesBefore e start → ComesBefore start x → ComesBefore e x
     behind_start e (inl same) before = subst (λ (g : Event). ComesBefore g x) (sym same) before
     behind_start e (inr one) before = comes_then e start x one before
 
-    alike : x ≡ start → Best problem fixings decisions stood l start → Best problem fixings decisions stood (x ∷ l) start
+    alike : x ≡ start → Best node stood l start → Best node stood (x ∷ l) start
     alike same b = record { event = b.event; where_is = deeper b.event b.where_is; ready = b.ready; not_behind = b.not_behind; first = first_of_all b.event (λ is. at b.event b.not_behind) b.first }
       where
         at : (e : Event) → (e ≡ start) ⊎ ComesBefore e start → (x ≡ e) ⊎ ComesBefore e x
         at e (inl is) = inl (same ∙ sym is)
         at e (inr before) = inr (subst (ComesBefore e) (sym same) before)
 
-    keep : ComesBefore start x → Best problem fixings decisions stood l start → Best problem fixings decisions stood (x ∷ l) start
+    keep : ComesBefore start x → Best node stood l start → Best node stood (x ∷ l) start
     keep before b = record { event = b.event; where_is = deeper b.event b.where_is; ready = b.ready; not_behind = b.not_behind; first = first_of_all b.event (λ is. inr (behind_start b.event b.not_behind before)) b.first }
 
-    take_it : ComesBefore x start → Best problem fixings decisions stood l x → Best problem fixings decisions stood (x ∷ l) start
+    take_it : ComesBefore x start → Best node stood l x → Best node stood (x ∷ l) start
     take_it before b = record { event = b.event; where_is = inr (place b.event b.where_is); ready = b.ready; not_behind = inr (to_start b.event b.not_behind); first = first_of_all b.event (λ is. to_x b.event b.not_behind) b.first }
       where
         place : (e : Event) → (e ≡ x) ⊎ In e l → In e (x ∷ l)
@@ -347,36 +348,36 @@ arrange node no_cycle (suc n) stood (x ∷ rest) long covered forced once =
               | inr h ↦ elim h [ inl same ↦ inl (in_right f stood (next.event ∷ []) (inl same)) | inr g ↦ inr (in_right f parts.front parts.back g) ]
             ]
 
-            covers : Covered problem fixings decisions (stood ++ next.event ∷ []) (parts.front ++ parts.back)
+            covers : Covered node (stood ++ next.event ∷ []) (parts.front ++ parts.back)
             covers o is = place (covered o is)
               where
                 place : ((f : Event) × (In f stood ⊎ In f (x ∷ rest)) × Starts o f) → (f : Event) × (In f (stood ++ next.event ∷ []) ⊎ In f (parts.front ++ parts.back)) × Starts o f
                 place (f, inl stands, starts) = (f, inl (in_left f stood (next.event ∷ []) stands), starts)
                 place (f, inr left, starts) = (f, moved f (subst (In f) parts.is left), starts)
 
-            from_plan : (tail : Arranged problem fixings decisions (stood ++ next.event ∷ []) (parts.front ++ parts.back)) (f : Event) → In f (next.event ∷ tail.plan) → In f (x ∷ rest)
+            from_plan : (tail : Arranged node (stood ++ next.event ∷ []) (parts.front ++ parts.back)) (f : Event) → In f (next.event ∷ tail.plan) → In f (x ∷ rest)
             from_plan tail f (inl same) = subst (λ (g : Event). In g (x ∷ rest)) same next.left
             from_plan tail f (inr there) = back_in f (tail.from f there)
 
-            in_plan : (tail : Arranged problem fixings decisions (stood ++ next.event ∷ []) (parts.front ++ parts.back)) (f : Event) → In f (parts.front ++ next.event ∷ parts.back) → In f (next.event ∷ tail.plan)
+            in_plan : (tail : Arranged node (stood ++ next.event ∷ []) (parts.front ++ parts.back)) (f : Event) → In f (parts.front ++ next.event ∷ parts.back) → In f (next.event ∷ tail.plan)
             in_plan tail f there = elim (in_either f parts.front (next.event ∷ parts.back) there) [
               | inl h ↦ inr (tail.there f (in_left f parts.front parts.back h))
               | inr h ↦ elim h [ inl same ↦ inl same | inr g ↦ inr (tail.there f (in_right f parts.front parts.back g)) ]
             ]
 
-            first_of : (tail : Arranged problem fixings decisions (stood ++ next.event ∷ []) (parts.front ++ parts.back)) (f : Event) → In f (next.event ∷ tail.plan) → IsReady problem fixings decisions stood f → (f ≡ next.event) ⊎ ComesBefore next.event f
+            first_of : (tail : Arranged node (stood ++ next.event ∷ []) (parts.front ++ parts.back)) (f : Event) → In f (next.event ∷ tail.plan) → IsReady node stood f → (f ≡ next.event) ⊎ ComesBefore next.event f
             first_of tail f (inl same) is = inl (sym same)
             first_of tail f (inr there) is = next.first f (back_in f (tail.from f there)) is
 
-            order : (tail : Arranged problem fixings decisions (stood ++ next.event ∷ []) (parts.front ++ parts.back)) (i : ℕ) (e : Event) → slice_get (next.event ∷ tail.plan) i ≡ Some e
-                → IsNext problem fixings decisions (stood ++ take i (next.event ∷ tail.plan)) (drop i (next.event ∷ tail.plan)) e
+            order : (tail : Arranged node (stood ++ next.event ∷ []) (parts.front ++ parts.back)) (i : ℕ) (e : Event) → slice_get (next.event ∷ tail.plan) i ≡ Some e
+                → IsNext node (stood ++ take i (next.event ∷ tail.plan)) (drop i (next.event ∷ tail.plan)) e
             order tail zero e at =
-                let own : IsNext problem fixings decisions stood (next.event ∷ tail.plan) next.event = record { ready = next.ready; first = λ f there is. first_of tail f (contains_in f (next.event ∷ tail.plan) there) is } in
-                subst (IsNext problem fixings decisions (stood ++ []) (next.event ∷ tail.plan)) (same_Some next.event e at)
-                (subst (λ (s : List Event). IsNext problem fixings decisions s (next.event ∷ tail.plan) next.event) (sym (nil_right stood)) own)
-            order tail (suc i) e at = subst (λ (s : List Event). IsNext problem fixings decisions s (drop i tail.plan) e) (append_assoc stood (next.event ∷ []) (take i tail.plan)) (tail.ordered i e at)
+                let own : IsNext node stood (next.event ∷ tail.plan) next.event = record { ready = next.ready; first = λ f there is. first_of tail f (contains_in f (next.event ∷ tail.plan) there) is } in
+                subst (IsNext node (stood ++ []) (next.event ∷ tail.plan)) (same_Some next.event e at)
+                (subst (λ (s : List Event). IsNext node s (next.event ∷ tail.plan) next.event) (sym (nil_right stood)) own)
+            order tail (suc i) e at = subst (λ (s : List Event). IsNext node s (drop i tail.plan) e) (append_assoc stood (next.event ∷ []) (take i tail.plan)) (tail.ordered i e at)
 
-            joined : Arranged problem fixings decisions (stood ++ next.event ∷ []) (parts.front ++ parts.back) → Arranged problem fixings decisions stood (x ∷ rest)
+            joined : Arranged node (stood ++ next.event ∷ []) (parts.front ++ parts.back) → Arranged node stood (x ∷ rest)
             joined tail = record {
               plan = next.event ∷ tail.plan;
               from = from_plan tail;

@@ -10,6 +10,7 @@ use Rattle.disp_model.specs.declared.problem.Problem.{Problem}
 use Rattle.disp_model.specs.Train.{duration_of, GoesOn, IsRoute}
 use Rattle.disp_model.specs.WellFormed.{LeadsTo, IsAcyclic}
 use Rattle.disp_model.specs.Valid.{train_at}
+use Rattle.disp_model.specs.Node.{Node}
 use Rattle.disp_model.specs.Routes.{IsForced}
 use Rattle.disp_model.specs.Arcs.{min_of, IsTrainArc, IsOrderArc, IsReleaseArc, IsArc, HasArc}
 use Rattle.disp_model.specs.Walks.{WalksOn, HasCycle}
@@ -73,15 +74,15 @@ charge_train node u v arc_length there arc =
         let way = leads_along (train_at node.problem u.train) u.op x.op (between ++ v.op ∷ behind) goes (in_front x.op between (v.op ∷ behind) later) in
         inr (record { same = train; steps = way.0; way = way.1 })
 
-    takes : (between behind : List ℕ) → GoesOn (train_at problem u.train) u.op (between ++ v.op ∷ behind) → (x : Op) → IsIn x.op (u.op ∷ between) × (u.train ≡ x.train) → TakesMin problem u v x
+    takes : (between behind : List ℕ) → GoesOn (train_at node.problem u.train) u.op (between ++ v.op ∷ behind) → (x : Op) → IsIn x.op (u.op ∷ between) × (u.train ≡ x.train) → TakesMin node.problem u v x
     takes between behind goes x at =
-        let way = leads_to_later (train_at problem u.train) u.op v.op x.op between behind goes at.0 in
-        let inside = each_within (train_at problem u.train) u.op (between ++ v.op ∷ behind) goes x.op (in_front x.op (u.op ∷ between) (v.op ∷ behind) at.0) in
+        let way = leads_to_later (train_at node.problem u.train) u.op v.op x.op between behind goes at.0 in
+        let inside = each_within (train_at node.problem u.train) u.op (between ++ v.op ∷ behind) goes x.op (in_front x.op (u.op ∷ between) (v.op ∷ behind) at.0) in
         record {
           from = from_u between behind goes x at.0 at.1;
-          past = inr (record { same = sym at.1 ∙ arc.same_train; steps = way.0; way = subst (λ (t : ℕ). LeadsTo (train_at problem t) way.0 x.op v.op) at.1 way.1 });
-          train = subst (λ (t : ℕ). t < length problem.trains) at.1 there;
-          within = subst (λ (t : ℕ). x.op < length (train_at problem t)) at.1 inside;
+          past = inr (record { same = sym at.1 ∙ arc.same_train; steps = way.0; way = subst (λ (t : ℕ). LeadsTo (train_at node.problem t) way.0 x.op v.op) at.1 way.1 });
+          train = subst (λ (t : ℕ). t < length node.problem.trains) at.1 there;
+          within = subst (λ (t : ℕ). x.op < length (train_at node.problem t)) at.1 inside;
         }
 
 charge_order : (node : Node) (u v : Op) (arc_length : ℕ) → IsForced node u → IsOrderArc node.problem node.decisions u v arc_length → Charge node u v arc_length
@@ -99,8 +100,8 @@ charge_order node u v arc_length forced arc = record {
     own x (inl same) = record { from = inl same; past = inl (sym same); train = subst (λ (o : Op). o.train < length node.problem.trains) same forced.train; within = subst (λ (o : Op). o.op < length (train_at node.problem o.train)) same (forced_within node u forced) }
     own x (inr none) = absurd none
 
-    held : (h : Op) → Among h (u ∷ []) → TakesRelease problem fixings decisions u v h
-    held h (inl same) = subst (TakesRelease problem fixings decisions u v) same (record { decided = arc.decided; conflicts = arc.conflicts; forced = forced; at = inl refl })
+    held : (h : Op) → Among h (u ∷ []) → TakesRelease node u v h
+    held h (inl same) = subst (TakesRelease node u v) same (record { decided = arc.decided; conflicts = arc.conflicts; forced = forced; at = inl refl })
     held h (inr none) = absurd none
 
 charge_release : (node : Node) (u v : Op) (arc_length : ℕ) → IsReleaseArc node u v arc_length → Charge node u v arc_length

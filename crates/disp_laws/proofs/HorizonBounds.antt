@@ -1,6 +1,6 @@
 -- No walk of a node without a cycle is longer than the horizon.
-use Rattle.std.proofs.Common.{◌≡◌, ℕ, zero, suc, ◌+◌, ◌<◌, ◌≤◌, List, [], ◌∷◌, ◌++◌, length, get_or, take, Option, Some, None, Bool, true, false, cond, refl, ap, subst, ◌∙◌, arith, inl, inr}
-use Rattle.std.specs.Prelude.{nat_eq, slice_get, MatchOption, unwrap_or, sum_by, ◌&&◌}
+use Rattle.std.proofs.Common.{◌≡◌, ℕ, zero, suc, ◌+◌, ◌<◌, ◌≤◌, List, [], ◌∷◌, ◌++◌, length, get_or, take, map, Option, Some, None, Bool, true, false, cond, refl, ap, subst, ◌∙◌, arith, inl, inr}
+use Rattle.std.specs.Prelude.{nat_eq, slice_get, MatchOption, unwrap_or, sum_by, ◌&&◌, max}
 use Rattle.std.specs.Option.{option_map_or}
 use Rattle.std.proofs.lemmas.Option.{none-some, same_Some, slice_get_within, get_or_from_slice_get}
 use Rattle.std.proofs.lemmas.List.Sums.{sum_by_more, sum_by-take-le}
@@ -8,18 +8,22 @@ use Rattle.disp_model.specs.declared.limits.TheConstants.{GREATEST_NUMBER}
 use Rattle.disp_model.specs.declared.train.Op.{Op}
 use Rattle.disp_model.specs.declared.train.Operation.{Operation}
 use Rattle.disp_model.specs.declared.fixing.Fixing.{Fixing}
-use Rattle.disp_model.specs.declared.fixing.Fixing.TheVariants.{Started, Chosen}
+use Rattle.disp_model.specs.declared.fixing.Fixing.TheVariants.{Started, Chosen, NotBefore}
+use Rattle.disp_model.specs.declared.fixing.Change.{Change}
+use Rattle.disp_model.specs.declared.fixing.Change.TheVariants.{Fix, Withdraw}
 use Rattle.disp_model.specs.declared.decision.Decision.{Decision}
 use Rattle.disp_model.specs.declared.reply.Reply.TheVariants.{Accepted, Refused}
 use Rattle.disp_model.specs.declared.reply.Refusal.TheVariants.{NoTrain, NoOperation, TooLarge}
 use Rattle.disp_model.specs.declared.problem.Problem.{Problem}
 use Rattle.disp_model.specs.WellFormed.{span_of, horizon}
+use Rattle.disp_model.specs.Changes.{standing_of, standing_from, is_withdrawn}
 use Rattle.disp_model.specs.Valid.{train_at}
+use Rattle.disp_model.specs.Node.{Node}
 use Rattle.disp_model.specs.Routes.{IsForced}
 use Rattle.disp_model.specs.Arcs.{min_of}
-use Rattle.disp_model.specs.Walks.{fixed_start, lower_of, IsWalk, HasCycle}
-use Rattle.disp_model.specs.Replies.{RepliesToStart, IsReply, IsEdition}
-use Rattle.disp_laws.proofs.Tightened.{within_row, at_least}
+use Rattle.disp_model.specs.Walks.{fixed_start, not_before, lower_of, IsWalk, HasCycle}
+use Rattle.disp_model.specs.Replies.{RepliesToStart, RepliesToEarliest, IsReply, IsEdition}
+use Rattle.disp_laws.proofs.Tightened.{within_row, at_least, by_place}
 use Rattle.disp_laws.proofs.LongestWalks.{Among, Once, EachAmong, cut, each_cut_out, among_all_ops, all_ops_up_to, ops_up_to, all_ops, forced_among}
 use Rattle.disp_laws.proofs.Charges.{sum_ops, most_released}
 use Rattle.disp_laws.proofs.Horizon.{walk_charge, sum_append}
@@ -85,29 +89,62 @@ trains_sum problem (suc n) le =
 
 -- ---- lowers are within the greatest number
 
-fixed_found : (fixings : List Fixing) (o : Op) (time : ℕ) → fixed_start fixings o ≡ Some time → (i : ℕ) × (t : ℕ) × (p : ℕ) × (slice_get fixings i ≡ Some (Started t p time))
-fixed_found [] o time at = absurd (none-some time at)
-fixed_found (Chosen t p next ∷ fixings) o time at = let later = fixed_found fixings o time at in (suc later.0, later.1, later.2, later.3)
-fixed_found (Started t p s ∷ fixings) o time at = here ((nat_eq t o.train) && (nat_eq p o.op)) at (λ h. fixed_found fixings o time h)
+-- the times of a fixing are within the limit
+abbrev pub IsSmall : Fixing → Type 0
+IsSmall (Started t o time) = time ≤ GREATEST_NUMBER
+IsSmall (Chosen t o next) = Unit {0}
+IsSmall (NotBefore t o time) = time ≤ GREATEST_NUMBER
+
+abbrev pub AreSmall : List Fixing → Type 0
+AreSmall [] = Unit {0}
+AreSmall (fixing ∷ fixings) = IsSmall fixing × AreSmall fixings
+
+each_standing_is_small : (all changes : List Change) (number : ℕ) → ((i : ℕ) (fixing : Fixing) → slice_get changes i ≡ Some (Fix fixing) → IsSmall fixing) → AreSmall (map (λ p. p.1) (standing_from all number changes))
+each_standing_is_small all [] number each = tt
+each_standing_is_small all (Withdraw other ∷ changes) number each = each_standing_is_small all changes (number + 1) (λ i fixing at. each (suc i) fixing at)
+each_standing_is_small all (Fix fixing ∷ changes) number each = here (is_withdrawn number all) (each_standing_is_small all changes (number + 1) (λ i other at. each (suc i) other at))
   where
-    here : (b : Bool) → cond b (Some s) (fixed_start fixings o) ≡ Some time → (fixed_start fixings o ≡ Some time → (i : ℕ) × (t : ℕ) × (p : ℕ) × (slice_get fixings i ≡ Some (Started t p time)))
-        → (i : ℕ) × (u : ℕ) × (q : ℕ) × (slice_get (Started t p s ∷ fixings) i ≡ Some (Started u q time))
-    here true at later = (0, t, p, ap (λ (n : ℕ). Some (Started t p n)) (same_Some s time at))
-    here false at later = let found = later at in (suc found.0, found.1, found.2, found.3)
+    here : (b : Bool) → AreSmall (map (λ p. p.1) (standing_from all (number + 1) changes))
+        → AreSmall (map (λ p. p.1) (cond b (standing_from all (number + 1) changes) ((number, fixing) ∷ standing_from all (number + 1) changes)))
+    here true later = later
+    here false later = (each 0 fixing refl, later)
 
-accepted_small : (problem : Problem) (fixings : List Fixing) (t o time n : ℕ) → IsReply problem fixings (Started t o time) (Accepted n) → time ≤ GREATEST_NUMBER
-accepted_small problem fixings t o time n reply = by_train (slice_get problem.trains t) reply
+accepted_is_small : (problem : Problem) (changes : List Change) (fixing : Fixing) (n : ℕ) → IsReply problem changes (Fix fixing) (Accepted n) → IsSmall fixing
+accepted_is_small problem changes (Started t o time) n reply =
+    let found = by_place problem t o (Accepted n) (λ operation. RepliesToStart problem changes t o time operation (Accepted n)) (λ e. absurd cc) (λ e. absurd cc) reply in
+    at_least time GREATEST_NUMBER (within_row (Refused TooLarge) n (λ e. absurd cc) found.2).0
+accepted_is_small problem changes (Chosen t o next) n reply = tt
+accepted_is_small problem changes (NotBefore t o time) n reply =
+    let found = by_place problem t o (Accepted n) (λ operation. RepliesToEarliest changes t o time (Accepted n)) (λ e. absurd cc) (λ e. absurd cc) reply in
+    at_least time GREATEST_NUMBER (within_row (Refused TooLarge) n (λ e. absurd cc) found.2).0
+
+-- the times of an edition's fixings are within the limit
+pub edition_is_small : (problem : Problem) (changes : List Change) → IsEdition problem changes → AreSmall (standing_of changes)
+edition_is_small problem changes edition =
+    each_standing_is_small changes changes 1 (λ i fixing at. accepted_is_small problem (take i changes) fixing (i + 1) (edition i (Fix fixing) at))
+
+fixed_is_small : (fixings : List Fixing) (o : Op) (time : ℕ) → AreSmall fixings → fixed_start fixings o ≡ Some time → time ≤ GREATEST_NUMBER
+fixed_is_small [] o time small at = absurd (none-some time at)
+fixed_is_small (Chosen t p next ∷ fixings) o time small at = fixed_is_small fixings o time small.1 at
+fixed_is_small (NotBefore t p s ∷ fixings) o time small at = fixed_is_small fixings o time small.1 at
+fixed_is_small (Started t p s ∷ fixings) o time small at = here ((nat_eq t o.train) && (nat_eq p o.op)) at (λ h. fixed_is_small fixings o time small.1 h)
   where
-    by_operation : (found : Option Operation) → MatchOption found (Accepted n ≡ Refused NoOperation) (λ operation. RepliesToStart problem fixings t o time operation (Accepted n)) → time ≤ GREATEST_NUMBER
-    by_operation None reply = absurd cc
-    by_operation (Some p) reply = at_least time GREATEST_NUMBER (within_row (Refused TooLarge) n (λ e. absurd cc) reply).0
+    here : (b : Bool) → cond b (Some s) (fixed_start fixings o) ≡ Some time → (fixed_start fixings o ≡ Some time → time ≤ GREATEST_NUMBER) → time ≤ GREATEST_NUMBER
+    here true at later = omega (arith, small.0, same_Some s time at)
+    here false at later = later at
 
-    by_train : (found : Option (List Operation)) → MatchOption found (Accepted n ≡ Refused NoTrain) (λ train. MatchOption (slice_get train o) (Accepted n ≡ Refused NoOperation) (λ operation. RepliesToStart problem fixings t o time operation (Accepted n))) → time ≤ GREATEST_NUMBER
-    by_train None reply = absurd cc
-    by_train (Some train) reply = by_operation (slice_get train o) reply
+not_before_is_small : (fixings : List Fixing) (o : Op) → AreSmall fixings → not_before fixings o ≤ GREATEST_NUMBER
+not_before_is_small [] o small = omega arith
+not_before_is_small (Started t p s ∷ fixings) o small = not_before_is_small fixings o small.1
+not_before_is_small (Chosen t p next ∷ fixings) o small = not_before_is_small fixings o small.1
+not_before_is_small (NotBefore t p s ∷ fixings) o small = here ((nat_eq t o.train) && (nat_eq p o.op)) (not_before_is_small fixings o small.1)
+  where
+    here : (b : Bool) → not_before fixings o ≤ GREATEST_NUMBER → cond b (max s (not_before fixings o)) (not_before fixings o) ≤ GREATEST_NUMBER
+    here true later = omega (arith, small.0, later)
+    here false later = later
 
-lower_within : (node : Node) (o : Op) → IsEdition node.problem node.fixings → IsForced node o → lower_of node.problem node.fixings o ≤ GREATEST_NUMBER
-lower_within node o edition forced = by_fixed (fixed_start node.fixings o) refl
+lower_within : (node : Node) (o : Op) → AreSmall node.fixings → IsForced node o → lower_of node.problem node.fixings o ≤ GREATEST_NUMBER
+lower_within node o small forced = by_fixed (fixed_start node.fixings o) refl
   where
     own : (found : Option Operation) → slice_get (train_at node.problem o.train) o.op ≡ found → option_map_or (λ p. p.lower) found 0 ≤ GREATEST_NUMBER
     own None at = omega arith
@@ -116,21 +153,20 @@ lower_within node o edition forced = by_fixed (fixed_start node.fixings o) refl
         let same : get_or (train_at node.problem o.train) o.op p ≡ p = get_or_from_slice_get (train_at node.problem o.train) o.op p p at in
         subst (λ (q : Operation). q.lower ≤ GREATEST_NUMBER) same fits.lower
 
-    by_fixed : (fixed : Option ℕ) → fixed_start fixings o ≡ fixed → unwrap_or fixed (option_map_or (λ p. p.lower) (slice_get (train_at problem o.train) o.op) 0) ≤ GREATEST_NUMBER
-    by_fixed None at = own (slice_get (train_at problem o.train) o.op) refl
-    by_fixed (Some time) at =
-        let found = fixed_found fixings o time at in
-        accepted_small problem (take found.0 fixings) found.1 found.2 time (found.0 + 1) (edition found.0 (Started found.1 found.2 time) found.3)
+    by_fixed : (fixed : Option ℕ) → fixed_start node.fixings o ≡ fixed
+        → unwrap_or fixed (max (option_map_or (λ p. p.lower) (slice_get (train_at node.problem o.train) o.op) 0) (not_before node.fixings o)) ≤ GREATEST_NUMBER
+    by_fixed None at = omega (arith, own (slice_get (train_at node.problem o.train) o.op) refl, not_before_is_small node.fixings o small)
+    by_fixed (Some time) at = fixed_is_small node.fixings o time small at
 
 -- ---- the horizon
 
-pub within_horizon : (node : Node) (walk : List Op) (total : ℕ) → IsEdition node.problem node.fixings → (HasCycle node → ⊥) → IsWalk node walk total → total ≤ horizon node.problem.trains
+pub within_horizon : (node : Node) (walk : List Op) (total : ℕ) → AreSmall node.fixings → (HasCycle node → ⊥) → IsWalk node walk total → total ≤ horizon node.problem.trains
 unfolding all_ops span_at
-within_horizon node [] total edition no_cycle walk = absurd walk
-within_horizon node (u ∷ rest) total edition no_cycle walk =
+within_horizon node [] total small no_cycle walk = absurd walk
+within_horizon node (u ∷ rest) total small no_cycle walk =
     let n = length node.problem.trains in
     let charge = walk_charge node no_cycle u (lower_of node.problem node.fixings u) rest total walk.1 in
     let mins = sum_once (min_of node.problem) charge.mins (all_ops node.problem) charge.mins_once (each_among charge.mins (all_ops node.problem) (λ x there. let inside = charge.mins_inside x there in among_all_ops node.problem x n inside.0 inside.1)) in
     let releases = sum_once (most_released node.problem) charge.releases (all_ops node.problem) charge.releases_once (each_among charge.releases (all_ops node.problem) (λ h there. forced_among node h (charge.releases_forced h there))) in
-    let lower = lower_within node u edition walk.0 in
+    let lower = lower_within node u small walk.0 in
     omega (arith, charge.enough, mins, releases, lower, sum_two (min_of node.problem) (most_released node.problem) (all_ops node.problem), trains_sum node.problem n (omega arith), sum_by-take-le (λ train. sum_by span_of train) node.problem.trains n)

@@ -11,6 +11,7 @@ use Rattle.disp_model.specs.declared.problem.Problem.{Problem}
 use Rattle.disp_model.specs.Train.{duration_of, GoesOn, IsRoute}
 use Rattle.disp_model.specs.WellFormed.{LeadsTo, IsAcyclic}
 use Rattle.disp_model.specs.Valid.{train_at}
+use Rattle.disp_model.specs.Node.{Node, with_fixings}
 use Rattle.disp_model.specs.Routes.{IsAllowed, IsForced}
 use Rattle.disp_model.specs.Arcs.{Passes, IsTrainArc}
 use Rattle.disp_laws.proofs.Paths.{IsIn, is_in, leads_along, in_middle, leads_to_later}
@@ -151,11 +152,11 @@ train_arc_exists node u v n same leads one other = from_list (allowed_routes nod
         passes_both (train_at node.problem u.train) route u.op v.op n (node.problem.well_formed.acyclic u.train [] one.train) allowed.is_route leads (is_in u.op route (one.each_has route allowed))
         (is_in v.op route (other.each_has route (subst (λ (t : ℕ). IsAllowed node t route) same allowed)))
 
-    from_least : (routes : List (List ℕ)) → ((route : List ℕ) → IsAllowed problem fixings decisions u.train route → Contains routes route) → ((route : List ℕ) → Contains routes route → IsAllowed problem fixings decisions u.train route)
-        → IsLeastOf (sum_from (train_at problem u.train) u.op v.op) routes → (arc_length : ℕ) × IsTrainArc problem fixings decisions u v arc_length
+    from_least : (routes : List (List ℕ)) → ((route : List ℕ) → IsAllowed node u.train route → Contains routes route) → ((route : List ℕ) → Contains routes route → IsAllowed node u.train route)
+        → IsLeastOf (sum_from (train_at node.problem u.train) u.op v.op) routes → (arc_length : ℕ) × IsTrainArc node u v arc_length
     from_least routes each only best =
-        let train = train_at problem u.train in
-        let acyclic = problem.well_formed.acyclic u.train [] one.train in
+        let train = train_at node.problem u.train in
+        let acyclic = node.problem.well_formed.acyclic u.train [] one.train in
         let allowed = only best.route best.there in
         let passes = has_both best.route allowed in (
           passes.0,
@@ -166,15 +167,15 @@ train_arc_exists node u v n same leads one other = from_list (allowed_routes nod
           },
         )
 
-    from_routes : (routes : List (List ℕ)) → ((route : List ℕ) → IsAllowed problem fixings decisions u.train route → Contains routes route) → ((route : List ℕ) → Contains routes route → IsAllowed problem fixings decisions u.train route)
-        → (arc_length : ℕ) × IsTrainArc problem fixings decisions u v arc_length
+    from_routes : (routes : List (List ℕ)) → ((route : List ℕ) → IsAllowed node u.train route → Contains routes route) → ((route : List ℕ) → Contains routes route → IsAllowed node u.train route)
+        → (arc_length : ℕ) × IsTrainArc node u v arc_length
     from_routes [] each only = absurd (nowhere one.allowed.0 (each one.allowed.0 one.allowed.1))
       where
         nowhere : (route : List ℕ) → Contains [] route → ⊥
         nowhere route (k, lt, e) = omega arith
-    from_routes (first ∷ routes) each only = from_least (first ∷ routes) each only (least_of (sum_from (train_at problem u.train) u.op v.op) first routes)
+    from_routes (first ∷ routes) each only = from_least (first ∷ routes) each only (least_of (sum_from (train_at node.problem u.train) u.op v.op) first routes)
 
-    from_list : IsListed problem fixings decisions u.train → (arc_length : ℕ) × IsTrainArc problem fixings decisions u v arc_length
+    from_list : IsListed node u.train → (arc_length : ℕ) × IsTrainArc node u v arc_length
     from_list listed = from_routes listed.routes listed.each listed.only
 
 -- with more fixings an arc in a train stays, and is no shorter, where both ends are still forced

@@ -1,27 +1,27 @@
 -- With an accepted fixing added a leaf that holds still holds, and an accepted tree is still accepted.
-use Rattle.std.proofs.Common.{◌≡◌, ℕ, zero, suc, ◌+◌, ◌<◌, ◌≤◌, List, [], ◌∷◌, ◌++◌, length, map, refl, subst, arith, inl, inr}
+use Rattle.std.proofs.Common.{◌≡◌, ℕ, zero, suc, ◌+◌, ◌<◌, ◌≤◌, List, [], ◌∷◌, ◌++◌, length, map, refl, sym, ap, subst, ◌∙◌, arith, inl, inr}
 use Rattle.std.specs.Prelude.{◌⊎◌}
 use Rattle.std.proofs.lemmas.Bool.{cases_lt}
+use Rattle.std.proofs.lemmas.List.{map-append}
 use Rattle.disp_model.specs.declared.train.Op.{Op}
 use Rattle.disp_model.specs.declared.fixing.Fixing.{Fixing}
 use Rattle.disp_model.specs.declared.decision.Decision.{Decision}
-use Rattle.disp_model.specs.declared.reply.Reply.TheVariants.{Accepted}
 use Rattle.disp_model.specs.declared.tree.ComponentWalk.{ComponentWalk}
 use Rattle.disp_model.specs.declared.tree.Leaf.{Leaf as TreeLeaf}
-use Rattle.disp_model.specs.declared.tree.Leaf.TheVariants.{NoRoute, Cycle, Late, Costs}
+use Rattle.disp_model.specs.declared.tree.Leaf.TheVariants.{NoRoute, Cycle, Late, Costs, Shares}
 use Rattle.disp_model.specs.declared.tree.TreeNode.{TreeNode}
 use Rattle.disp_model.specs.declared.tree.TreeNode.TheVariants.{Branch, Leaf}
 use Rattle.disp_model.specs.declared.tree.Verdict.{Verdict}
 use Rattle.disp_model.specs.declared.tree.Verdict.TheVariants.{Optimal, Infeasible}
 use Rattle.disp_model.specs.declared.problem.Problem.{Problem}
 use Rattle.disp_model.specs.Cost.{cost_at}
+use Rattle.disp_model.specs.Node.{Node, root_of, with_decision, with_fixings}
 use Rattle.disp_model.specs.Routes.{HasRoute, HasNoRoute}
 use Rattle.disp_model.specs.Arcs.{IsArc, IsLongestArc}
 use Rattle.disp_model.specs.Walks.{lower_of, WalksOn, IsWalk, ClosesTo, IsCycle}
 use Rattle.disp_model.specs.Trees.{IsLateWalk, WalkCosts, WalksCost, ReachVerdict, Shows, LeafHolds, children_of, Fills, Accepts}
-use Rattle.disp_model.specs.Replies.{IsReply}
 use Rattle.disp_laws.proofs.Costs.{costs_grow}
-use Rattle.disp_laws.proofs.Tightened.{still_forced, still_none, release_arc_stays, lower_grows, upper_falls}
+use Rattle.disp_laws.proofs.Tightened.{Tightens, still_forced, still_none, release_arc_stays}
 use Rattle.disp_laws.proofs.RouteSearch.{Decided, has_route_or_not}
 use Rattle.disp_laws.proofs.LeastSums.{train_arc_stays}
 use Rattle.disp_laws.proofs.LongestArcs.{longest_arc}
@@ -94,70 +94,100 @@ walks_on_stays node more all u (v ∷ rest) walked total later walk le =
     let on = walks_on_stays node more all v rest (walked + walk.0) total (later + arc.0) walk.2 (omega (arith, le, arc.2)) in
     (on.0, (arc.0, arc.1, on.1), on.2)
 
-walk_stays : (node : Node) (fixing : Fixing) (number : ℕ) (walk : List Op) (total : ℕ) → IsReply node.problem node.fixings fixing (Accepted number) → HaveRoutes (with_fixings node (fixing ∷ []))
-    → IsWalk node walk total → (new : ℕ) × IsWalk (with_fixings node (fixing ∷ [])) walk new × (total ≤ new)
-walk_stays node fixing number [] total reply all walk = absurd walk
-walk_stays node fixing number (u ∷ rest) total reply all walk =
-    let forced = still_forced node.problem node.fixings (fixing ∷ []) node.decisions u walk.0 (all u.train walk.0.train) in
-    let on = walks_on_stays node.problem node.fixings (fixing ∷ []) node.decisions all u rest (lower_of node.problem node.fixings u) total (lower_of node.problem (node.fixings ++ fixing ∷ []) u) walk.1 (lower_grows node.problem node.fixings fixing number u reply) in
+walk_stays : (node : Node) (more : List Fixing) (walk : List Op) (total : ℕ) → Tightens node.problem node.fixings more → HaveRoutes (with_fixings node more)
+    → IsWalk node walk total → (new : ℕ) × IsWalk (with_fixings node more) walk new × (total ≤ new)
+walk_stays node more [] total tightens all walk = absurd walk
+walk_stays node more (u ∷ rest) total tightens all walk =
+    let forced = still_forced node more u walk.0 (all u.train walk.0.train) in
+    let on = walks_on_stays node more all u rest (lower_of node.problem node.fixings u) total (lower_of node.problem (node.fixings ++ more) u) walk.1 (tightens.lowers u) in
     (on.0, (forced, on.1), on.2)
 
-late_stays : (node : Node) (fixing : Fixing) (number : ℕ) (walk : List Op) → IsReply node.problem node.fixings fixing (Accepted number) → HaveRoutes (with_fixings node (fixing ∷ []))
-    → IsLateWalk node walk → IsLateWalk (with_fixings node (fixing ∷ [])) walk
-late_stays node fixing number walk reply all late =
-    let new = walk_stays node fixing number walk late.total reply all late.is_walk in
-    let upper = upper_falls node.problem node.fixings fixing number late.end late.upper reply late.upper_is in
+late_stays : (node : Node) (more : List Fixing) (walk : List Op) → Tightens node.problem node.fixings more → HaveRoutes (with_fixings node more)
+    → IsLateWalk node walk → IsLateWalk (with_fixings node more) walk
+late_stays node more walk tightens all late =
+    let new = walk_stays node more walk late.total tightens all late.is_walk in
+    let upper = tightens.uppers late.end late.upper late.upper_is in
     record { end = late.end; ends = late.ends; total = new.0; is_walk = new.1; upper = upper.0; upper_is = upper.1; late = omega (arith, late.late, new.2, upper.2) }
 
-walks_cost_stay : (node : Node) (fixing : Fixing) (number : ℕ) → IsReply node.problem node.fixings fixing (Accepted number) → HaveRoutes (with_fixings node (fixing ∷ []))
-    → (walks : List ComponentWalk) (sum : ℕ) → WalksCost node walks sum → (new : ℕ) × WalksCost (with_fixings node (fixing ∷ [])) walks new × (sum ≤ new)
-walks_cost_stay node fixing number reply all [] sum adds = (0, refl, omega (arith, adds))
-walks_cost_stay node fixing number reply all (w ∷ walks) sum adds =
+walks_cost_stay : (node : Node) (more : List Fixing) → Tightens node.problem node.fixings more → HaveRoutes (with_fixings node more)
+    → (walks : List ComponentWalk) (sum : ℕ) → WalksCost node walks sum → (new : ℕ) × WalksCost (with_fixings node more) walks new × (sum ≤ new)
+walks_cost_stay node more tightens all [] sum adds = (0, refl, omega (arith, adds))
+walks_cost_stay node more tightens all (w ∷ walks) sum adds =
     let old = adds.2 in
-    let walk = walk_stays node fixing number w.walk old.total reply all old.is_walk in
+    let walk = walk_stays node more w.walk old.total tightens all old.is_walk in
     let cost = cost_at old.component walk.0 in
-    let rest = walks_cost_stay node fixing number reply all walks adds.1 adds.3 in
-    let new : WalkCosts (with_fixings node (fixing ∷ [])) w cost =
+    let rest = walks_cost_stay node more tightens all walks adds.1 adds.3 in
+    let new : WalkCosts (with_fixings node more) w cost =
     record { component = old.component; there = old.there; ends = old.ends; total = walk.0; is_walk = walk.1; cost_is = refl } in
     (cost + rest.0, (cost, rest.0, new, rest.1, refl), omega (arith, adds.4, old.cost_is, costs_grow old.component old.total walk.0 walk.2, rest.2))
 
 -- ---- leaves
 
-reach_stays : (node : Node) (fixing : Fixing) (number : ℕ) (verdict : Verdict) (walks : List ComponentWalk) → IsReply node.problem node.fixings fixing (Accepted number) → HaveRoutes (with_fixings node (fixing ∷ []))
-    → ReachVerdict node verdict walks → ReachVerdict (with_fixings node (fixing ∷ [])) verdict walks
-reach_stays node fixing number (Optimal cost) walks reply all enough =
-    let new = walks_cost_stay node fixing number reply all walks enough.sum enough.sum_is in
+reach_stays : (node : Node) (more : List Fixing) (verdict : Verdict) (walks : List ComponentWalk) → Tightens node.problem node.fixings more → HaveRoutes (with_fixings node more)
+    → ReachVerdict node verdict walks → ReachVerdict (with_fixings node more) verdict walks
+reach_stays node more (Optimal cost) walks tightens all enough =
+    let new = walks_cost_stay node more tightens all walks enough.sum enough.sum_is in
     record { distinct = enough.distinct; sum = new.0; sum_is = new.1; enough = omega (arith, enough.enough, new.2) }
-reach_stays node fixing number Infeasible walks reply all enough = enough
+reach_stays node more Infeasible walks tightens all enough = enough
 
-shows_stay : (node : Node) (fixing : Fixing) (number : ℕ) (verdict : Verdict) (leaf : TreeLeaf) → IsReply node.problem node.fixings fixing (Accepted number) → HaveRoutes (with_fixings node (fixing ∷ []))
-    → Shows node verdict leaf → Shows (with_fixings node (fixing ∷ [])) verdict leaf
-shows_stay node fixing number verdict NoRoute reply all shown = shown
-shows_stay node fixing number verdict (Cycle nodes) reply all shown = cycle_stays node.problem node.fixings (fixing ∷ []) node.decisions nodes all shown
-shows_stay node fixing number verdict (Late walk) reply all shown = late_stays node fixing number walk reply all shown
-shows_stay node fixing number verdict (Costs walks) reply all shown = reach_stays node fixing number verdict walks reply all shown
+shows_stay : (node : Node) (more : List Fixing) (verdict : Verdict) (leaf : TreeLeaf) → Tightens node.problem node.fixings more → HaveRoutes (with_fixings node more)
+    → Shows node verdict leaf → Shows (with_fixings node more) verdict leaf
+shows_stay node more verdict NoRoute tightens all shown = shown
+shows_stay node more verdict (Cycle nodes) tightens all shown = cycle_stays node more nodes all shown
+shows_stay node more verdict (Late walk) tightens all shown = late_stays node more walk tightens all shown
+shows_stay node more verdict (Costs walks) tightens all shown = reach_stays node more verdict walks tightens all shown
+shows_stay node more verdict (Shares walks trains) tightens all shown = ?
 
-pub leaf_stays : (node : Node) (fixing : Fixing) (number : ℕ) (verdict : Verdict) (leaf : TreeLeaf) → IsReply node.problem node.fixings fixing (Accepted number)
-    → LeafHolds node verdict leaf → LeafHolds (with_fixings node (fixing ∷ [])) verdict leaf
-leaf_stays node fixing number verdict leaf reply holds = elim holds [
-  | inl none ↦ inl (still_none node.problem node.fixings (fixing ∷ []) node.decisions none)
-  | inr shown ↦ elim (routes_or_none (with_fixings node (fixing ∷ []))) [
+pub leaf_stays : (node : Node) (more : List Fixing) (verdict : Verdict) (leaf : TreeLeaf) → Tightens node.problem node.fixings more
+    → LeafHolds node verdict leaf → LeafHolds (with_fixings node more) verdict leaf
+leaf_stays node more verdict leaf tightens holds = elim holds [
+  | inl none ↦ inl (still_none node more none)
+  | inr shown ↦ elim (routes_or_none (with_fixings node more)) [
     | inl none ↦ inl none
-    | inr all ↦ inr (shows_stay node fixing number verdict leaf reply all shown)
+    | inr all ↦ inr (shows_stay node more verdict leaf tightens all shown)
   ]
 ]
 
 -- ---- trees
 
-fills_stays : (problem : Problem) (fixings : List Fixing) (fixing : Fixing) (number : ℕ) (verdict : Verdict) → IsReply problem fixings fixing (Accepted number)
-    → (tree : List TreeNode) (places : List (List Decision)) → Fills problem fixings verdict places tree → Fills problem (fixings ++ fixing ∷ []) verdict places tree
-fills_stays problem fixings fixing number verdict reply [] [] fills = fills
-fills_stays problem fixings fixing number verdict reply [] (decisions ∷ places) fills = fills
-fills_stays problem fixings fixing number verdict reply (node ∷ tree) [] fills = fills
-fills_stays problem fixings fixing number verdict reply (Leaf leaf ∷ tree) (decisions ∷ places) fills =
-    (leaf_stays problem fixings fixing number decisions verdict leaf reply fills.0, fills_stays problem fixings fixing number verdict reply tree places fills.1)
-fills_stays problem fixings fixing number verdict reply (Branch choice children ∷ tree) (decisions ∷ places) fills =
-    (fills.0, fills.1, fills_stays problem fixings fixing number verdict reply tree (map (λ d. decisions ++ d ∷ []) (children_of problem choice) ++ places) fills.2)
+-- the same places with more fixings
+abbrev tightened : List Fixing → List Node → List Node
+tightened more places = map (λ node. with_fixings node more) places
 
-pub tree_stays : (problem : Problem) (fixings : List Fixing) (fixing : Fixing) (number : ℕ) (verdict : Verdict) (tree : List TreeNode) → IsReply problem fixings fixing (Accepted number) → Accepts problem fixings verdict tree → Accepts problem (fixings ++ fixing ∷ []) verdict tree
-tree_stays problem fixings fixing number verdict tree reply accepts = fills_stays problem fixings fixing number verdict reply tree ([] ∷ []) accepts
+children_tightened : (node : Node) (more : List Fixing) (children : List Decision) → map (with_decision (with_fixings node more)) children ≡ tightened more (map (with_decision node) children)
+children_tightened node more [] = refl
+children_tightened node more (child ∷ children) = ap (λ (l : List Node). with_decision (with_fixings node more) child ∷ l) (children_tightened node more children)
+
+-- the place is of the problem with the fixings
+pub record IsOf (of_problem : Problem) (of_fixings : List Fixing) (node : Node) : Type 0 where
+  pub problem : node.problem ≡ of_problem
+  pub fixings : node.fixings ≡ of_fixings
+
+abbrev AreOf : Problem → List Fixing → List Node → Type 0
+AreOf problem fixings [] = Unit {0}
+AreOf problem fixings (node ∷ places) = IsOf problem fixings node × AreOf problem fixings places
+
+each_below : (problem : Problem) (fixings : List Fixing) (node : Node) → IsOf problem fixings node → (children : List Decision) (places : List Node) → AreOf problem fixings places
+    → AreOf problem fixings (map (with_decision node) children ++ places)
+each_below problem fixings node has [] places each = each
+each_below problem fixings node has (child ∷ children) places each = (record { problem = has.problem; fixings = has.fixings }, each_below problem fixings node has children places each)
+
+fills_stays : (problem : Problem) (fixings more : List Fixing) (verdict : Verdict) → Tightens problem fixings more
+    → (tree : List TreeNode) (places : List Node) → AreOf problem fixings places → Fills verdict places tree → Fills verdict (tightened more places) tree
+fills_stays problem fixings more verdict tightens [] [] each fills = fills
+fills_stays problem fixings more verdict tightens [] (node ∷ places) each fills = fills
+fills_stays problem fixings more verdict tightens (top ∷ tree) [] each fills = fills
+fills_stays problem fixings more verdict tightens (Leaf leaf ∷ tree) (node ∷ places) each fills =
+    (leaf_stays node more verdict leaf (own each.0) fills.0, fills_stays problem fixings more verdict tightens tree places each.1 fills.1)
+  where
+    own : IsOf problem fixings node → Tightens node.problem node.fixings more
+    own has = subst (λ (p : Problem). Tightens p node.fixings more) (sym has.problem) (subst (λ (f : List Fixing). Tightens problem f more) (sym has.fixings) tightens)
+fills_stays problem fixings more verdict tightens (Branch choice children ∷ tree) (node ∷ places) each fills =
+    let below = map (with_decision node) (children_of node.problem choice) in
+    let later = fills_stays problem fixings more verdict tightens tree (below ++ places) (each_below problem fixings node each.0 (children_of node.problem choice) places each.1) fills.2 in
+    let joined : tightened more (below ++ places) ≡ map (with_decision (with_fixings node more)) (children_of node.problem choice) ++ tightened more places =
+    map-append (λ n. with_fixings n more) below places ∙ ap (λ (l : List Node). l ++ tightened more places) (sym (children_tightened node more (children_of node.problem choice))) in
+    (fills.0, fills.1, subst (λ (l : List Node). Fills verdict l tree) joined later)
+
+pub tree_stays : (problem : Problem) (fixings more : List Fixing) (verdict : Verdict) (tree : List TreeNode) → Tightens problem fixings more → Accepts problem fixings verdict tree → Accepts problem (fixings ++ more) verdict tree
+tree_stays problem fixings more verdict tree tightens accepts = fills_stays problem fixings more verdict tightens tree (root_of problem fixings ∷ []) (record { problem = refl; fixings = refl }, tt) accepts

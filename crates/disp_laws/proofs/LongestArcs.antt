@@ -7,11 +7,12 @@ use Rattle.disp_model.specs.declared.train.Listing.{Listing}
 use Rattle.disp_model.specs.declared.train.Operation.{Operation}
 use Rattle.disp_model.specs.declared.fixing.Fixing.{Fixing}
 use Rattle.disp_model.specs.declared.decision.Decision.{Decision}
-use Rattle.disp_model.specs.declared.decision.Decision.TheVariants.{Go, First}
+use Rattle.disp_model.specs.declared.decision.Decision.TheVariants.{Go, First, Run, Skip}
 use Rattle.disp_model.specs.declared.problem.Problem.{Problem}
 use Rattle.disp_model.specs.Train.{duration_of}
 use Rattle.disp_model.specs.Valid.{train_at}
 use Rattle.disp_model.specs.Fixing.{after}
+use Rattle.disp_model.specs.Node.{Node}
 use Rattle.disp_model.specs.Routes.{IsAllowed, IsForced}
 use Rattle.disp_model.specs.Arcs.{listings_of, shared_listings, Conflicts, release_of, min_of, Passes, IsTrainArc, IsOrderArc, GoesTo, IsReleaseArc, IsArc, IsLongestArc}
 use Rattle.disp_laws.proofs.Paths.{IsIn, is_in, in_or_not, in_middle}
@@ -144,14 +145,20 @@ conflicts_or_not problem a b = elim (both (denied (same_number a.train b.train))
 -- the decision has its second operation there
 abbrev IsOrder : Op → Op → Decision → Type 0
 IsOrder a b (Go o next) = ⊥
+IsOrder a b (Run o) = ⊥
+IsOrder a b (Skip o) = ⊥
 IsOrder a b (First c d) = (c ≡ a) × (d ≡ b)
 
 is_order_or_not : (a b : Op) (decision : Decision) → Decided (IsOrder a b decision)
 is_order_or_not a b (Go o next) = inr (λ h. h)
+is_order_or_not a b (Run o) = inr (λ h. h)
+is_order_or_not a b (Skip o) = inr (λ h. h)
 is_order_or_not a b (First c d) = both (same_op_or_not c a) (same_op_or_not d b)
 
 order_is : (a b : Op) (decision : Decision) → IsOrder a b decision → decision ≡ First a b
 order_is a b (Go o next) is = absurd is
+order_is a b (Run o) is = absurd is
+order_is a b (Skip o) is = absurd is
 order_is a b (First c d) is = ap (λ (x : Op). First x d) is.0 ∙ ap (λ (x : Op). First a x) is.1
 
 decided_or_not : (decisions : List Decision) (a b : Op) → Decided (Contains decisions (First a b))
@@ -173,11 +180,15 @@ goes_to_or_not node a n there =
 -- the decision gives an arc of this length from what follows its first operation
 abbrev Gives : Node → Op → Op → ℕ → Decision → Type 0
 Gives node n b arc_length (Go o next) = ⊥
+Gives node n b arc_length (Run o) = ⊥
+Gives node n b arc_length (Skip o) = ⊥
 Gives node n b arc_length (First h c) =
     (c ≡ b) × (IsForced node h × (Conflicts node.problem h b × (GoesTo node h n × (arc_length ≡ release_of node.problem h b))))
 
 gives_or_not : (node : Node) (n b : Op) (arc_length : ℕ) (decision : Decision) → Decided (Gives node n b arc_length decision)
 gives_or_not node n b arc_length (Go o next) = inr (λ h. h)
+gives_or_not node n b arc_length (Run o) = inr (λ h. h)
+gives_or_not node n b arc_length (Skip o) = inr (λ h. h)
 gives_or_not node n b arc_length (First h c) = elim (is_forced_or_not node h) [
   | inr not ↦ inr (λ is. not is.1.0)
   | inl forced ↦ both (same_op_or_not c b) (both (inl forced) (both (conflicts_or_not node.problem h b) (both (goes_to_or_not node h n forced.train) (same_number arc_length (release_of node.problem h b)))))
@@ -185,6 +196,8 @@ gives_or_not node n b arc_length (First h c) = elim (is_forced_or_not node h) [
 
 gives_arc : (node : Node) (n b : Op) (arc_length : ℕ) (decision : Decision) → Contains node.decisions decision → Gives node n b arc_length decision → IsReleaseArc node n b arc_length
 gives_arc node n b arc_length (Go o next) there gives = absurd gives
+gives_arc node n b arc_length (Run o) there gives = absurd gives
+gives_arc node n b arc_length (Skip o) there gives = absurd gives
 gives_arc node n b arc_length (First h c) there gives = record {
   holder = h;
   decided = subst (λ (x : Op). Contains node.decisions (First h x)) gives.0 there;
@@ -220,6 +233,8 @@ arc_or_not node u v n = elim (both (is_forced_or_not node u) (is_forced_or_not n
 -- what the decisions release at most
 released_by : Problem → Op → Decision → ℕ
 released_by problem b (Go o next) = 0
+released_by problem b (Run o) = 0
+released_by problem b (Skip o) = 0
 released_by problem b (First h c) = release_of problem h b
 
 all_released : Problem → Op → List Decision → ℕ

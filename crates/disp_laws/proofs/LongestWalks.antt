@@ -11,10 +11,11 @@ use Rattle.disp_model.specs.declared.decision.Decision.{Decision}
 use Rattle.disp_model.specs.declared.problem.Problem.{Problem}
 use Rattle.disp_model.specs.Train.{IsRoute}
 use Rattle.disp_model.specs.Valid.{train_at}
+use Rattle.disp_model.specs.Node.{Node}
 use Rattle.disp_model.specs.Routes.{IsForced}
 use Rattle.disp_model.specs.Arcs.{IsLongestArc}
-use Rattle.disp_model.specs.Walks.{lower_of, WalksOn, IsWalk, EndsIn, HasNoTwice, IsLongest}
-use Rattle.disp_model.specs.Nodes.{component_op, Adds, AddUp, IsBound}
+use Rattle.disp_model.specs.Walks.{lower_of, WalksOn, IsWalk, EndsIn, HasNoRepeat, IsLongest}
+use Rattle.disp_model.specs.Nodes.{component_op, AddsForced, ForcedAddUp, IsForcedBound}
 use Rattle.disp_model.specs.declared.train.Component.{Component}
 use Rattle.disp_model.specs.Cost.{cost_at}
 use Rattle.disp_laws.proofs.Paths.{is_in}
@@ -86,11 +87,11 @@ abbrev pub Once : List Op → Type 0
 Once [] = Unit {0}
 Once (o ∷ ops) = (Among o ops → ⊥) × Once ops
 
-once_from : (walk : List Op) → HasNoTwice walk → Once walk
+once_from : (walk : List Op) → HasNoRepeat walk → Once walk
 once_from [] single = tt
 once_from (o ∷ ops) single = ((λ there. let at = at_among o ops there in single 0 (suc at.0) o (omega arith) refl at.1), once_from ops (λ i j p lt one. single (suc i) (suc j) p (omega (arith, lt)) one))
 
-from_once : (walk : List Op) → Once walk → HasNoTwice walk
+from_once : (walk : List Op) → Once walk → HasNoRepeat walk
 from_once [] once i j o lt one other = none-some o one
 from_once (p ∷ ops) once zero zero o lt one other = omega (arith, lt)
 from_once (p ∷ ops) once zero (suc j) o lt one other = once.0 (among_at p ops j (other ∙ sym one))
@@ -303,19 +304,19 @@ longest_walk node o forced =
     own : Reaches node o (o ∷ [])
     own = (([], refl), (((λ there. there), tt), (lower_of node.problem node.fixings o, (forced, refl))))
 
-    among : (walk : List Op) → Reaches problem fixings decisions o walk → Contains (lists_of (all_ops problem) (length (all_ops problem))) walk
+    among : (walk : List Op) → Reaches node o walk → Contains (lists_of (all_ops node.problem) (length (all_ops node.problem))) walk
     among walk reaches =
-        let each = is_walk_among problem fixings decisions walk reaches.1.1.0 reaches.1.1.1 in
-        lists_have (all_ops problem) (length (all_ops problem)) walk each (once_fits walk (all_ops problem) reaches.1.0 each)
+        let each = is_walk_among node walk reaches.1.1.0 reaches.1.1.1 in
+        lists_have (all_ops node.problem) (length (all_ops node.problem)) walk each (once_fits walk (all_ops node.problem) reaches.1.0 each)
 
-    by_list : (walks : List (List Op)) → Contains walks (o ∷ []) → ((walk : List Op) → Reaches problem fixings decisions o walk → Contains walks walk)
-        → ((walk : List Op) → Contains walks walk → Reaches problem fixings decisions o walk) → (total : ℕ) × IsLongest problem fixings decisions o total
+    by_list : (walks : List (List Op)) → Contains walks (o ∷ []) → ((walk : List Op) → Reaches node o walk → Contains walks walk)
+        → ((walk : List Op) → Contains walks walk → Reaches node o walk) → (total : ℕ) × IsLongest node o total
     by_list [] here has only = absurd (nowhere here)
       where
         nowhere : Contains [] (o ∷ []) → ⊥
         nowhere (k, lt, e) = omega arith
     by_list (first ∷ walks) here has only =
-        let best = longest_of problem fixings decisions first walks (λ walk there. (only walk there).1.1) in
+        let best = longest_of node first walks (λ walk there. (only walk there).1.1) in
         let reached = only best.walk best.there in (
           best.total,
           record {
@@ -324,37 +325,37 @@ longest_walk node o forced =
           },
         )
 
-    from_part : (walks : List (List Op)) → ((walk : List Op) → Contains (lists_of (all_ops problem) (length (all_ops problem))) walk → Reaches problem fixings decisions o walk → Contains walks walk)
-        → ((walk : List Op) → Contains walks walk → Reaches problem fixings decisions o walk) → (total : ℕ) × IsLongest problem fixings decisions o total
+    from_part : (walks : List (List Op)) → ((walk : List Op) → Contains (lists_of (all_ops node.problem) (length (all_ops node.problem))) walk → Reaches node o walk → Contains walks walk)
+        → ((walk : List Op) → Contains walks walk → Reaches node o walk) → (total : ℕ) × IsLongest node o total
     from_part walks has only = by_list walks (has (o ∷ []) (among (o ∷ []) own) own) (λ walk reaches. has walk (among walk reaches) reaches) only
 
 -- ---- so each node has a bound
 
-adds_some : (node : Node) (c : Component) → (cost : ℕ) × Adds node c cost
+adds_some : (node : Node) (c : Component) → (cost : ℕ) × AddsForced node c cost
 adds_some node c = elim (is_forced_or_not node (component_op c)) [
   | inl forced ↦ let longest = longest_walk node (component_op c) forced in (cost_at c longest.0, inl (longest.0, forced, longest.1, refl))
   | inr free ↦ (0, inr (free, refl))
 ]
 
-add_up_some : (node : Node) (components : List Component) → (bound : ℕ) × AddUp node components bound
+add_up_some : (node : Node) (components : List Component) → (bound : ℕ) × ForcedAddUp node components bound
 add_up_some node [] = (0, refl)
 add_up_some node (c ∷ components) =
     let here = adds_some node c in
     let rest = add_up_some node components in
     (here.0 + rest.0, (here.0, rest.0, here.1, rest.1, refl))
 
-pub some_bound : (node : Node) → (bound : ℕ) × IsBound node bound
+pub some_bound : (node : Node) → (bound : ℕ) × IsForcedBound node bound
 some_bound node = add_up_some node node.problem.components
 
 -- ---- and one alone
 
-adds_same : (node : Node) (c : Component) (s t : ℕ) → Adds node c s → Adds node c t → s ≡ t
+adds_same : (node : Node) (c : Component) (s t : ℕ) → AddsForced node c s → AddsForced node c t → s ≡ t
 adds_same node c s t (inl (m, forced, longest, is)) (inl (n, again, other, too)) = is ∙ ap (cost_at c) (one_longest node (component_op c) m n longest other) ∙ sym too
 adds_same node c s t (inl (m, forced, longest, is)) (inr (free, too)) = absurd (free forced)
 adds_same node c s t (inr (free, is)) (inl (n, forced, longest, too)) = absurd (free forced)
 adds_same node c s t (inr (free, is)) (inr (again, too)) = is ∙ sym too
 
-pub add_up_same : (node : Node) (components : List Component) (s t : ℕ) → AddUp node components s → AddUp node components t → s ≡ t
+pub add_up_same : (node : Node) (components : List Component) (s t : ℕ) → ForcedAddUp node components s → ForcedAddUp node components t → s ≡ t
 add_up_same node [] s t one other = one ∙ sym other
 add_up_same node (c ∷ components) s t one other =
     omega (arith, adds_same node c one.0 other.0 one.2 other.2, add_up_same node components one.1 other.1 one.3 other.3, one.4, other.4)

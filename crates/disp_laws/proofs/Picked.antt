@@ -17,23 +17,24 @@ use Rattle.disp_model.specs.declared.plan.Event.{Event}
 use Rattle.disp_model.specs.declared.decision.Decision.{Decision}
 use Rattle.disp_model.specs.declared.decision.Decision.TheVariants.{Go}
 use Rattle.disp_model.specs.declared.decision.Choice.{Choice}
-use Rattle.disp_model.specs.declared.decision.Choice.TheVariants.{Route, Order}
+use Rattle.disp_model.specs.declared.decision.Choice.TheVariants.{Route, Order, Run}
 use Rattle.disp_model.specs.declared.problem.Problem.{Problem}
 use Rattle.disp_model.specs.Train.{next_of, IsSuccessor, GoesOn, IsRoute}
 use Rattle.disp_model.specs.Plan.{start_of}
 use Rattle.disp_model.specs.Fixing.{after}
 use Rattle.disp_model.specs.Cost.{cost_at, cost_in, cost_of}
 use Rattle.disp_model.specs.Valid.{train_at, IsValid}
+use Rattle.disp_model.specs.Node.{Node}
 use Rattle.disp_model.specs.Routes.{Starts, AgreesWithDecision, IsAllowed, IsForced}
 use Rattle.disp_model.specs.Arcs.{listings_of, shared_listings, Conflicts}
 use Rattle.disp_model.specs.Walks.{IsLongest}
-use Rattle.disp_model.specs.Nodes.{component_op, Adds, AddUp, IsBound}
+use Rattle.disp_model.specs.Nodes.{component_op, AddsForced, ForcedAddUp, IsForcedBound}
 use Rattle.disp_model.specs.Trees.{IsChoice, children_of}
-use Rattle.disp_model.specs.Earliest.{op_of, IsEarliest, IsFork, IsOpenClash, IsPicked}
+use Rattle.disp_model.specs.Earliest.{op_of, IsEarliest, IsFork, IsOpenClash, IsFixedPick}
 use Rattle.disp_laws.proofs.Paths.{IsIn, contains_in, goes_to_next, in_middle}
 use Rattle.disp_laws.proofs.Positions.{start_is_started}
 use Rattle.disp_laws.proofs.Arcs.{names_op}
-use Rattle.disp_laws.proofs.Costs.{start_is}
+use Rattle.disp_laws.proofs.WalksHold.{start_is}
 
 -- ---- a fork
 
@@ -83,13 +84,13 @@ fork_goes_two_ways node o fork = by_next (after o.op fork.one) (after o.op fork.
     reaches : (route : List ℕ) → IsAllowed node o.train route → IsIn o.op route
     reaches route allowed = let parts = fork.alike route allowed in subst (IsIn o.op) (sym parts.1) (in_middle o.op fork.front parts.0)
 
-    by_next : (a b : Option ℕ) → after o.op fork.one ≡ a → after o.op fork.other ≡ b → GoesTwoWays problem fixings decisions o
+    by_next : (a b : Option ℕ) → after o.op fork.one ≡ a → after o.op fork.other ≡ b → GoesTwoWays node o
     by_next None None one other = absurd (fork.apart (one ∙ sym other))
     by_next (Some s) None one other =
-        let next = route_goes_on (train_at problem o.train) o.op s fork.other fork.other_allowed.is_route (reaches fork.other fork.other_allowed) (route_to_successor (train_at problem o.train) o.op s fork.one fork.one_allowed.is_route one) in
+        let next = route_goes_on (train_at node.problem o.train) o.op s fork.other fork.other_allowed.is_route (reaches fork.other fork.other_allowed) (route_to_successor (train_at node.problem o.train) o.op s fork.one fork.one_allowed.is_route one) in
         absurd (none-some next.0 (sym other ∙ next.1))
     by_next None (Some s) one other =
-        let next = route_goes_on (train_at problem o.train) o.op s fork.one fork.one_allowed.is_route (reaches fork.one fork.one_allowed) (route_to_successor (train_at problem o.train) o.op s fork.other fork.other_allowed.is_route other) in
+        let next = route_goes_on (train_at node.problem o.train) o.op s fork.one fork.one_allowed.is_route (reaches fork.one fork.one_allowed) (route_to_successor (train_at node.problem o.train) o.op s fork.other fork.other_allowed.is_route other) in
         absurd (none-some next.0 (sym one ∙ next.1))
     by_next (Some s) (Some u) one other = record {
       one = fork.one;
@@ -140,24 +141,25 @@ no_shared a b l k own other same none = filter_keeps (λ l. list_any (λ k. k.re
     at : (b : List Listing) (k : Listing) → Contains b k → k.resource ≡ l.resource → Any (λ k. nat_eq k.resource l.resource ≡ true) b
     at b k (i, lt, e) same = (i, k, lt, e, eq-eqb k.resource l.resource same)
 
-clash_conflicts : (problem : Problem) (decisions : List Decision) (plan : List Event) (a b : Op) → IsOpenClash problem decisions plan a b → Conflicts problem a b
-clash_conflicts problem decisions plan a b free = record {
+pub clash_conflicts : (node : Node) (plan : List Event) (a b : Op) → IsOpenClash node plan a b → Conflicts node.problem a b
+clash_conflicts node plan a b free = record {
   trains = λ same. omega (arith, free.trains, same);
   shared = λ none. free.clash.not_apart (λ o p at there k d lt any. absurd (
       elim free.clash.names [
-        | inl straight ↦ no_shared (listings_of problem a) (listings_of problem b) (get_or o.listings k d) any.1
-            (subst (λ (ls : List Listing). Contains ls (get_or o.listings k d)) (sym (names_op problem a free.clash.earlier o straight.0 at)) (Contains-get_or o.listings k d lt))
-            (subst (λ (ls : List Listing). Contains ls any.1) (sym (names_op problem b free.clash.later p straight.1 there)) (any.0, any.2, any.3)) any.4 none
-        | inr crossed ↦ no_shared (listings_of problem a) (listings_of problem b) any.1 (get_or o.listings k d)
-            (subst (λ (ls : List Listing). Contains ls any.1) (sym (names_op problem a free.clash.later p crossed.1 there)) (any.0, any.2, any.3))
-            (subst (λ (ls : List Listing). Contains ls (get_or o.listings k d)) (sym (names_op problem b free.clash.earlier o crossed.0 at)) (Contains-get_or o.listings k d lt)) (sym any.4) none
+        | inl straight ↦ no_shared (listings_of node.problem a) (listings_of node.problem b) (get_or o.listings k d) any.1
+            (subst (λ (ls : List Listing). Contains ls (get_or o.listings k d)) (sym (names_op node.problem a free.clash.earlier o straight.0 at)) (Contains-get_or o.listings k d lt))
+            (subst (λ (ls : List Listing). Contains ls any.1) (sym (names_op node.problem b free.clash.later p straight.1 there)) (any.0, any.2, any.3)) any.4 none
+        | inr crossed ↦ no_shared (listings_of node.problem a) (listings_of node.problem b) any.1 (get_or o.listings k d)
+            (subst (λ (ls : List Listing). Contains ls any.1) (sym (names_op node.problem a free.clash.later p crossed.1 there)) (any.0, any.2, any.3))
+            (subst (λ (ls : List Listing). Contains ls (get_or o.listings k d)) (sym (names_op node.problem b free.clash.earlier o crossed.0 at)) (Contains-get_or o.listings k d lt)) (sym any.4) none
       ]));
 }
 
 -- a picked choice may be made
-pub picked_is_choice : (node : Node) (choice : Choice) → IsPicked node (Some choice) → IsChoice node.problem choice
-picked_is_choice node (Route o) picked = fork_is_choice node o picked.fork
-picked_is_choice node (Order a b) picked = clash_conflicts node.problem node.decisions picked.plan a b picked.first_clash.open_clash
+pub fixed_is_choice : (node : Node) (choice : Choice) → IsFixedPick node (Some choice) → IsChoice node.problem choice
+fixed_is_choice node (Route o) picked = fork_is_choice node o picked.fork
+fixed_is_choice node (Order a b) picked = clash_conflicts node picked.plan a b picked.first_clash.open_clash
+fixed_is_choice node (Run o) picked = absurd picked
 
 -- ---- none is decided
 
@@ -166,13 +168,14 @@ map_contains o [] child (k, lt, e) = absurd (omega arith)
 map_contains o (x ∷ xs) child (zero, lt, e) = (x, e)
 map_contains o (x ∷ xs) child (suc k, lt, e) = map_contains o xs child (k, omega arith, e)
 
-pub picked_is_open : (node : Node) (choice : Choice) (child : Decision) → IsPicked node (Some choice) → Contains (children_of node.problem choice) child → Contains node.decisions child → ⊥
-picked_is_open node (Route o) child picked is decided =
+pub fixed_is_undecided : (node : Node) (choice : Choice) (child : Decision) → IsFixedPick node (Some choice) → Contains (children_of node.problem choice) child → Contains node.decisions child → ⊥
+fixed_is_undecided node (Route o) child picked is decided =
     let next = map_contains o (next_of (train_at node.problem o.train) o.op) child is in
     fork_is_open node o next.0 picked.fork (subst (Contains node.decisions) (sym next.1) decided)
-picked_is_open node (Order a b) child picked (zero, lt, e) decided = picked.first_clash.open_clash.undecided (subst (Contains node.decisions) (sym e) decided)
-picked_is_open node (Order a b) child picked (suc zero, lt, e) decided = picked.first_clash.open_clash.undecided_back (subst (Contains node.decisions) (sym e) decided)
-picked_is_open node (Order a b) child picked (suc (suc k), lt, e) decided = omega (arith, lt)
+fixed_is_undecided node (Order a b) child picked (zero, lt, e) decided = picked.first_clash.open_clash.undecided (subst (Contains node.decisions) (sym e) decided)
+fixed_is_undecided node (Order a b) child picked (suc zero, lt, e) decided = picked.first_clash.open_clash.undecided_back (subst (Contains node.decisions) (sym e) decided)
+fixed_is_undecided node (Order a b) child picked (suc (suc k), lt, e) decided = omega (arith, lt)
+fixed_is_undecided node (Run o) child picked is decided = picked
 
 -- ---- the cost where none is picked
 
@@ -193,7 +196,7 @@ at_contains (f ∷ plan) (suc i) e at = let later = at_contains plan i e at in (
 same_op : (o : Op) (e : Event) → Starts o e → op_of e ≡ o
 same_op o e starts = rw (starts.train, starts.operation) refl
 
-adds_cost : (node : Node) (plan : List Event) (c : Component) (cost : ℕ) → IsEarliest node plan → IsValid node.problem node.fixings plan → Adds node c cost → cost_in plan c ≡ cost
+adds_cost : (node : Node) (plan : List Event) (c : Component) (cost : ℕ) → IsEarliest node plan → IsValid node.problem node.fixings plan → AddsForced node c cost → cost_in plan c ≡ cost
 adds_cost node plan c cost earliest valid (inl (total, forced, longest, cost_is)) =
     let o = component_op c in
     let run = earliest.each_run o forced in
@@ -208,12 +211,12 @@ adds_cost node plan c cost earliest valid (inr (free, cost_is)) = by_start (star
         let run = start_is_started c.train c.operation t plan at in
         absurd (free (subst (IsForced node) (same_op (component_op c) run.1 run.2.1) (earliest.none_else run.1 (at_contains plan run.0 run.1 run.2.0)).0))
 
-add_cost : (node : Node) (plan : List Event) → IsEarliest node plan → IsValid node.problem node.fixings plan → (components : List Component) (bound : ℕ) → AddUp node components bound → sum_by (cost_in plan) components ≡ bound
+add_cost : (node : Node) (plan : List Event) → IsEarliest node plan → IsValid node.problem node.fixings plan → (components : List Component) (bound : ℕ) → ForcedAddUp node components bound → sum_by (cost_in plan) components ≡ bound
 add_cost node plan earliest valid [] bound adds = sym adds
 add_cost node plan earliest valid (c ∷ components) bound adds =
     rw (sum_by-cons (cost_in plan) c components)
     (omega (arith, adds_cost node plan c adds.0 earliest valid adds.2, add_cost node plan earliest valid components adds.1 adds.3, adds.4))
 
 -- a valid plan of earliest starts costs the bound
-pub earliest_costs : (node : Node) (plan : List Event) (bound : ℕ) → IsEarliest node plan → IsValid node.problem node.fixings plan → IsBound node bound → cost_of node.problem.components plan ≡ bound
+pub earliest_costs : (node : Node) (plan : List Event) (bound : ℕ) → IsEarliest node plan → IsValid node.problem node.fixings plan → IsForcedBound node bound → cost_of node.problem.components plan ≡ bound
 earliest_costs node plan bound earliest valid is = add_cost node plan earliest valid node.problem.components bound is

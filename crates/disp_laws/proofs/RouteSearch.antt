@@ -9,14 +9,15 @@ use Rattle.std.proofs.lemmas.Map.Steps.{length-le_from_distinct_below}
 use Rattle.disp_model.specs.declared.train.Op.{Op}
 use Rattle.disp_model.specs.declared.train.Operation.{Operation}
 use Rattle.disp_model.specs.declared.fixing.Fixing.{Fixing}
-use Rattle.disp_model.specs.declared.fixing.Fixing.TheVariants.{Started, Chosen}
+use Rattle.disp_model.specs.declared.fixing.Fixing.TheVariants.{Started, Chosen, NotBefore}
 use Rattle.disp_model.specs.declared.decision.Decision.{Decision}
-use Rattle.disp_model.specs.declared.decision.Decision.TheVariants.{Go, First}
+use Rattle.disp_model.specs.declared.decision.Decision.TheVariants.{Go, First, Run, Skip}
 use Rattle.disp_model.specs.declared.problem.Problem.{Problem}
 use Rattle.disp_model.specs.Train.{next_of, IsSuccessor, IsEntry, IsExit, GoesOn, IsRoute}
 use Rattle.disp_model.specs.WellFormed.{IsAcyclic}
 use Rattle.disp_model.specs.Fixing.{after}
 use Rattle.disp_model.specs.Valid.{train_at}
+use Rattle.disp_model.specs.Node.{Node}
 use Rattle.disp_model.specs.Routes.{AgreesWithFixing, AgreesWithDecision, IsAllowed, HasRoute, IsForced}
 use Rattle.disp_laws.proofs.Branching.{contains_map}
 use Rattle.disp_laws.proofs.Paths.{IsIn, is_in, contains_in, in_or_not, never_again}
@@ -120,10 +121,13 @@ is_route_or_not train (o ∷ rest) = both (is_entry_or_not train o) (goes_on_or_
 agrees_with_fixing_or_not : (t : ℕ) (route : List ℕ) (fixing : Fixing) → Decided (AgreesWithFixing t route fixing)
 agrees_with_fixing_or_not t route (Started u o time) = implied (same_number u t) (contained_or_not o route)
 agrees_with_fixing_or_not t route (Chosen u o next) = implied (same_number u t) (same_option (after o route) (Some next))
+agrees_with_fixing_or_not t route (NotBefore u o time) = inl tt
 
 agrees_with_decision_or_not : (t : ℕ) (route : List ℕ) (decision : Decision) → Decided (AgreesWithDecision t route decision)
 agrees_with_decision_or_not t route (Go o next) = implied (same_number o.train t) (implied (contained_or_not o.op route) (same_option (after o.op route) (Some next)))
 agrees_with_decision_or_not t route (First a b) = inl tt
+agrees_with_decision_or_not t route (Run o) = implied (same_number o.train t) (contained_or_not o.op route)
+agrees_with_decision_or_not t route (Skip o) = implied (same_number o.train t) (elim (contained_or_not o.op route) [ inl there ↦ inr (λ not. not there) | inr not ↦ inl not ])
 
 pub is_allowed_or_not : (node : Node) (t : ℕ) (route : List ℕ) → Decided (IsAllowed node t route)
 is_allowed_or_not node t route =
@@ -255,7 +259,7 @@ has_route_or_not node t there = by_list (allowed_routes node t there)
         nowhere route (k, lt, e) = omega arith
     first (route ∷ routes) each only = inl (route, only route (0, omega arith, refl))
 
-    by_list : IsListed problem fixings decisions t → Decided (HasRoute problem fixings decisions t)
+    by_list : IsListed node t → Decided (HasRoute node t)
     by_list listed = first listed.routes listed.each listed.only
 
 -- whether each allowed route is so

@@ -1,23 +1,24 @@
 -- In a valid plan that follows the decisions arcs have no cycle, and each walk is at most as long as the start of its end.
-use Rattle.std.proofs.Common.{◌≡◌, ℕ, ◌+◌, ◌<◌, ◌≤◌, List, [], ◌∷◌, ◌++◌, Option, Some, None, Bool, true, false, cond, refl, sym, ap, subst, ◌∙◌, arith, inl, inr}
-use Rattle.std.specs.Prelude.{nat_eq, slice_get, All, IfSome, unwrap_or, ◌&&◌}
+use Rattle.std.proofs.Common.{◌≡◌, ℕ, zero, suc, ◌+◌, ◌<◌, ◌≤◌, List, [], ◌∷◌, ◌++◌, Option, Some, None, Bool, true, false, cond, refl, sym, ap, subst, ◌∙◌, arith, inl, inr}
+use Rattle.std.specs.Prelude.{nat_eq, slice_get, All, IfSome, unwrap_or, ◌&&◌, max}
 use Rattle.std.specs.Option.{option_map_or}
-use Rattle.std.proofs.lemmas.Bool.{and_parts, eqb-true}
+use Rattle.std.proofs.lemmas.Bool.{and_parts, eq-eqb, eqb-true}
 use Rattle.std.proofs.lemmas.Option.{none-some, same_Some, slice_get_within, get_or_from_slice_get}
 use Rattle.std.proofs.lemmas.List.Elements.{All-tail}
 use Rattle.disp_model.specs.declared.train.Op.{Op}
 use Rattle.disp_model.specs.declared.train.Operation.{Operation}
 use Rattle.disp_model.specs.declared.plan.Event.{Event}
 use Rattle.disp_model.specs.declared.fixing.Fixing.{Fixing}
-use Rattle.disp_model.specs.declared.fixing.Fixing.TheVariants.{Started, Chosen}
+use Rattle.disp_model.specs.declared.fixing.Fixing.TheVariants.{Started, Chosen, NotBefore}
 use Rattle.disp_model.specs.declared.decision.Decision.{Decision}
 use Rattle.disp_model.specs.declared.problem.Problem.{Problem}
 use Rattle.disp_model.specs.Plan.{start_of, operations_of}
 use Rattle.disp_model.specs.Fixing.{IsMet}
 use Rattle.disp_model.specs.Valid.{train_at, operation_of, MayStart, IsValid}
+use Rattle.disp_model.specs.Node.{Node}
 use Rattle.disp_model.specs.Follows.{Follows}
-use Rattle.disp_model.specs.Routes.{HasNoRoute, IsForced}
-use Rattle.disp_model.specs.Walks.{fixed_start, lower_of, upper_of, WalksOn, IsWalk, EndsIn, ClosesTo, IsCycle}
+use Rattle.disp_model.specs.Routes.{Starts, HasNoRoute, IsForced}
+use Rattle.disp_model.specs.Walks.{fixed_start, not_before, lower_of, upper_of, WalksOn, IsWalk, EndsIn, ClosesTo, IsCycle}
 use Rattle.disp_model.specs.Nodes.{IsDead}
 use Rattle.disp_laws.proofs.Branching.{IsStartedAt, one_place}
 use Rattle.disp_laws.proofs.Positions.{start_is_started, named_at}
@@ -27,6 +28,26 @@ use Rattle.disp_laws.proofs.Arcs.{some_is, run_allowed, forced_is_run, arc_holds
 pub one_event : (problem : Problem) (fixings : List Fixing) (plan : List Event) (o : Op) (i j : ℕ) (e f : Event) → IsValid problem fixings plan → IsStartedAt plan o i e → IsStartedAt plan o j f → e ≡ f
 one_event problem fixings plan o i j e f valid first second =
     same_Some e f (sym first.0 ∙ ap (slice_get plan) (one_place problem fixings plan o i j e f valid first second) ∙ second.0)
+
+-- ---- the start of what is run
+
+start_here : (o : Op) (e : Event) (plan : List Event) → Starts o e → start_of (e ∷ plan) o.train o.op ≡ Some e.time
+start_here o e plan starts = rw (eq-eqb e.train o.train starts.train, eq-eqb e.operation o.op starts.operation) refl
+
+start_behind : (o : Op) (e : Event) (plan : List Event) (b : Bool) → ((nat_eq e.train o.train) && (nat_eq e.operation o.op)) ≡ b → ((time : ℕ) × (start_of plan o.train o.op ≡ Some time)) → (time : ℕ) × (cond b (Some e.time) (start_of plan o.train o.op) ≡ Some time)
+start_behind o e plan true is later = (e.time, refl)
+start_behind o e plan false is later = later
+
+has_start : (o : Op) (plan : List Event) (i : ℕ) (e : Event) → IsStartedAt plan o i e → (time : ℕ) × (start_of plan o.train o.op ≡ Some time)
+has_start o [] i e started = absurd (none-some e started.0)
+has_start o (f ∷ plan) zero e started = (f.time, start_here o f plan (subst (Starts o) (sym (same_Some f e started.0)) started.1))
+has_start o (f ∷ plan) (suc i) e started = start_behind o f plan ((nat_eq f.train o.train) && (nat_eq f.operation o.op)) refl (has_start o plan i e (started.0, started.1))
+
+pub start_is : (problem : Problem) (fixings : List Fixing) (plan : List Event) (o : Op) (i : ℕ) (e : Event) → IsValid problem fixings plan → IsStartedAt plan o i e → start_of plan o.train o.op ≡ Some e.time
+start_is problem fixings plan o i e valid started =
+    let found = has_start o plan i e started in
+    let there = start_is_started o.train o.op found.0 plan found.1 in
+    found.1 ∙ ap (λ (t : ℕ). Some t) (sym (ap (λ (g : Event). g.time) (one_event problem fixings plan o i there.0 e there.1 valid started there.2) ∙ there.3))
 
 -- ---- no cycle
 
@@ -62,6 +83,27 @@ fixed_is_met plan o time (Started t p s ∷ fixings) met found =
     fixed_at_head plan o t p s time (fixed_start fixings o) ((nat_eq t o.train) && (nat_eq p o.op)) refl (met 0 (Started t p s) (omega arith)) (λ h. fixed_is_met plan o time fixings (All-tail (IsMet plan) (Started t p s) fixings met) h) found
 fixed_is_met plan o time (Chosen t p next ∷ fixings) met found = fixed_is_met plan o time fixings (All-tail (IsMet plan) (Chosen t p next) fixings met) found
 
+fixed_is_met plan o time (NotBefore t p s ∷ fixings) met found = fixed_is_met plan o time fixings (All-tail (IsMet plan) (NotBefore t p s) fixings met) found
+
+not_before_head : (plan : List Event) (o : Op) (t p s start later : ℕ) (b : Bool) → ((nat_eq t o.train) && (nat_eq p o.op)) ≡ b → IfSome (start_of plan t p) (λ x. s ≤ x)
+    → start_of plan o.train o.op ≡ Some start → later ≤ start → cond b (max s later) later ≤ start
+not_before_head plan o t p s start later false is met at le = le
+not_before_head plan o t p s start later true is met at le =
+    let both = and_parts (nat_eq t o.train) (nat_eq p o.op) is in
+    let own : IfSome (start_of plan o.train o.op) (λ x. s ≤ x) =
+    subst (λ (u : ℕ). IfSome (start_of plan u o.op) (λ x. s ≤ x)) (eqb-true t o.train both.0) (subst (λ (q : ℕ). IfSome (start_of plan t q) (λ x. s ≤ x)) (eqb-true p o.op both.1) met) in
+    let reached : s ≤ start = subst (λ (found : Option ℕ). IfSome found (λ x. s ≤ x)) at own in
+    omega (arith, le, reached)
+
+-- an operation that is run does not start before it may
+not_before_is_met : (plan : List Event) (o : Op) (start : ℕ) (fixings : List Fixing) → All (IsMet plan) fixings → start_of plan o.train o.op ≡ Some start → not_before fixings o ≤ start
+not_before_is_met plan o start [] met at = omega arith
+not_before_is_met plan o start (Started t p s ∷ fixings) met at = not_before_is_met plan o start fixings (All-tail (IsMet plan) (Started t p s) fixings met) at
+not_before_is_met plan o start (Chosen t p next ∷ fixings) met at = not_before_is_met plan o start fixings (All-tail (IsMet plan) (Chosen t p next) fixings met) at
+not_before_is_met plan o start (NotBefore t p s ∷ fixings) met at =
+    not_before_head plan o t p s start (not_before fixings o) ((nat_eq t o.train) && (nat_eq p o.op)) refl (met 0 (NotBefore t p s) (omega arith)) at
+    (not_before_is_met plan o start fixings (All-tail (IsMet plan) (NotBefore t p s) fixings met) at)
+
 -- an operation that is fixed starts then
 fixed_starts : (problem : Problem) (fixings : List Fixing) (plan : List Event) (o : Op) (i : ℕ) (e : Event) (time : ℕ) → IsValid problem fixings plan → IsStartedAt plan o i e → fixed_start fixings o ≡ Some time → e.time ≡ time
 fixed_starts problem fixings plan o i e time valid started fixed =
@@ -78,14 +120,15 @@ may_start problem fixings plan o i e valid started =
     subst (λ (n : ℕ). slice_get (train_at problem o.train) n ≡ Some p.0) started.1.operation (subst (λ (t : ℕ). slice_get (train_at problem t) e.operation ≡ Some p.0) started.1.train p.1) in
     (p.0, own, subst (λ (found : Option Operation). IfSome found (λ o. MayStart o e.time)) p.1 window)
 
-lower_at : (time lower : ℕ) (fixed : Option ℕ) → ((s : ℕ) → fixed ≡ Some s → time ≡ s) → lower ≤ time → unwrap_or fixed lower ≤ time
-lower_at time lower None is le = le
-lower_at time lower (Some s) is le = omega (arith, is s refl)
+lower_at : (time lower earliest : ℕ) (fixed : Option ℕ) → ((s : ℕ) → fixed ≡ Some s → time ≡ s) → lower ≤ time → earliest ≤ time → unwrap_or fixed (max lower earliest) ≤ time
+lower_at time lower earliest None is le not_before = omega (arith, le, not_before)
+lower_at time lower earliest (Some s) is le not_before = omega (arith, is s refl)
 
 pub starts_from_lower : (problem : Problem) (fixings : List Fixing) (plan : List Event) (o : Op) (i : ℕ) (e : Event) → IsValid problem fixings plan → IsStartedAt plan o i e → lower_of problem fixings o ≤ e.time
 starts_from_lower problem fixings plan o i e valid started =
     let p = may_start problem fixings plan o i e valid started in
-    rw p.1 (lower_at e.time p.0.lower (fixed_start fixings o) (λ s fixed. fixed_starts problem fixings plan o i e s valid started fixed) p.2.lower)
+    let earliest = not_before_is_met plan o e.time fixings valid.met (start_is problem fixings plan o i e valid started) in
+    rw p.1 (lower_at e.time p.0.lower (not_before fixings o) (fixed_start fixings o) (λ s fixed. fixed_starts problem fixings plan o i e s valid started fixed) p.2.lower earliest)
 
 upper_at : (time upper : ℕ) (own fixed : Option ℕ) → ((s : ℕ) → fixed ≡ Some s → time ≡ s) → IfSome own (λ u. time ≤ u) → option_map_or Some fixed own ≡ Some upper → time ≤ upper
 upper_at time upper own (Some s) is le at = omega (arith, is s refl, same_Some s upper at)

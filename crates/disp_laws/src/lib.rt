@@ -1,13 +1,15 @@
-// A library with one function.
+//! What follows from the definitions of `disp_model`, each law the contract of a function without a
+//! body, which every crate may cite: branching loses no valid plan, walks and bounds hold in every valid
+//! plan below a node, a tree's yes is true, fixings only tighten, and one choice or none is picked at
+//! each node that is not dead.
 #![tactic(auto)]
 
-ghost use Rattle.std.specs.Prelude.{◌≡◌};
-ghost use Rattle.disp_laws.specs.Echo.{echo_of};
+mod laws;
 
-// The `ensures` clause is the contract: what `echo` returns is `echo_of` of its argument, a definition
-// in `specs/Echo.antt`, which a caller's clause can cite too.
-pub fn echo(x: usize) -> usize
-    ensures { result ≡ echo_of x }
-{
-    x
-}
+pub use laws::{
+    allowed_routes_are_listed, arcs_hold, bound_holds, branching_covers, costs_grow,
+    earliest_plans_exist, fixings_tighten, followed_is_not_dead, forced_are_run,
+    horizon_bounds_walks, leaves_stay_good, longest_arcs_exist, longest_walks_exist,
+    picked_is_open, runs_are_allowed, trains_have_ends, trees_say_yes, unpicked_costs_bound,
+    walks_hold,
+};

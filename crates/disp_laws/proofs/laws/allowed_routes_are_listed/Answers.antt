@@ -3,8 +3,8 @@ use Rattle.disp_laws.proofs.laws.allowed_routes_are_listed.Goals as goal
 
 pub returns : goal.returns
 returns c = record {
-  listed = λ problem fixings decisions t there.
-      let all = allowed_routes problem fixings decisions t there in
+  listed = λ node t there.
+      let all = allowed_routes node t there in
       (all.routes, λ route. (λ allowed. all.each route allowed, λ found. all.only route found));
   route = has_route_or_not;
   forced = is_forced_or_not;

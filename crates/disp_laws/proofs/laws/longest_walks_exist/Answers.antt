@@ -5,5 +5,5 @@ pub returns : goal.returns
 returns c = record {
   longest = longest_walk;
   bound = some_bound;
-  alone = λ problem fixings decisions bound other one too. add_up_same problem fixings decisions problem.components bound other one too;
+  alone = λ node bound other one too. add_up_same node node.problem.components bound other one too;
 }

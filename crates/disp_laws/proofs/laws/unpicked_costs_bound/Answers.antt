@@ -3,6 +3,6 @@ use Rattle.disp_laws.proofs.laws.unpicked_costs_bound.Goals as goal
 
 pub returns : goal.returns
 returns c = record {
-  exactly = λ problem fixings decisions. (λ picked. (picked.plan, picked.earliest, picked.valid), λ found. record { plan = found.0; earliest = found.1; valid = found.2 });
+  exactly = λ node. (λ picked. (picked.plan, picked.earliest, picked.valid), λ found. record { plan = found.0; earliest = found.1; valid = found.2 });
   costs = earliest_costs;
 }

@@ -3,6 +3,6 @@ use Rattle.disp_laws.proofs.laws.walks_hold.Goals as goal
 
 pub returns : goal.returns
 returns c = record {
-  starts = λ problem fixings plan decisions walk total o j f valid follows is ends at starts. walk_holds problem fixings plan decisions walk total o j f valid follows is ends (at, starts);
+  starts = λ node plan walk total o j f valid follows is ends at starts. walk_holds node plan walk total o j f valid follows is ends (at, starts);
   uppers = in_time;
 }
