@@ -2,6 +2,8 @@
 use Rattle.std.proofs.Common.{◌≡◌, ◌⊎◌, inl, inr, ℕ, zero, suc, ◌<◌, ◌≤◌, List, [], ◌∷◌, Some, refl, subst, ap, ◌∙◌, arith, rules}
 use Rattle.std.specs.Prelude.{Contains, sum_by}
 use Rattle.std.proofs.lemmas.Option.{same_Some}
+use Rattle.disp_model.specs.declared.fixing.Change.TheVariants.{Fix}
+use Rattle.disp_model.specs.Node.{root_of, node_at}
 use Rattle.disp_model.specs.declared.fixing.Fixing.TheVariants.{Chosen, Started}
 use Rattle.disp_model.specs.declared.decision.Decision.{Decision}
 use Rattle.disp_model.specs.declared.decision.Decision.TheVariants.{Go}
@@ -120,26 +122,26 @@ from_0 route h =
       | inr same ↦ rw same (0, omega arith, refl)
     ]
 
-free_by_1 : (names : List (List ℕ)) (w : IsWellFormed (forked ∷ []) [] names) → IsAllowed (made (forked ∷ []) [] names w) [] [] 0 by_1
+free_by_1 : (names : List (List ℕ)) (w : IsWellFormed (forked ∷ []) [] names) → IsAllowed (root_of (made (forked ∷ []) [] names w) []) 0 by_1
 free_by_1 names w = record { is_route = by_1_there; fixings_agree = search rules; decisions_agree = search rules }
 
-free_by_2 : (names : List (List ℕ)) (w : IsWellFormed (forked ∷ []) [] names) → IsAllowed (made (forked ∷ []) [] names w) [] [] 0 by_2
+free_by_2 : (names : List (List ℕ)) (w : IsWellFormed (forked ∷ []) [] names) → IsAllowed (root_of (made (forked ∷ []) [] names w) []) 0 by_2
 free_by_2 names w = record { is_route = by_2_there; fixings_agree = search rules; decisions_agree = search rules }
 
-decided_by_1 : (names : List (List ℕ)) (w : IsWellFormed (forked ∷ []) [] names) → IsAllowed (made (forked ∷ []) [] names w) [] going_by_1 0 by_1
+decided_by_1 : (names : List (List ℕ)) (w : IsWellFormed (forked ∷ []) [] names) → IsAllowed (node_at (made (forked ∷ []) [] names w) [] going_by_1) 0 by_1
 decided_by_1 names w = record { is_route = by_1_there; fixings_agree = search rules; decisions_agree = search rules }
 
-chosen_by_2 : (names : List (List ℕ)) (w : IsWellFormed (forked ∷ []) [] names) → IsAllowed (made (forked ∷ []) [] names w) (Chosen 0 0 2 ∷ []) [] 0 by_2
+chosen_by_2 : (names : List (List ℕ)) (w : IsWellFormed (forked ∷ []) [] names) → IsAllowed (root_of (made (forked ∷ []) [] names w) (Chosen 0 0 2 ∷ [])) 0 by_2
 chosen_by_2 names w = record { is_route = by_2_there; fixings_agree = search rules; decisions_agree = search rules }
 
-pub not_forced : (problem : Problem) → HasForkedTrain problem → IsForced problem [] [] (op_named 0 1) → ⊥
+pub not_forced : (problem : Problem) → HasForkedTrain problem → IsForced (root_of problem []) (op_named 0 1) → ⊥
 not_forced problem has =
-    of_made (λ p. IsForced p [] [] (op_named 0 1) → ⊥) (forked ∷ []) []
+    of_made (λ p. IsForced (root_of p []) (op_named 0 1) → ⊥) (forked ∷ []) []
     (λ names w forced. none_behind_1 (forced.each_has by_2 (free_by_2 names w))) problem has.trains has.components
 
-pub least_3 : (problem : Problem) → HasForkedTrain problem → IsTrainArc problem [] [] (op_named 0 0) (op_named 0 3) 3
+pub least_3 : (problem : Problem) → HasForkedTrain problem → IsTrainArc (root_of problem []) (op_named 0 0) (op_named 0 3) 3
 least_3 problem has =
-    of_made (λ p. IsTrainArc p [] [] (op_named 0 0) (op_named 0 3) 3) (forked ∷ []) []
+    of_made (λ p. IsTrainArc (root_of p []) (op_named 0 0) (op_named 0 3) 3) (forked ∷ []) []
     (λ names w. record {
       same_train = refl;
       reached = (by_2, free_by_2 names w, record { before = []; between = 2 ∷ []; behind = []; route_is = refl; total_is = refl });
@@ -147,16 +149,16 @@ least_3 problem has =
     })
     problem has.trains has.components
 
-only_by_1 : (names : List (List ℕ)) (w : IsWellFormed (forked ∷ []) [] names) (route : List ℕ) → IsAllowed (made (forked ∷ []) [] names w) [] going_by_1 0 route → route ≡ by_1
+only_by_1 : (names : List (List ℕ)) (w : IsWellFormed (forked ∷ []) [] names) (route : List ℕ) → IsAllowed (node_at (made (forked ∷ []) [] names w) [] going_by_1) 0 route → route ≡ by_1
 only_by_1 names w route allowed =
     with_1 route allowed.is_route (allowed.decisions_agree 0 (Go (op_named 0 0) 1) (omega arith) refl (from_0 route allowed.is_route))
 
 has_1 : (route : List ℕ) → route ≡ by_1 → Contains route 1
 has_1 route same = rw same (1, omega arith, refl)
 
-pub forced : (problem : Problem) → HasForkedTrain problem → IsForced problem [] going_by_1 (op_named 0 1)
+pub forced : (problem : Problem) → HasForkedTrain problem → IsForced (node_at problem [] going_by_1) (op_named 0 1)
 forced problem has =
-    of_made (λ p. IsForced p [] going_by_1 (op_named 0 1)) (forked ∷ []) []
+    of_made (λ p. IsForced (node_at p [] going_by_1) (op_named 0 1)) (forked ∷ []) []
     (λ names w. record {
       train = omega arith;
       allowed = (by_1, decided_by_1 names w);
@@ -167,9 +169,9 @@ forced problem has =
 at_least_5 : (route : List ℕ) (total : ℕ) → route ≡ by_1 → Passes forked route 0 3 total → 5 ≤ total
 at_least_5 route total same p = let five : total ≡ 5 = sum_by_1 total (subst (λ r. Passes forked r 0 3 total) same p) in omega (arith, five)
 
-pub least_5 : (problem : Problem) → HasForkedTrain problem → IsTrainArc problem [] going_by_1 (op_named 0 0) (op_named 0 3) 5
+pub least_5 : (problem : Problem) → HasForkedTrain problem → IsTrainArc (node_at problem [] going_by_1) (op_named 0 0) (op_named 0 3) 5
 least_5 problem has =
-    of_made (λ p. IsTrainArc p [] going_by_1 (op_named 0 0) (op_named 0 3) 5) (forked ∷ []) []
+    of_made (λ p. IsTrainArc (node_at p [] going_by_1) (op_named 0 0) (op_named 0 3) 5) (forked ∷ []) []
     (λ names w. record {
       same_train = refl;
       reached = (by_1, decided_by_1 names w, record { before = []; between = 1 ∷ []; behind = []; route_is = refl; total_is = refl });
@@ -177,21 +179,21 @@ least_5 problem has =
     })
     problem has.trains has.components
 
-pub one_route : (problem : Problem) → HasForkedTrain problem → HasOneRoute problem (Chosen 0 0 2 ∷ []) [] 0 by_2
+pub one_route : (problem : Problem) → HasForkedTrain problem → HasOneRoute (root_of problem (Chosen 0 0 2 ∷ [])) 0 by_2
 one_route problem has =
-    of_made (λ p. HasOneRoute p (Chosen 0 0 2 ∷ []) [] 0 by_2) (forked ∷ []) []
+    of_made (λ p. HasOneRoute (root_of p (Chosen 0 0 2 ∷ [])) 0 by_2) (forked ∷ []) []
     (λ names w. record {
       allowed = chosen_by_2 names w;
       alone = λ other allowed. with_2 other allowed.is_route (allowed.fixings_agree 0 (Chosen 0 0 2) (omega arith) refl);
     })
     problem has.trains has.components
 
-none_left : (names : List (List ℕ)) (w : IsWellFormed (forked ∷ []) [] names) → HasRoute (made (forked ∷ []) [] names w) (Chosen 0 0 2 ∷ Started 0 1 4 ∷ []) [] 0 → ⊥
+none_left : (names : List (List ℕ)) (w : IsWellFormed (forked ∷ []) [] names) → HasRoute (root_of (made (forked ∷ []) [] names w) (Chosen 0 0 2 ∷ Started 0 1 4 ∷ [])) 0 → ⊥
 none_left names w (route, allowed) =
     let same : route ≡ by_2 = with_2 route allowed.is_route (allowed.fixings_agree 0 (Chosen 0 0 2) (omega arith) refl) in
     none_behind_1 (subst (λ r. Contains r 1) same (allowed.fixings_agree 1 (Started 0 1 4) (omega arith) refl))
 
-pub no_route : (problem : Problem) → HasForkedTrain problem → IsReply problem (Chosen 0 0 2 ∷ []) (Started 0 1 4) (Refused NoRoute)
+pub no_route : (problem : Problem) → HasForkedTrain problem → IsReply problem (Fix (Chosen 0 0 2) ∷ []) (Fix (Started 0 1 4)) (Refused NoRoute)
 no_route problem has =
-    of_made (λ p. IsReply p (Chosen 0 0 2 ∷ []) (Started 0 1 4) (Refused NoRoute)) (forked ∷ []) []
-    (λ names w. inr ((λ less. omega arith), inr ((λ less. omega arith), inl (none_left names w, refl)))) problem has.trains has.components
+    of_made (λ p. IsReply p (Fix (Chosen 0 0 2) ∷ []) (Fix (Started 0 1 4)) (Refused NoRoute)) (forked ∷ []) []
+    (λ names w. inr ((λ less. omega arith), inr ((λ less. omega arith), inr ((λ less. omega arith), inl (none_left names w, refl))))) problem has.trains has.components

@@ -2,6 +2,7 @@
 use Rattle.std.proofs.Common.{◌≡◌, ◌≢◌, inl, inr, ℕ, ◌+◌, ◌≤◌, List, [], ◌∷◌, Some, refl, sym, subst, ap, ◌∙◌, arith, rules}
 use Rattle.std.specs.Prelude.{slice_get}
 use Rattle.std.proofs.lemmas.Option.{same_Some}
+use Rattle.disp_model.specs.Node.{Node, node_at}
 use Rattle.disp_model.specs.declared.train.Op.{Op}
 use Rattle.disp_model.specs.declared.train.Component.{Component}
 use Rattle.disp_model.specs.declared.fixing.Fixing.{Fixing}
@@ -36,11 +37,11 @@ second_walks = walk_to 0 (b0 ∷ b1 ∷ a0 ∷ a1 ∷ []) ∷ walk_to 1 (b0 ∷ 
 
 -- the leaf of the first train first reaches 24
 first_enough : (names : List (List ℕ)) (w : IsWellFormed (two_trains 0) two_costs names) (fixings : List Fixing) (cost : ℕ) → IsFromZero (two 0 names w) fixings
-    → IsOpen (two 0 names w) fixings first_before → cost ≤ 24 → CostsEnough (two 0 names w) fixings first_before first_walks cost
+    → IsOpen (node_at (two 0 names w) fixings first_before) → cost ≤ 24 → CostsEnough (node_at (two 0 names w) fixings first_before) first_walks cost
 first_enough names w fixings cost low open_all le =
     let problem = two 0 names w in
     let pair = a_then_b 0 names w in
-    let of_a : WalkCosts problem fixings first_before (walk_to 0 (a0 ∷ a1 ∷ [])) 10 = record {
+    let of_a : WalkCosts (node_at problem fixings first_before) (walk_to 0 (a0 ∷ a1 ∷ [])) 10 = record {
       component = each_unit 0 1;
       there = refl;
       ends = (a0 ∷ [], refl);
@@ -48,7 +49,7 @@ first_enough names w fixings cost low open_all le =
       is_walk = own_walk 0 names w fixings 0 1 0 pair low open_all (omega arith);
       cost_is = unit_cost 0 1 10;
     } in
-    let of_b : WalkCosts problem fixings first_before (walk_to 1 (a0 ∷ a1 ∷ b0 ∷ b1 ∷ [])) 14 = record {
+    let of_b : WalkCosts (node_at problem fixings first_before) (walk_to 1 (a0 ∷ a1 ∷ b0 ∷ b1 ∷ [])) 14 = record {
       component = each_unit 1 1;
       there = refl;
       ends = (a0 ∷ a1 ∷ b0 ∷ [], refl);
@@ -65,11 +66,11 @@ first_enough names w fixings cost low open_all le =
 
 -- the leaf of the second train first reaches 18
 second_enough : (names : List (List ℕ)) (w : IsWellFormed (two_trains 0) two_costs names) (fixings : List Fixing) (cost : ℕ) → IsFromZero (two 0 names w) fixings
-    → IsOpen (two 0 names w) fixings second_before → cost ≤ 18 → CostsEnough (two 0 names w) fixings second_before second_walks cost
+    → IsOpen (node_at (two 0 names w) fixings second_before) → cost ≤ 18 → CostsEnough (node_at (two 0 names w) fixings second_before) second_walks cost
 second_enough names w fixings cost low open_all le =
     let problem = two 0 names w in
     let pair = b_then_a 0 names w in
-    let of_a : WalkCosts problem fixings second_before (walk_to 0 (b0 ∷ b1 ∷ a0 ∷ a1 ∷ [])) 14 = record {
+    let of_a : WalkCosts (node_at problem fixings second_before) (walk_to 0 (b0 ∷ b1 ∷ a0 ∷ a1 ∷ [])) 14 = record {
       component = each_unit 0 1;
       there = refl;
       ends = (b0 ∷ b1 ∷ a0 ∷ [], refl);
@@ -77,7 +78,7 @@ second_enough names w fixings cost low open_all le =
       is_walk = through 0 names w fixings 1 0 pair low open_all;
       cost_is = unit_cost 0 1 14;
     } in
-    let of_b : WalkCosts problem fixings second_before (walk_to 1 (b0 ∷ b1 ∷ [])) 4 = record {
+    let of_b : WalkCosts (node_at problem fixings second_before) (walk_to 1 (b0 ∷ b1 ∷ [])) 4 = record {
       component = each_unit 1 1;
       there = refl;
       ends = (b0 ∷ [], refl);
@@ -109,26 +110,26 @@ accepted problem has = of_made (λ p. Accepts p [] (Optimal 18) order_tree) (two
 -- ---- too little
 
 -- a walk costs no more than the height of the operation of its component
-cost_below : (problem : Problem) (fixings : List Fixing) (decisions : List Decision) (h : Op → ℕ) → IsHeight problem fixings decisions h
-    → (w : ComponentWalk) (cost t o : ℕ) → slice_get problem.components w.component ≡ Some (each_unit t o) → WalkCosts problem fixings decisions w cost → cost ≤ h (op_named t o)
-cost_below problem fixings decisions h is w cost t o at costs =
+cost_below : (node : Node) (h : Op → ℕ) → IsHeight node h
+    → (w : ComponentWalk) (cost t o : ℕ) → slice_get node.problem.components w.component ≡ Some (each_unit t o) → WalkCosts node w cost → cost ≤ h (op_named t o)
+cost_below node h is w cost t o at costs =
     let same : costs.component ≡ each_unit t o = same_Some costs.component (each_unit t o) (sym costs.there ∙ at) in
-    let below : costs.total ≤ h (component_op costs.component) = walk_below problem fixings decisions h is w.walk costs.total (component_op costs.component) costs.is_walk costs.ends in
+    let below : costs.total ≤ h (component_op costs.component) = walk_below node h is w.walk costs.total (component_op costs.component) costs.is_walk costs.ends in
     let limit : costs.total ≤ h (op_named t o) = subst (λ (c : Component). costs.total ≤ h (component_op c)) same below in
     let cost_is : cost ≡ costs.total = costs.cost_is ∙ ap (λ (c : Component). cost_at c costs.total) same ∙ sym (unit_cost t o costs.total) in
     omega (arith, limit, cost_is)
 
-pub has_route : (release : ℕ) (names : List (List ℕ)) (w : IsWellFormed (two_trains release) two_costs names) (fixings : List Fixing) (decisions : List Decision) → IsOpen (two release names w) fixings decisions → HasNoRoute (two release names w) fixings decisions → ⊥
+pub has_route : (release : ℕ) (names : List (List ℕ)) (w : IsWellFormed (two_trains release) two_costs names) (fixings : List Fixing) (decisions : List Decision) → IsOpen (node_at (two release names w) fixings decisions) → HasNoRoute (node_at (two release names w) fixings decisions) → ⊥
 has_route release names w fixings decisions open_all (t, lt, none) = none (0 ∷ 1 ∷ [], open_all t lt)
 
 second_at_most_18 : (names : List (List ℕ)) (w : IsWellFormed (two_trains 0) two_costs names) (fixings : List Fixing) (cost : ℕ) → IsFromZero (two 0 names w) fixings
-    → IsOpen (two 0 names w) fixings second_before → CostsEnough (two 0 names w) fixings second_before second_walks cost → cost ≤ 18
+    → IsOpen (node_at (two 0 names w) fixings second_before) → CostsEnough (node_at (two 0 names w) fixings second_before) second_walks cost → cost ≤ 18
 second_at_most_18 names w fixings cost low open_all enough =
     let problem = two 0 names w in
     let is = b_first_height 0 names w fixings low open_all in
     let sums = enough.sum_is in
-    let of_a : sums.0 ≤ 14 = cost_below problem fixings second_before (b_first 0) is (walk_to 0 (b0 ∷ b1 ∷ a0 ∷ a1 ∷ [])) sums.0 0 1 refl sums.2 in
-    let of_b : sums.3.0 ≤ 4 = cost_below problem fixings second_before (b_first 0) is (walk_to 1 (b0 ∷ b1 ∷ [])) sums.3.0 1 1 refl sums.3.2 in
+    let of_a : sums.0 ≤ 14 = cost_below (node_at problem fixings second_before) (b_first 0) is (walk_to 0 (b0 ∷ b1 ∷ a0 ∷ a1 ∷ [])) sums.0 0 1 refl sums.2 in
+    let of_b : sums.3.0 ≤ 4 = cost_below (node_at problem fixings second_before) (b_first 0) is (walk_to 1 (b0 ∷ b1 ∷ [])) sums.3.0 1 1 refl sums.3.2 in
     let nil : sums.3.1 ≡ 0 = sums.3.3 in
     let rest : sums.1 ≡ sums.3.0 + sums.3.1 = sums.3.4 in
     let all : enough.sum ≡ sums.0 + sums.1 = sums.4 in
@@ -161,7 +162,7 @@ one_component_twice problem has = of_made (λ p. Accepts p [] (Optimal 18) count
 
 -- ---- too late
 
-pub late_walk_made : (names : List (List ℕ)) (w : IsWellFormed (two_trains 0) two_costs names) → IsLateWalk (two 0 names w) (a0_at_0 ∷ []) second_before (b0 ∷ b1 ∷ a0 ∷ [])
+pub late_walk_made : (names : List (List ℕ)) (w : IsWellFormed (two_trains 0) two_costs names) → IsLateWalk (node_at (two 0 names w) (a0_at_0 ∷ []) second_before) (b0 ∷ b1 ∷ a0 ∷ [])
 late_walk_made names w = record {
   end = a0;
   ends = (b0 ∷ b1 ∷ [], refl);
@@ -172,8 +173,8 @@ late_walk_made names w = record {
   late = omega arith;
 }
 
-pub late_walk : (problem : Problem) → HasTwoTrains 0 problem → IsLateWalk problem (a0_at_0 ∷ []) second_before (b0 ∷ b1 ∷ a0 ∷ [])
-late_walk problem has = of_made (λ p. IsLateWalk p (a0_at_0 ∷ []) second_before (b0 ∷ b1 ∷ a0 ∷ [])) (two_trains 0) two_costs late_walk_made problem has.trains has.components
+pub late_walk : (problem : Problem) → HasTwoTrains 0 problem → IsLateWalk (node_at problem (a0_at_0 ∷ []) second_before) (b0 ∷ b1 ∷ a0 ∷ [])
+late_walk problem has = of_made (λ p. IsLateWalk (node_at p (a0_at_0 ∷ []) second_before) (b0 ∷ b1 ∷ a0 ∷ [])) (two_trains 0) two_costs late_walk_made problem has.trains has.components
 
 pub late_made : (names : List (List ℕ)) (w : IsWellFormed (two_trains 0) two_costs names) → Accepts (two 0 names w) (a0_at_0 ∷ []) (Optimal 24) late_tree
 late_made names w = (
@@ -188,21 +189,21 @@ late_made names w = (
 pub late_accepted : (problem : Problem) → HasTwoTrains 0 problem → Accepts problem (a0_at_0 ∷ []) (Optimal 24) late_tree
 late_accepted problem has = of_made (λ p. Accepts p (a0_at_0 ∷ []) (Optimal 24) late_tree) (two_trains 0) two_costs late_made problem has.trains has.components
 
-dead_late_made : (names : List (List ℕ)) (w : IsWellFormed (two_trains 0) two_costs names) → IsDead (two 0 names w) (a0_at_0 ∷ []) second_before
+dead_late_made : (names : List (List ℕ)) (w : IsWellFormed (two_trains 0) two_costs names) → IsDead (node_at (two 0 names w) (a0_at_0 ∷ []) second_before)
 dead_late_made names w =
     let problem = two 0 names w in
     let low = started_from_zero 0 names w in
     let open_all = opened 0 names w (a0_at_0 ∷ []) second_before started (ordered 1 0) in
     let is = b_first_height 0 names w (a0_at_0 ∷ []) low open_all in
-    let walk : IsWalk problem (a0_at_0 ∷ []) second_before (b0 ∷ b1 ∷ a0 ∷ []) 4 = across 0 names w (a0_at_0 ∷ []) 1 0 (b_then_a 0 names w) low open_all in
+    let walk : IsWalk (node_at problem (a0_at_0 ∷ []) second_before) (b0 ∷ b1 ∷ a0 ∷ []) 4 = across 0 names w (a0_at_0 ∷ []) 1 0 (b_then_a 0 names w) low open_all in
     inr (inr (record {
       operation = a0;
       total = 4;
-      longest = longest problem (a0_at_0 ∷ []) second_before (b_first 0) is (b0 ∷ b1 ∷ a0 ∷ []) a0 (b0 ∷ b1 ∷ [], refl) (once (b0 ∷ b1 ∷ a0 ∷ []) (search rules)) walk;
+      longest = longest (node_at problem (a0_at_0 ∷ []) second_before) (b_first 0) is (b0 ∷ b1 ∷ a0 ∷ []) a0 (b0 ∷ b1 ∷ [], refl) (once (b0 ∷ b1 ∷ a0 ∷ []) (search rules)) walk;
       upper = 0;
       upper_is = refl;
       late = omega arith;
     }))
 
-pub dead_late : (problem : Problem) → HasTwoTrains 0 problem → IsDead problem (a0_at_0 ∷ []) second_before
-dead_late problem has = of_made (λ p. IsDead p (a0_at_0 ∷ []) second_before) (two_trains 0) two_costs dead_late_made problem has.trains has.components
+pub dead_late : (problem : Problem) → HasTwoTrains 0 problem → IsDead (node_at problem (a0_at_0 ∷ []) second_before)
+dead_late problem has = of_made (λ p. IsDead (node_at p (a0_at_0 ∷ []) second_before)) (two_trains 0) two_costs dead_late_made problem has.trains has.components

@@ -16,5 +16,4 @@ pub mod WellMade
 pub mod Picks
 pub mod PicksNothing
 pub mod SettledHistory
-pub mod OneReply
 pub mod StoppedHistory

@@ -3,6 +3,7 @@ use Rattle.std.proofs.Common.{◌≡◌, ◌≢◌, ◌⊎◌, inl, inr, ℕ, ze
 use Rattle.std.specs.Prelude.{Contains}
 use Rattle.std.specs.List.{AllByRecursion}
 use Rattle.std.proofs.lemmas.List.Elements.{All-from_recursion}
+use Rattle.disp_model.specs.Node.{Node, root_of, node_at}
 use Rattle.disp_model.specs.declared.train.Op.{Op}
 use Rattle.disp_model.specs.declared.fixing.Fixing.{Fixing}
 use Rattle.disp_model.specs.declared.decision.Decision.{Decision}
@@ -14,7 +15,7 @@ use Rattle.disp_model.specs.Valid.{IsReleased, KeepApart}
 use Rattle.disp_model.specs.Plan.{end_of}
 use Rattle.disp_model.specs.Routes.{IsForced, Starts}
 use Rattle.disp_model.specs.Walks.{IsLongest}
-use Rattle.disp_model.specs.Earliest.{op_of, ComesBefore, IsReady, IsNext, HaveOneRoute, IsEarliest, Clash, IsOpenClash, IsPairUpTo, PicksOrder, IsPicked}
+use Rattle.disp_model.specs.Earliest.{op_of, ComesBefore, IsReady, IsNext, HaveOneRoute, IsEarliest, Clash, IsOpenClash, IsPairUpTo, PicksOrder, IsFixedPick}
 use Rattle.definition_examples.specs.Trains.{HasTwoTrains, two_trains, two_costs, op_named, a0, a1, b0, b1, listing, lasting}
 use Rattle.definition_examples.specs.Plans.{event, each_alone, second_first}
 use Rattle.definition_examples.proofs.Made.{of_made}
@@ -32,7 +33,7 @@ pub of_each : {X : Type 0} (P : X → Type 0) (xs : List X) → AllByRecursion P
 of_each P xs all x (k, lt, at) = subst P at (All-from_recursion P xs all k x lt)
 
 pub one_route : (release : ℕ) (names : List (List ℕ)) (w : IsWellFormed (two_trains release) two_costs names) (fixings : List Fixing) (decisions : List Decision)
-    → IsOpen (two release names w) fixings decisions → HaveOneRoute (two release names w) fixings decisions
+    → IsOpen (node_at (two release names w) fixings decisions) → HaveOneRoute (node_at (two release names w) fixings decisions)
 one_route release names w fixings decisions open_all t lt = (both, record { allowed = open_all t lt; alone = λ other allowed. route_is release names w t other lt allowed.is_route })
 
 -- ---- each operation stands in a plan
@@ -57,7 +58,7 @@ second_each (suc (suc t)) o lt h = absurd (omega (arith, lt))
 second_each t (suc (suc o)) lt h = absurd (omega (arith, h))
 
 pub each_stands : (release : ℕ) (names : List (List ℕ)) (w : IsWellFormed (two_trains release) two_costs names) (fixings : List Fixing) (decisions : List Decision)
-    → IsOpen (two release names w) fixings decisions → (plan : List Event) → HasEach plan → (o : Op) → IsForced (two release names w) fixings decisions o → (e : Event) × Contains plan e × Starts o e
+    → IsOpen (node_at (two release names w) fixings decisions) → (plan : List Event) → HasEach plan → (o : Op) → IsForced (node_at (two release names w) fixings decisions) o → (e : Event) × Contains plan e × Starts o e
 each_stands release names w fixings decisions open_all plan has o is_forced =
     has o.train o.op is_forced.train (in_two 0 1 o.op (is_forced.each_has both (open_all o.train is_forced.train)))
 
@@ -71,38 +72,38 @@ pub own_to_first : (u : Op) (t arc_length : ℕ) → IsOwn u (op_named t 0) arc_
 own_to_first u t arc_length own = let same : 0 ≡ 1 = ap (λ (x : Op). x.op) own.to_is in omega (arith, same)
 
 first_ready : (release : ℕ) (names : List (List ℕ)) (w : IsWellFormed (two_trains release) two_costs names) (fixings : List Fixing) (stood : List Event) (t time : ℕ)
-    → IsReady (two release names w) fixings [] stood (event t 0 time)
+    → IsReady (root_of (two release names w) fixings) stood (event t 0 time)
 first_ready release names w fixings stood t time o (arc_length, arc) = absurd (own_to_first o t arc_length (free_arcs release names w fixings o (op_named t 0) arc_length arc))
 
 pub starts_again : (t o : ℕ) (time : ℕ) (u : Op) → u ≡ op_named t o → Starts u (event t o time)
 starts_again t o time u same = record { train = sym (ap (λ (x : Op). x.train) same); operation = sym (ap (λ (x : Op). x.op) same) }
 
 second_ready : (release : ℕ) (names : List (List ℕ)) (w : IsWellFormed (two_trains release) two_costs names) (fixings : List Fixing) (stood : List Event) (t time : ℕ)
-    → Contains stood (event t 0 0) → IsReady (two release names w) fixings [] stood (event t 1 time)
+    → Contains stood (event t 0 0) → IsReady (root_of (two release names w) fixings) stood (event t 1 time)
 second_ready release names w fixings stood t time there o (arc_length, arc) =
     (event t 0 0, there, starts_again t 0 0 o (own_to o t arc_length (free_arcs release names w fixings o (op_named t 1) arc_length arc)))
 
 abbrev pub AllLater : Event → List Event → Type 0
 AllLater e rest = AllByRecursion (λ f. (f ≡ e) ⊎ ComesBefore e f) rest
 
-pub next_of_sorted : (problem : Problem) (fixings : List Fixing) (decisions : List Decision) (stood rest : List Event) (e : Event)
-    → IsReady problem fixings decisions stood e → AllLater e rest → IsNext problem fixings decisions stood rest e
-next_of_sorted problem fixings decisions stood rest e ready later = record {
+pub next_of_sorted : (node : Node) (stood rest : List Event) (e : Event)
+    → IsReady node stood e → AllLater e rest → IsNext node stood rest e
+next_of_sorted node stood rest e ready later = record {
   ready = ready;
   first = λ f there is_ready. of_each (λ g. (g ≡ e) ⊎ ComesBefore e g) rest later f there;
 }
 
 alone_ordered : (release : ℕ) (names : List (List ℕ)) (w : IsWellFormed (two_trains release) two_costs names) (fixings : List Fixing)
-    → Places (λ i e. IsNext (two release names w) fixings [] (take i each_alone) (drop i each_alone) e) 0 each_alone
+    → Places (λ i e. IsNext (root_of (two release names w) fixings) (take i each_alone) (drop i each_alone) e) 0 each_alone
 alone_ordered release names w fixings =
     let problem = two release names w in (
-      next_of_sorted problem fixings [] [] each_alone (event 0 0 0) (first_ready release names w fixings [] 0 0) (inl refl, (inr (inr (refl, inl (omega arith))), (inr (inl (omega arith)), (inr (inl (omega arith)), tt)))),
+      next_of_sorted (root_of problem fixings) [] each_alone (event 0 0 0) (first_ready release names w fixings [] 0 0) (inl refl, (inr (inr (refl, inl (omega arith))), (inr (inl (omega arith)), (inr (inl (omega arith)), tt)))),
       (
-        next_of_sorted problem fixings [] (event 0 0 0 ∷ []) (event 1 0 0 ∷ event 1 1 4 ∷ event 0 1 10 ∷ []) (event 1 0 0) (first_ready release names w fixings (event 0 0 0 ∷ []) 1 0) (inl refl, (inr (inl (omega arith)), (inr (inl (omega arith)), tt))),
+        next_of_sorted (root_of problem fixings) (event 0 0 0 ∷ []) (event 1 0 0 ∷ event 1 1 4 ∷ event 0 1 10 ∷ []) (event 1 0 0) (first_ready release names w fixings (event 0 0 0 ∷ []) 1 0) (inl refl, (inr (inl (omega arith)), (inr (inl (omega arith)), tt))),
         (
-          next_of_sorted problem fixings [] (event 0 0 0 ∷ event 1 0 0 ∷ []) (event 1 1 4 ∷ event 0 1 10 ∷ []) (event 1 1 4) (second_ready release names w fixings (event 0 0 0 ∷ event 1 0 0 ∷ []) 1 4 (1, omega arith, refl)) (inl refl, (inr (inl (omega arith)), tt)),
+          next_of_sorted (root_of problem fixings) (event 0 0 0 ∷ event 1 0 0 ∷ []) (event 1 1 4 ∷ event 0 1 10 ∷ []) (event 1 1 4) (second_ready release names w fixings (event 0 0 0 ∷ event 1 0 0 ∷ []) 1 4 (1, omega arith, refl)) (inl refl, (inr (inl (omega arith)), tt)),
           (
-            next_of_sorted problem fixings [] (event 0 0 0 ∷ event 1 0 0 ∷ event 1 1 4 ∷ []) (event 0 1 10 ∷ []) (event 0 1 10) (second_ready release names w fixings (event 0 0 0 ∷ event 1 0 0 ∷ event 1 1 4 ∷ []) 0 10 (0, omega arith, refl)) (inl refl, tt),
+            next_of_sorted (root_of problem fixings) (event 0 0 0 ∷ event 1 0 0 ∷ event 1 1 4 ∷ []) (event 0 1 10 ∷ []) (event 0 1 10) (second_ready release names w fixings (event 0 0 0 ∷ event 1 0 0 ∷ event 1 1 4 ∷ []) 0 10 (0, omega arith, refl)) (inl refl, tt),
             tt,
           ),
         ),
@@ -117,21 +118,21 @@ own_ranks u v arc_length own =
     let to : v.op ≡ 1 = ap (λ (x : Op). x.op) own.to_is in
     omega (arith, from, to)
 
-alone_starts : (release : ℕ) (names : List (List ℕ)) (w : IsWellFormed (two_trains release) two_costs names) (fixings : List Fixing) → IsFromZero (two release names w) fixings → IsOpen (two release names w) fixings []
-    → AllByRecursion (λ e. IsForced (two release names w) fixings [] (op_of e) × IsLongest (two release names w) fixings [] (op_of e) e.time) each_alone
+alone_starts : (release : ℕ) (names : List (List ℕ)) (w : IsWellFormed (two_trains release) two_costs names) (fixings : List Fixing) → IsFromZero (two release names w) fixings → IsOpen (root_of (two release names w) fixings)
+    → AllByRecursion (λ e. IsForced (root_of (two release names w) fixings) (op_of e) × IsLongest (root_of (two release names w) fixings) (op_of e) e.time) each_alone
 alone_starts release names w fixings low open_all =
     let problem = two release names w in
     let h = height 0 10 0 4 in
     let is = free_height release names w fixings low h (rises 0 10 0 4 (omega arith) (omega arith)) in
     let at_a0 = forced release names w fixings [] open_all 0 0 (omega arith) (omega arith) in
     let at_b0 = forced release names w fixings [] open_all 1 0 (omega arith) (omega arith) in (
-      (at_a0, longest problem fixings [] h is (a0 ∷ []) a0 ([], refl) (once (a0 ∷ []) (search rules)) (walk_from problem fixings [] a0 [] 0 low at_a0 refl)),
+      (at_a0, longest (root_of problem fixings) h is (a0 ∷ []) a0 ([], refl) (once (a0 ∷ []) (search rules)) (walk_from (root_of problem fixings) a0 [] 0 low at_a0 refl)),
       (
-        (at_b0, longest problem fixings [] h is (b0 ∷ []) b0 ([], refl) (once (b0 ∷ []) (search rules)) (walk_from problem fixings [] b0 [] 0 low at_b0 refl)),
+        (at_b0, longest (root_of problem fixings) h is (b0 ∷ []) b0 ([], refl) (once (b0 ∷ []) (search rules)) (walk_from (root_of problem fixings) b0 [] 0 low at_b0 refl)),
         (
-          (forced release names w fixings [] open_all 1 1 (omega arith) (omega arith), longest problem fixings [] h is (b0 ∷ b1 ∷ []) b1 (b0 ∷ [], refl) (once (b0 ∷ b1 ∷ []) (search rules)) (free_walk release names w fixings low open_all 1 (omega arith))),
+          (forced release names w fixings [] open_all 1 1 (omega arith) (omega arith), longest (root_of problem fixings) h is (b0 ∷ b1 ∷ []) b1 (b0 ∷ [], refl) (once (b0 ∷ b1 ∷ []) (search rules)) (free_walk release names w fixings low open_all 1 (omega arith))),
           (
-            (forced release names w fixings [] open_all 0 1 (omega arith) (omega arith), longest problem fixings [] h is (a0 ∷ a1 ∷ []) a1 (a0 ∷ [], refl) (once (a0 ∷ a1 ∷ []) (search rules)) (free_walk release names w fixings low open_all 0 (omega arith))),
+            (forced release names w fixings [] open_all 0 1 (omega arith) (omega arith), longest (root_of problem fixings) h is (a0 ∷ a1 ∷ []) a1 (a0 ∷ [], refl) (once (a0 ∷ a1 ∷ []) (search rules)) (free_walk release names w fixings low open_all 0 (omega arith))),
             tt,
           ),
         ),
@@ -144,17 +145,17 @@ AreDifferent plan = PairPlaces (λ i e j f. op_of e ≢ op_of f) 0 plan
 alone_different : AreDifferent each_alone
 alone_different = search rules
 
-alone_earliest : (release : ℕ) (names : List (List ℕ)) (w : IsWellFormed (two_trains release) two_costs names) (fixings : List Fixing) → IsFromZero (two release names w) fixings → IsOpen (two release names w) fixings []
-    → IsEarliest (two release names w) fixings [] each_alone
+alone_earliest : (release : ℕ) (names : List (List ℕ)) (w : IsWellFormed (two_trains release) two_costs names) (fixings : List Fixing) → IsFromZero (two release names w) fixings → IsOpen (root_of (two release names w) fixings)
+    → IsEarliest (root_of (two release names w) fixings) each_alone
 alone_earliest release names w fixings low open_all =
     let problem = two release names w in
     record {
       one_route = one_route release names w fixings [] open_all;
-      no_cycle = no_cycle problem fixings [] (λ o. o.op) (λ u v arc_length arc. own_ranks u v arc_length (free_arcs release names w fixings u v arc_length arc));
+      no_cycle = no_cycle (root_of problem fixings) (λ o. o.op) (λ u v arc_length arc. own_ranks u v arc_length (free_arcs release names w fixings u v arc_length arc));
       each_run = each_stands release names w fixings [] open_all each_alone alone_each;
-      none_else = of_each (λ e. IsForced problem fixings [] (op_of e) × IsLongest problem fixings [] (op_of e) e.time) each_alone (alone_starts release names w fixings low open_all);
+      none_else = of_each (λ e. IsForced (root_of problem fixings) (op_of e) × IsLongest (root_of problem fixings) (op_of e) e.time) each_alone (alone_starts release names w fixings low open_all);
       none_twice = λ i j e f lt at_i at_j. at_pair (λ k x l y. op_of x ≢ op_of y) 0 each_alone alone_different i j e f lt at_i at_j;
-      ordered = at_each (λ i e. IsNext problem fixings [] (take i each_alone) (drop i each_alone) e) each_alone (alone_ordered release names w fixings);
+      ordered = at_each (λ i e. IsNext (root_of problem fixings) (take i each_alone) (drop i each_alone) e) each_alone (alone_ordered release names w fixings);
     }
 
 -- ---- the first clash in it
@@ -188,24 +189,24 @@ alone_clash names w = record {
   not_apart = alone_not_apart names w;
 }
 
-alone_open : (names : List (List ℕ)) (w : IsWellFormed (two_trains 0) two_costs names) → IsOpenClash (two 0 names w) [] each_alone a0 b0
-alone_open names w = record {
+alone_open : (names : List (List ℕ)) (w : IsWellFormed (two_trains 0) two_costs names) (fixings : List Fixing) → IsOpenClash (root_of (two 0 names w) fixings) each_alone a0 b0
+alone_open names w fixings = record {
   trains = omega arith;
   clash = alone_clash names w;
   undecided = none_decided a0 b0;
   undecided_back = none_decided b0 a0;
 }
 
-pub picks_order : (names : List (List ℕ)) (w : IsWellFormed (two_trains 0) two_costs names) (fixings : List Fixing) → IsFromZero (two 0 names w) fixings → IsOpen (two 0 names w) fixings []
-    → PicksOrder (two 0 names w) fixings [] a0 b0
+pub picks_order : (names : List (List ℕ)) (w : IsWellFormed (two_trains 0) two_costs names) (fixings : List Fixing) → IsFromZero (two 0 names w) fixings → IsOpen (root_of (two 0 names w) fixings)
+    → PicksOrder (root_of (two 0 names w) fixings) a0 b0
 picks_order names w fixings low open_all = record {
   plan = each_alone;
   earliest = alone_earliest 0 names w fixings low open_all;
   not_valid = λ valid. alone_not_apart names w (valid.apart 0 1 (event 0 0 0) (event 1 0 0) (omega arith) refl refl (omega arith));
-  first_clash = record { open_clash = alone_open names w; first = λ c d clash. up_to c.train c.op d.train d.op clash.trains };
+  first_clash = record { open_clash = alone_open names w fixings; first = λ c d clash. up_to c.train c.op d.train d.op clash.trains };
 }
 
-pub order_is_picked : (problem : Problem) → HasTwoTrains 0 problem → IsPicked problem [] [] (Some (Order a0 b0))
+pub order_is_picked : (problem : Problem) → HasTwoTrains 0 problem → IsFixedPick (root_of problem []) (Some (Order a0 b0))
 order_is_picked problem has =
-    of_made (λ p. IsPicked p [] [] (Some (Order a0 b0))) (two_trains 0) two_costs
+    of_made (λ p. IsFixedPick (root_of p []) (Some (Order a0 b0))) (two_trains 0) two_costs
     (λ names w. picks_order names w [] (free_from_zero 0 names w) (opened 0 names w [] [] unfixed undecided)) problem has.trains has.components

@@ -2,10 +2,11 @@
 use Rattle.std.proofs.Common.{◌≡◌, ◌⊎◌, inl, inr, ℕ, zero, suc, ◌+◌, ◌<◌, List, [], ◌∷◌, Some, refl, sym, subst, ap, ◌∙◌, arith}
 use Rattle.std.specs.Prelude.{Contains, sum_by}
 use Rattle.std.proofs.lemmas.Option.{same_Some}
+use Rattle.disp_model.specs.Node.{Node, root_of, node_at}
 use Rattle.disp_model.specs.declared.train.Op.{Op}
 use Rattle.disp_model.specs.declared.fixing.Fixing.{Fixing}
 use Rattle.disp_model.specs.declared.decision.Decision.{Decision}
-use Rattle.disp_model.specs.declared.decision.Decision.TheVariants.{Go, First}
+use Rattle.disp_model.specs.declared.decision.Decision.TheVariants.{Go, First, Run, Skip}
 use Rattle.disp_model.specs.declared.problem.Problem.{Problem}
 use Rattle.disp_model.specs.WellFormed.{IsWellFormed}
 use Rattle.disp_model.specs.Train.{IsRoute, duration_of}
@@ -27,8 +28,8 @@ lasts zero = 10
 lasts (suc t) = 4
 
 -- each train may take its route
-abbrev pub IsOpen : Problem → List Fixing → List Decision → Type 0
-IsOpen problem fixings decisions = (t : ℕ) → t < 2 → IsAllowed problem fixings decisions t both
+abbrev pub IsOpen : Node → Type 0
+IsOpen node = (t : ℕ) → t < 2 → IsAllowed node t both
 
 pub route_is : (release : ℕ) (names : List (List ℕ)) (w : IsWellFormed (two_trains release) two_costs names) (t : ℕ) (route : List ℕ) → t < 2 → IsRoute (train_at (two release names w) t) route → route ≡ both
 route_is release names w zero route lt h = only_route 10 (listing 0 release ∷ []) 0 [] route h
@@ -66,7 +67,7 @@ own_parts release names w u v arc_length route lt same is_route p =
     }
 
 own_arc : (release : ℕ) (names : List (List ℕ)) (w : IsWellFormed (two_trains release) two_costs names) (fixings : List Fixing) (decisions : List Decision) (u v : Op) (arc_length : ℕ)
-    → u.train < 2 → IsTrainArc (two release names w) fixings decisions u v arc_length → IsOwn u v arc_length
+    → u.train < 2 → IsTrainArc (node_at (two release names w) fixings decisions) u v arc_length → IsOwn u v arc_length
 own_arc release names w fixings decisions u v arc_length lt arc =
     own_parts release names w u v arc_length arc.reached.0 lt arc.same_train arc.reached.1.is_route arc.reached.2
 
@@ -75,10 +76,14 @@ own_arc release names w fixings decisions u v arc_length lt arc =
 abbrev earlier : Decision → Op
 earlier (Go o next) = o
 earlier (First a b) = a
+earlier (Run o) = o
+earlier (Skip o) = o
 
 abbrev later : Decision → Op
 later (Go o next) = o
 later (First a b) = b
+later (Run o) = o
+later (Skip o) = o
 
 pub decided_is : (a b u v : Op) → Contains (First a b ∷ []) (First u v) → (u ≡ a) × (v ≡ b)
 decided_is a b u v (zero, lt, at) = (sym (ap earlier at), sym (ap later at))
@@ -89,7 +94,7 @@ none_decided u v (k, lt, at) = omega (arith, lt)
 
 -- with no decision each arc is a train's own
 pub free_arcs : (release : ℕ) (names : List (List ℕ)) (w : IsWellFormed (two_trains release) two_costs names) (fixings : List Fixing) (u v : Op) (arc_length : ℕ)
-    → IsArc (two release names w) fixings [] u v arc_length → IsOwn u v arc_length
+    → IsArc (root_of (two release names w) fixings) u v arc_length → IsOwn u v arc_length
 free_arcs release names w fixings u v arc_length arc =
     elim arc.kind [
       | inl own ↦ own_arc release names w fixings [] u v arc_length arc.from_forced.train own
@@ -114,13 +119,13 @@ abbrev pub one_order : ℕ → ℕ → List Decision
 one_order s t = First (op_named s 0) (op_named t 0) ∷ []
 
 freed_arc : (release : ℕ) (names : List (List ℕ)) (w : IsWellFormed (two_trains release) two_costs names) (fixings : List Fixing) (s t : ℕ) (u v : Op) (arc_length : ℕ)
-    → s < 2 → IsOpen (two release names w) fixings (one_order s t) → IsReleaseArc (two release names w) fixings (one_order s t) u v arc_length → IsFreed (two release names w) s t u v arc_length
+    → s < 2 → IsOpen (node_at (two release names w) fixings (one_order s t)) → IsReleaseArc (node_at (two release names w) fixings (one_order s t)) u v arc_length → IsFreed (two release names w) s t u v arc_length
 freed_arc release names w fixings s t u v arc_length lt open_all arc =
     let problem = two release names w in
     let named = decided_is (op_named s 0) (op_named t 0) arc.holder v arc.decided in
     let train : u.train ≡ s = arc.goes_to.0 ∙ ap (λ (x : Op). x.train) named.0 in
-    let goes : (route : List ℕ) → IsAllowed problem fixings (one_order s t) s route → after 0 route ≡ Some u.op
-    = subst (λ (x : Op). (route : List ℕ) → IsAllowed problem fixings (one_order s t) x.train route → after x.op route ≡ Some u.op) named.0 arc.goes_to.1 in
+    let goes : (route : List ℕ) → IsAllowed (node_at problem fixings (one_order s t)) s route → after 0 route ≡ Some u.op
+    = subst (λ (x : Op). (route : List ℕ) → IsAllowed (node_at problem fixings (one_order s t)) x.train route → after x.op route ≡ Some u.op) named.0 arc.goes_to.1 in
     let op : 1 ≡ u.op = same_Some 1 u.op (goes both (open_all s lt)) in
     record {
       from_is = op_is u s 1 train (sym op);
@@ -129,7 +134,7 @@ freed_arc release names w fixings s t u v arc_length lt open_all arc =
     }
 
 pub ordered_arcs : (release : ℕ) (names : List (List ℕ)) (w : IsWellFormed (two_trains release) two_costs names) (fixings : List Fixing) (s t : ℕ) (u v : Op) (arc_length : ℕ)
-    → s < 2 → IsOpen (two release names w) fixings (one_order s t) → IsArc (two release names w) fixings (one_order s t) u v arc_length
+    → s < 2 → IsOpen (node_at (two release names w) fixings (one_order s t)) → IsArc (node_at (two release names w) fixings (one_order s t)) u v arc_length
     → IsOwn u v arc_length ⊎ (IsOrdered (two release names w) s t u v arc_length ⊎ IsFreed (two release names w) s t u v arc_length)
 ordered_arcs release names w fixings s t u v arc_length lt open_all arc =
     elim arc.kind [

@@ -1,6 +1,7 @@
 -- The longest arcs of the two trains, and the walks along them.
 use Rattle.std.proofs.Common.{◌≡◌, ◌≢◌, inl, inr, ℕ, zero, suc, ◌+◌, ◌<◌, List, [], ◌∷◌, Some, None, Bool, true, false, cond, refl, sym, subst, ap, ◌∙◌, arith, rules}
 use Rattle.std.specs.Prelude.{◌==◌, ◌&&◌, All, Contains, unwrap_or}
+use Rattle.disp_model.specs.Node.{Node, root_of, node_at}
 use Rattle.disp_model.specs.declared.train.Op.{Op}
 use Rattle.disp_model.specs.declared.fixing.Fixing.{Fixing}
 use Rattle.disp_model.specs.declared.decision.Decision.{Decision}
@@ -9,7 +10,7 @@ use Rattle.disp_model.specs.WellFormed.{IsWellFormed}
 use Rattle.disp_model.specs.Fixing.{after}
 use Rattle.disp_model.specs.Routes.{IsForced, AgreesWithFixing, AgreesWithDecision}
 use Rattle.disp_model.specs.Arcs.{Conflicts, IsArc, IsTrainArc, IsReleaseArc, IsLongestArc, min_of, release_of}
-use Rattle.disp_model.specs.Walks.{lower_of, WalksOn, IsWalk, HasNoTwice}
+use Rattle.disp_model.specs.Walks.{lower_of, WalksOn, IsWalk, HasNoRepeat}
 use Rattle.definition_examples.specs.Trains.{two_trains, two_costs, op_named, listing}
 use Rattle.definition_examples.specs.Histories.{a0_at_0}
 use Rattle.definition_examples.proofs.Pairs.{PairPlaces, at_pair}
@@ -24,7 +25,7 @@ both_has (suc (suc o)) route lt same = absurd (omega (arith, lt))
 -- ---- nodes at which both trains may take their routes
 
 pub opened : (release : ℕ) (names : List (List ℕ)) (w : IsWellFormed (two_trains release) two_costs names) (fixings : List Fixing) (decisions : List Decision)
-    → ((t : ℕ) → All (AgreesWithFixing t both) fixings) → ((t : ℕ) → All (AgreesWithDecision t both) decisions) → IsOpen (two release names w) fixings decisions
+    → ((t : ℕ) → All (AgreesWithFixing t both) fixings) → ((t : ℕ) → All (AgreesWithDecision t both) decisions) → IsOpen (node_at (two release names w) fixings decisions)
 opened release names w fixings decisions fixed decided zero lt = record { is_route = route_there 10 (listing 0 release ∷ []) 0 []; fixings_agree = fixed 0; decisions_agree = decided 0 }
 opened release names w fixings decisions fixed decided (suc zero) lt = record { is_route = route_there 4 (listing 0 release ∷ []) 0 []; fixings_agree = fixed 1; decisions_agree = decided 1 }
 opened release names w fixings decisions fixed decided (suc (suc t)) lt = absurd (omega (arith, lt))
@@ -68,7 +69,7 @@ started_from_zero release names w o = fixed_or_free ((0 == o.train) && (0 == o.o
 -- ---- forced operations and arcs
 
 pub forced : (release : ℕ) (names : List (List ℕ)) (w : IsWellFormed (two_trains release) two_costs names) (fixings : List Fixing) (decisions : List Decision)
-    → IsOpen (two release names w) fixings decisions → (t o : ℕ) → t < 2 → o < 2 → IsForced (two release names w) fixings decisions (op_named t o)
+    → IsOpen (node_at (two release names w) fixings decisions) → (t o : ℕ) → t < 2 → o < 2 → IsForced (node_at (two release names w) fixings decisions) (op_named t o)
 forced release names w fixings decisions open_all t o lt lo = record {
   train = lt;
   allowed = (both, open_all t lt);
@@ -79,7 +80,7 @@ own_length : (t arc_length : ℕ) → IsOwn (op_named t 0) (op_named t 1) arc_le
 own_length t arc_length own = own.length_is ∙ ap lasts (sym (ap (λ (x : Op). x.train) own.from_is))
 
 own_train_arc : (release : ℕ) (names : List (List ℕ)) (w : IsWellFormed (two_trains release) two_costs names) (fixings : List Fixing) (decisions : List Decision)
-    → IsOpen (two release names w) fixings decisions → (t : ℕ) → t < 2 → IsTrainArc (two release names w) fixings decisions (op_named t 0) (op_named t 1) (lasts t)
+    → IsOpen (node_at (two release names w) fixings decisions) → (t : ℕ) → t < 2 → IsTrainArc (node_at (two release names w) fixings decisions) (op_named t 0) (op_named t 1) (lasts t)
 own_train_arc release names w fixings decisions open_all t lt = record {
   same_train = refl;
   reached = (both, open_all t lt, record { before = []; between = []; behind = []; route_is = refl; total_is = sym (sum_is release names w t lt) });
@@ -88,7 +89,7 @@ own_train_arc release names w fixings decisions open_all t lt = record {
 }
 
 pub own_there : (release : ℕ) (names : List (List ℕ)) (w : IsWellFormed (two_trains release) two_costs names) (fixings : List Fixing) (decisions : List Decision)
-    → IsOpen (two release names w) fixings decisions → (t : ℕ) → t < 2 → IsArc (two release names w) fixings decisions (op_named t 0) (op_named t 1) (lasts t)
+    → IsOpen (node_at (two release names w) fixings decisions) → (t : ℕ) → t < 2 → IsArc (node_at (two release names w) fixings decisions) (op_named t 0) (op_named t 1) (lasts t)
 own_there release names w fixings decisions open_all t lt = record {
   from_forced = forced release names w fixings decisions open_all t 0 lt (omega arith);
   to_forced = forced release names w fixings decisions open_all t 1 lt (omega arith);
@@ -96,7 +97,7 @@ own_there release names w fixings decisions open_all t lt = record {
 }
 
 pub free_longest : (release : ℕ) (names : List (List ℕ)) (w : IsWellFormed (two_trains release) two_costs names) (fixings : List Fixing)
-    → IsOpen (two release names w) fixings [] → (t : ℕ) → t < 2 → IsLongestArc (two release names w) fixings [] (op_named t 0) (op_named t 1) (lasts t)
+    → IsOpen (root_of (two release names w) fixings) → (t : ℕ) → t < 2 → IsLongestArc (root_of (two release names w) fixings) (op_named t 0) (op_named t 1) (lasts t)
 free_longest release names w fixings open_all t lt = record {
   there = own_there release names w fixings [] open_all t lt;
   longest = λ other arc.
@@ -133,7 +134,7 @@ one_is_none : (s t : ℕ) → op_named s 1 ≡ op_named t 0 → ⊥
 one_is_none s t e = let same : 1 ≡ 0 = ap (λ (x : Op). x.op) e in omega (arith, same)
 
 pub ordered_longest : (release : ℕ) (names : List (List ℕ)) (w : IsWellFormed (two_trains release) two_costs names) (fixings : List Fixing) (s t u : ℕ) → IsPair release (two release names w) s t
-    → IsOpen (two release names w) fixings (one_order s t) → u < 2 → IsLongestArc (two release names w) fixings (one_order s t) (op_named u 0) (op_named u 1) (lasts u)
+    → IsOpen (node_at (two release names w) fixings (one_order s t)) → u < 2 → IsLongestArc (node_at (two release names w) fixings (one_order s t)) (op_named u 0) (op_named u 1) (lasts u)
 ordered_longest release names w fixings s t u pair open_all lt = record {
   there = own_there release names w fixings (one_order s t) open_all u lt;
   longest = λ other arc.
@@ -147,7 +148,7 @@ ordered_longest release names w fixings s t u pair open_all lt = record {
 }
 
 freed_there : (release : ℕ) (names : List (List ℕ)) (w : IsWellFormed (two_trains release) two_costs names) (fixings : List Fixing) (s t : ℕ) → IsPair release (two release names w) s t
-    → IsOpen (two release names w) fixings (one_order s t) → IsReleaseArc (two release names w) fixings (one_order s t) (op_named s 1) (op_named t 0) release
+    → IsOpen (node_at (two release names w) fixings (one_order s t)) → IsReleaseArc (node_at (two release names w) fixings (one_order s t)) (op_named s 1) (op_named t 0) release
 freed_there release names w fixings s t pair open_all = record {
   holder = op_named s 0;
   decided = (0, omega arith, refl);
@@ -158,7 +159,7 @@ freed_there release names w fixings s t pair open_all = record {
 }
 
 pub freed_longest : (release : ℕ) (names : List (List ℕ)) (w : IsWellFormed (two_trains release) two_costs names) (fixings : List Fixing) (s t : ℕ) → IsPair release (two release names w) s t
-    → IsOpen (two release names w) fixings (one_order s t) → IsLongestArc (two release names w) fixings (one_order s t) (op_named s 1) (op_named t 0) release
+    → IsOpen (node_at (two release names w) fixings (one_order s t)) → IsLongestArc (node_at (two release names w) fixings (one_order s t)) (op_named s 1) (op_named t 0) release
 freed_longest release names w fixings s t pair open_all = record {
   there = record {
     from_forced = forced release names w fixings (one_order s t) open_all s 1 pair.first (omega arith);
@@ -177,43 +178,43 @@ freed_longest release names w fixings s t pair open_all = record {
 
 -- ---- walks
 
-pub walk_from : (problem : Problem) (fixings : List Fixing) (decisions : List Decision) (u : Op) (rest : List Op) (total : ℕ)
-    → IsFromZero problem fixings → IsForced problem fixings decisions u → WalksOn problem fixings decisions u 0 rest total → IsWalk problem fixings decisions (u ∷ rest) total
-walk_from problem fixings decisions u rest total low is_forced on = (is_forced, subst (λ (l : ℕ). WalksOn problem fixings decisions u l rest total) (sym (low u)) on)
+pub walk_from : (node : Node) (u : Op) (rest : List Op) (total : ℕ)
+    → IsFromZero node.problem node.fixings → IsForced node u → WalksOn node u 0 rest total → IsWalk node (u ∷ rest) total
+walk_from node u rest total low is_forced on = (is_forced, subst (λ (l : ℕ). WalksOn node u l rest total) (sym (low u)) on)
 
-pub once : (walk : List Op) → PairPlaces (λ i x j y. x ≢ y) 0 walk → HasNoTwice walk
+pub once : (walk : List Op) → PairPlaces (λ i x j y. x ≢ y) 0 walk → HasNoRepeat walk
 once walk h i j o lt at_i at_j = at_pair (λ k x l y. x ≢ y) 0 walk h i j o o lt at_i at_j refl
 
 -- through one train, with no decision
 pub free_walk : (release : ℕ) (names : List (List ℕ)) (w : IsWellFormed (two_trains release) two_costs names) (fixings : List Fixing) → IsFromZero (two release names w) fixings
-    → IsOpen (two release names w) fixings [] → (t : ℕ) → t < 2 → IsWalk (two release names w) fixings [] (op_named t 0 ∷ op_named t 1 ∷ []) (0 + lasts t)
+    → IsOpen (root_of (two release names w) fixings) → (t : ℕ) → t < 2 → IsWalk (root_of (two release names w) fixings) (op_named t 0 ∷ op_named t 1 ∷ []) (0 + lasts t)
 free_walk release names w fixings low open_all t lt =
-    walk_from (two release names w) fixings [] (op_named t 0) (op_named t 1 ∷ []) (0 + lasts t) low (forced release names w fixings [] open_all t 0 lt (omega arith))
+    walk_from (root_of (two release names w) fixings) (op_named t 0) (op_named t 1 ∷ []) (0 + lasts t) low (forced release names w fixings [] open_all t 0 lt (omega arith))
     (lasts t, free_longest release names w fixings open_all t lt, refl)
 
 -- through one train, with an order
 pub own_walk : (release : ℕ) (names : List (List ℕ)) (w : IsWellFormed (two_trains release) two_costs names) (fixings : List Fixing) (s t u : ℕ) → IsPair release (two release names w) s t
-    → IsFromZero (two release names w) fixings → IsOpen (two release names w) fixings (one_order s t) → u < 2
-    → IsWalk (two release names w) fixings (one_order s t) (op_named u 0 ∷ op_named u 1 ∷ []) (0 + lasts u)
+    → IsFromZero (two release names w) fixings → IsOpen (node_at (two release names w) fixings (one_order s t)) → u < 2
+    → IsWalk (node_at (two release names w) fixings (one_order s t)) (op_named u 0 ∷ op_named u 1 ∷ []) (0 + lasts u)
 own_walk release names w fixings s t u pair low open_all lt =
-    walk_from (two release names w) fixings (one_order s t) (op_named u 0) (op_named u 1 ∷ []) (0 + lasts u) low (forced release names w fixings (one_order s t) open_all u 0 lt (omega arith))
+    walk_from (node_at (two release names w) fixings (one_order s t)) (op_named u 0) (op_named u 1 ∷ []) (0 + lasts u) low (forced release names w fixings (one_order s t) open_all u 0 lt (omega arith))
     (lasts u, ordered_longest release names w fixings s t u pair open_all lt, refl)
 
 -- through the first train to the second
 pub across : (release : ℕ) (names : List (List ℕ)) (w : IsWellFormed (two_trains release) two_costs names) (fixings : List Fixing) (s t : ℕ) → IsPair release (two release names w) s t
-    → IsFromZero (two release names w) fixings → IsOpen (two release names w) fixings (one_order s t)
-    → IsWalk (two release names w) fixings (one_order s t) (op_named s 0 ∷ op_named s 1 ∷ op_named t 0 ∷ []) ((0 + lasts s) + release)
+    → IsFromZero (two release names w) fixings → IsOpen (node_at (two release names w) fixings (one_order s t))
+    → IsWalk (node_at (two release names w) fixings (one_order s t)) (op_named s 0 ∷ op_named s 1 ∷ op_named t 0 ∷ []) ((0 + lasts s) + release)
 across release names w fixings s t pair low open_all =
-    walk_from (two release names w) fixings (one_order s t) (op_named s 0) (op_named s 1 ∷ op_named t 0 ∷ []) ((0 + lasts s) + release) low
+    walk_from (node_at (two release names w) fixings (one_order s t)) (op_named s 0) (op_named s 1 ∷ op_named t 0 ∷ []) ((0 + lasts s) + release) low
     (forced release names w fixings (one_order s t) open_all s 0 pair.first (omega arith))
     (lasts s, ordered_longest release names w fixings s t s pair open_all pair.first, (release, freed_longest release names w fixings s t pair open_all, refl))
 
 -- through the first train and the second
 pub through : (release : ℕ) (names : List (List ℕ)) (w : IsWellFormed (two_trains release) two_costs names) (fixings : List Fixing) (s t : ℕ) → IsPair release (two release names w) s t
-    → IsFromZero (two release names w) fixings → IsOpen (two release names w) fixings (one_order s t)
-    → IsWalk (two release names w) fixings (one_order s t) (op_named s 0 ∷ op_named s 1 ∷ op_named t 0 ∷ op_named t 1 ∷ []) (((0 + lasts s) + release) + lasts t)
+    → IsFromZero (two release names w) fixings → IsOpen (node_at (two release names w) fixings (one_order s t))
+    → IsWalk (node_at (two release names w) fixings (one_order s t)) (op_named s 0 ∷ op_named s 1 ∷ op_named t 0 ∷ op_named t 1 ∷ []) (((0 + lasts s) + release) + lasts t)
 through release names w fixings s t pair low open_all =
-    walk_from (two release names w) fixings (one_order s t) (op_named s 0) (op_named s 1 ∷ op_named t 0 ∷ op_named t 1 ∷ []) (((0 + lasts s) + release) + lasts t) low
+    walk_from (node_at (two release names w) fixings (one_order s t)) (op_named s 0) (op_named s 1 ∷ op_named t 0 ∷ op_named t 1 ∷ []) (((0 + lasts s) + release) + lasts t) low
     (forced release names w fixings (one_order s t) open_all s 0 pair.first (omega arith)) (
       lasts s,
       ordered_longest release names w fixings s t s pair open_all pair.first,

@@ -31,7 +31,7 @@ pub use plans::{
 };
 pub use problems::the_examples_are_problems;
 pub use replies::{
-    a_fixing_has_one_reply, a_fixing_names_what_is_there, a_start_is_fixed_once,
+    a_fixing_names_what_is_there, a_start_is_fixed_once,
     a_start_is_within_its_window,
 };
 pub use routes::{

@@ -48,7 +48,7 @@ walk_costs_in node plan c walk total valid follows is ends =
 
 -- ---- walks to distinct components
 
-abbrev total_of : List ℕ → ℕ
+abbrev pub total_of : List ℕ → ℕ
 total_of [] = 0
 total_of (c ∷ costs) = c + total_of costs
 
@@ -71,10 +71,10 @@ without_other (suc k) zero (c ∷ costs) not = refl
 without_other (suc k) (suc l) (c ∷ costs) not = without_other k l costs (λ e. not (ap (λ (n : ℕ). suc n) e))
 
 -- each walk of a list costs at most what stands at its component's place
-abbrev EachWithin : Node → List ComponentWalk → List ℕ → Type 0
+abbrev pub EachWithin : Node → List ComponentWalk → List ℕ → Type 0
 EachWithin node walks costs = (i : ℕ) (w : ComponentWalk) (cost : ℕ) → slice_get walks i ≡ Some w → WalkCosts node w cost → cost ≤ get_or costs w.component 0
 
-walks_within : (node : Node) (walks : List ComponentWalk) (sum : ℕ) (costs : List ℕ) → WalksCost node walks sum → HaveDistinct walks → EachWithin node walks costs → sum ≤ total_of costs
+pub walks_within : (node : Node) (walks : List ComponentWalk) (sum : ℕ) (costs : List ℕ) → WalksCost node walks sum → HaveDistinct walks → EachWithin node walks costs → sum ≤ total_of costs
 walks_within node [] sum costs adds distinct each = omega (arith, adds)
 walks_within node (w ∷ walks) sum costs adds distinct each =
     let first = each 0 w adds.0 refl adds.2 in
@@ -83,23 +83,23 @@ walks_within node (w ∷ walks) sum costs adds distinct each =
     let rest = walks_within node walks adds.1 (without w.component costs) adds.3 (λ i j v u lt at there. distinct (suc i) (suc j) v u (omega (arith, lt)) at there) later in
     omega (arith, adds.4, first, rest, without_total w.component costs)
 
-total_of_map : (plan : List Event) (components : List Component) → total_of (map (cost_in plan) components) ≡ sum_by (cost_in plan) components
-total_of_map plan [] = refl
-total_of_map plan (c ∷ components) = rw (sum_by-cons (cost_in plan) c components) (ap (λ (n : ℕ). cost_in plan c + n) (total_of_map plan components))
+pub total_of_map : (f : Component → ℕ) (components : List Component) → total_of (map f components) ≡ sum_by f components
+total_of_map f [] = refl
+total_of_map f (c ∷ components) = rw (sum_by-cons f c components) (ap (λ (n : ℕ). f c + n) (total_of_map f components))
 
-cost_at_place : (plan : List Event) (components : List Component) (k : ℕ) (c : Component) → slice_get components k ≡ Some c → get_or (map (cost_in plan) components) k 0 ≡ cost_in plan c
-cost_at_place plan [] k c at = absurd (none-some c at)
-cost_at_place plan (d ∷ components) zero c at = ap (cost_in plan) (same_Some d c at)
-cost_at_place plan (d ∷ components) (suc k) c at = cost_at_place plan components k c at
+pub cost_at_place : (f : Component → ℕ) (components : List Component) (k : ℕ) (c : Component) → slice_get components k ≡ Some c → get_or (map f components) k 0 ≡ f c
+cost_at_place f [] k c at = absurd (none-some c at)
+cost_at_place f (d ∷ components) zero c at = ap f (same_Some d c at)
+cost_at_place f (d ∷ components) (suc k) c at = cost_at_place f components k c at
 
 -- walks to distinct components cost together no more than the plan
 pub walks_cost : (node : Node) (plan : List Event) (walks : List ComponentWalk) (sum : ℕ) → IsValid node.problem node.fixings plan → Follows plan node.decisions
     → HaveDistinct walks → WalksCost node walks sum → sum ≤ cost_of node.problem.components plan
 walks_cost node plan walks sum valid follows distinct adds =
     let each : EachWithin node walks (map (cost_in plan) node.problem.components) =
-    λ i w cost at is. let place = cost_at_place plan node.problem.components w.component is.component is.there in
+    λ i w cost at is. let place = cost_at_place (cost_in plan) node.problem.components w.component is.component is.there in
     rw place (omega (arith, is.cost_is, walk_costs_in node plan is.component w.walk is.total valid follows is.is_walk is.ends)) in
-    omega (arith, walks_within node walks sum (map (cost_in plan) node.problem.components) adds distinct each, total_of_map plan node.problem.components)
+    omega (arith, walks_within node walks sum (map (cost_in plan) node.problem.components) adds distinct each, total_of_map (cost_in plan) node.problem.components)
 
 -- ---- the bound
 

@@ -142,7 +142,7 @@ rebased : (node : Node) (u : Op) (walked later : ℕ) (rest : List Op) (total : 
 rebased node u walked later [] total walk = (later, refl)
 rebased node u walked later (v ∷ rest) total walk = let on = rebased node v (walked + walk.0) (later + walk.0) rest total walk.2 in (on.0, (walk.0, walk.1, on.1))
 
-walk_once : (node : Node) → (HasCycle node → ⊥) → (u : Op) (walked : ℕ) (rest : List Op) (total : ℕ) → WalksOn node u walked rest total → Once (u ∷ rest)
+pub walk_once : (node : Node) → (HasCycle node → ⊥) → (u : Op) (walked : ℕ) (rest : List Op) (total : ℕ) → WalksOn node u walked rest total → Once (u ∷ rest)
 walk_once node no_cycle u walked [] total walk = ((λ there. there), tt)
 walk_once node no_cycle u walked (v ∷ rest) total walk = (
   (λ there. no_cycle (back_is_cycle node v (walked + walk.0) rest total walk.2 u there (walk.0, walk.1.there))),

@@ -113,12 +113,12 @@ passes_both train route u v n acyclic is leads one other =
 
 -- ---- the least of a list
 
-record IsLeastOf (f : List ℕ → ℕ) (routes : List (List ℕ)) : Type 0 where
+pub record IsLeastOf (f : List ℕ → ℕ) (routes : List (List ℕ)) : Type 0 where
   pub route : List ℕ
   pub there : Contains routes route
   pub least : (other : List ℕ) → Contains routes other → f route ≤ f other
 
-least_of : (f : List ℕ → ℕ) (first : List ℕ) (routes : List (List ℕ)) → IsLeastOf f (first ∷ routes)
+pub least_of : (f : List ℕ → ℕ) (first : List ℕ) (routes : List (List ℕ)) → IsLeastOf f (first ∷ routes)
 least_of f first [] = record { route = first; there = (0, omega arith, refl); least = λ other there. only other there }
   where
     only : (other : List ℕ) → Contains (first ∷ []) other → f first ≤ f other

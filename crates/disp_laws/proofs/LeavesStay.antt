@@ -1,12 +1,13 @@
 -- With an accepted fixing added a leaf that holds still holds, and an accepted tree is still accepted.
-use Rattle.std.proofs.Common.{◌≡◌, ℕ, zero, suc, ◌+◌, ◌<◌, ◌≤◌, List, [], ◌∷◌, ◌++◌, length, map, refl, sym, ap, subst, ◌∙◌, arith, inl, inr}
-use Rattle.std.specs.Prelude.{◌⊎◌}
+use Rattle.std.proofs.Common.{◌≡◌, ℕ, zero, suc, ◌+◌, ◌<◌, ◌≤◌, List, [], ◌∷◌, ◌++◌, length, map, Bool, true, false, cond, refl, sym, ap, subst, ◌∙◌, arith, inl, inr}
+use Rattle.std.specs.Prelude.{nat_eq, max, ◌⊎◌}
 use Rattle.std.proofs.lemmas.Bool.{cases_lt}
 use Rattle.std.proofs.lemmas.List.{map-append}
 use Rattle.disp_model.specs.declared.train.Op.{Op}
 use Rattle.disp_model.specs.declared.fixing.Fixing.{Fixing}
 use Rattle.disp_model.specs.declared.decision.Decision.{Decision}
 use Rattle.disp_model.specs.declared.tree.ComponentWalk.{ComponentWalk}
+use Rattle.disp_model.specs.declared.tree.TrainWalks.{TrainWalks}
 use Rattle.disp_model.specs.declared.tree.Leaf.{Leaf as TreeLeaf}
 use Rattle.disp_model.specs.declared.tree.Leaf.TheVariants.{NoRoute, Cycle, Late, Costs, Shares}
 use Rattle.disp_model.specs.declared.tree.TreeNode.{TreeNode}
@@ -19,15 +20,17 @@ use Rattle.disp_model.specs.Node.{Node, root_of, with_decision, with_fixings}
 use Rattle.disp_model.specs.Routes.{HasRoute, HasNoRoute}
 use Rattle.disp_model.specs.Arcs.{IsArc, IsLongestArc}
 use Rattle.disp_model.specs.Walks.{lower_of, WalksOn, IsWalk, ClosesTo, IsCycle}
-use Rattle.disp_model.specs.Trees.{IsLateWalk, WalkCosts, WalksCost, ReachVerdict, Shows, LeafHolds, children_of, Fills, Accepts}
+use Rattle.disp_model.specs.Shares.{Arrival, AreWalksOn, greatest_to, shown_base, ShowsShare, SharesCost}
+use Rattle.disp_model.specs.Trees.{IsLateWalk, WalkCosts, WalksCost, ReachVerdict, ShareVerdict, Shows, LeafHolds, children_of, Fills, Accepts}
 use Rattle.disp_laws.proofs.Costs.{costs_grow}
-use Rattle.disp_laws.proofs.Tightened.{Tightens, still_forced, still_none, release_arc_stays}
+use Rattle.disp_laws.proofs.Shares.{train_there, share_exists, share_grows}
+use Rattle.disp_laws.proofs.Tightened.{Tightens, routes_before, still_forced, still_none, release_arc_stays}
 use Rattle.disp_laws.proofs.RouteSearch.{Decided, has_route_or_not}
 use Rattle.disp_laws.proofs.LeastSums.{train_arc_stays}
 use Rattle.disp_laws.proofs.LongestArcs.{longest_arc}
 
 -- each train has an allowed route
-abbrev HaveRoutes : Node → Type 0
+abbrev pub HaveRoutes : Node → Type 0
 HaveRoutes node = (t : ℕ) → t < length node.problem.trains → HasRoute node t
 
 none_or_all : (P : ℕ → Type 0) (n : ℕ) → ((t : ℕ) → t < n → Decided (P t)) → ((t : ℕ) × (t < n) × (P t → ⊥)) ⊎ ((t : ℕ) → t < n → P t)
@@ -43,7 +46,7 @@ none_or_all P (suc n) each = elim (each n (omega arith)) [
     last_or_before : (P : ℕ → Type 0) (n : ℕ) → P n → ((t : ℕ) → t < n → P t) → (t : ℕ) → t < suc n → P t
     last_or_before P n here all t lt = elim (cases_lt t n) [ inl before ↦ all t before | inr le ↦ subst P (let same : n ≡ t = omega (arith, le, lt) in same) here ]
 
-routes_or_none : (node : Node) → HasNoRoute node ⊎ HaveRoutes node
+pub routes_or_none : (node : Node) → HasNoRoute node ⊎ HaveRoutes node
 routes_or_none node = none_or_all (HasRoute node) (length node.problem.trains) (λ t there. has_route_or_not node t there)
 
 -- ---- arcs
@@ -130,13 +133,67 @@ reach_stays node more (Optimal cost) walks tightens all enough =
     record { distinct = enough.distinct; sum = new.0; sum_is = new.1; enough = omega (arith, enough.enough, new.2) }
 reach_stays node more Infeasible walks tightens all enough = enough
 
+-- walks on a train stay, and end no earlier
+walks_on_train_stay : (node : Node) (more : List Fixing) → Tightens node.problem node.fixings more → HaveRoutes (with_fixings node more) → (t : ℕ) (walks : List (List Op)) (arrivals : List Arrival) → AreWalksOn node t walks arrivals
+    → (new : List Arrival) × AreWalksOn (with_fixings node more) t walks new × ((o : ℕ) → greatest_to o arrivals ≤ greatest_to o new)
+walks_on_train_stay node more tightens all t [] [] are = ([], tt, λ o. omega arith)
+walks_on_train_stay node more tightens all t [] (a ∷ arrivals) are = absurd are
+walks_on_train_stay node more tightens all t (w ∷ walks) [] are = absurd are
+walks_on_train_stay node more tightens all t (w ∷ walks) (a ∷ arrivals) are =
+    let walk = walk_stays node more w a.total tightens all are.1 in
+    let rest = walks_on_train_stay node more tightens all t walks arrivals are.2 in
+    let new : Arrival = record { operation = a.operation; total = walk.0 } in
+    (new ∷ rest.0, (are.0, walk.1, rest.1), λ o. here o (nat_eq a.operation o) walk.0 rest.0 walk.2 (rest.2 o))
+  where
+    here : (o : ℕ) (b : Bool) (total : ℕ) (new : List Arrival) → a.total ≤ total → greatest_to o arrivals ≤ greatest_to o new
+        → cond b (max a.total (greatest_to o arrivals)) (greatest_to o arrivals) ≤ cond b (max total (greatest_to o new)) (greatest_to o new)
+    here o true total new le later = omega (arith, le, later)
+    here o false total new le later = later
+
+share_stays : (node : Node) (more : List Fixing) → Tightens node.problem node.fixings more → HaveRoutes (with_fixings node more) → (listed : TrainWalks) (share : ℕ) → ShowsShare node listed share
+    → (new : ℕ) × ShowsShare (with_fixings node more) listed new × (share ≤ new)
+share_stays node more tightens all listed share shown =
+    let t = listed.train in
+    let later = with_fixings node more in
+    let walks = walks_on_train_stay node more tightens all t listed.walks shown.arrivals shown.walks in
+    let there = train_there node t shown.over.there.0 shown.over.there.1 in
+    let new = share_exists later t (shown_base later t walks.0) there (all t there) in
+    let grows = share_grows node later t (shown_base node t shown.arrivals) (shown_base later t walks.0) share new.0 refl (λ route allowed. routes_before node more t route allowed)
+    (λ o. omega (arith, tightens.lowers (record { train = t; op = o }), walks.2 o)) shown.over new.1 in
+    (new.0, record { arrivals = walks.0; walks = walks.1; over = new.1 }, grows)
+
+shares_cost_stay : (node : Node) (more : List Fixing) → Tightens node.problem node.fixings more → HaveRoutes (with_fixings node more) → (trains : List TrainWalks) (sum : ℕ) → SharesCost node trains sum
+    → (new : ℕ) × SharesCost (with_fixings node more) trains new × (sum ≤ new)
+shares_cost_stay node more tightens all [] sum adds = (0, refl, omega (arith, adds))
+shares_cost_stay node more tightens all (listed ∷ trains) sum adds =
+    let here = share_stays node more tightens all listed adds.0 adds.2 in
+    let rest = shares_cost_stay node more tightens all trains adds.1 adds.3 in
+    (here.0 + rest.0, (here.0, rest.0, here.1, rest.1, refl), omega (arith, adds.4, here.2, rest.2))
+
+share_verdict_stays : (node : Node) (more : List Fixing) (verdict : Verdict) (walks : List ComponentWalk) (trains : List TrainWalks) → Tightens node.problem node.fixings more → HaveRoutes (with_fixings node more)
+    → ShareVerdict node verdict walks trains → ShareVerdict (with_fixings node more) verdict walks trains
+share_verdict_stays node more (Optimal cost) walks trains tightens all enough =
+    let own = walks_cost_stay node more tightens all walks enough.sum enough.sum_is in
+    let shares = shares_cost_stay node more tightens all trains enough.shares enough.shares_is in
+    record {
+      distinct = enough.distinct;
+      distinct_trains = enough.distinct_trains;
+      others = enough.others;
+      sum = own.0;
+      sum_is = own.1;
+      shares = shares.0;
+      shares_is = shares.1;
+      enough = omega (arith, enough.enough, own.2, shares.2);
+    }
+share_verdict_stays node more Infeasible walks trains tightens all enough = enough
+
 shows_stay : (node : Node) (more : List Fixing) (verdict : Verdict) (leaf : TreeLeaf) → Tightens node.problem node.fixings more → HaveRoutes (with_fixings node more)
     → Shows node verdict leaf → Shows (with_fixings node more) verdict leaf
 shows_stay node more verdict NoRoute tightens all shown = shown
 shows_stay node more verdict (Cycle nodes) tightens all shown = cycle_stays node more nodes all shown
 shows_stay node more verdict (Late walk) tightens all shown = late_stays node more walk tightens all shown
 shows_stay node more verdict (Costs walks) tightens all shown = reach_stays node more verdict walks tightens all shown
-shows_stay node more verdict (Shares walks trains) tightens all shown = ?
+shows_stay node more verdict (Shares walks trains) tightens all shown = share_verdict_stays node more verdict walks trains tightens all shown
 
 pub leaf_stays : (node : Node) (more : List Fixing) (verdict : Verdict) (leaf : TreeLeaf) → Tightens node.problem node.fixings more
     → LeafHolds node verdict leaf → LeafHolds (with_fixings node more) verdict leaf

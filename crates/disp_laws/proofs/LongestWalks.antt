@@ -43,7 +43,7 @@ walks_on_or_not node u walked (v ∷ rest) = elim (has_arc_or_not node u v) [
       | inr none ↦ inr (λ h. none (h.0, subst (λ (n : ℕ). WalksOn node v (walked + n) rest h.0) (one_longest_arc node u v h.1.0 arc.0 h.1.1 arc.1) h.1.2))
     ]
 
-is_walk_or_not : (node : Node) (walk : List Op) → Decided ((total : ℕ) × IsWalk node walk total)
+pub is_walk_or_not : (node : Node) (walk : List Op) → Decided ((total : ℕ) × IsWalk node walk total)
 is_walk_or_not node [] = inr (λ h. h.1)
 is_walk_or_not node (u ∷ rest) = elim (both (is_forced_or_not node u) (walks_on_or_not node u (lower_of node.problem node.fixings u) rest)) [
   | inl is ↦ inl (is.1.0, (is.0, is.1.1))
@@ -56,7 +56,7 @@ walks_on_same node u walked (v ∷ rest) s t one other =
     let same = one_longest_arc node u v other.0 one.0 other.1 one.1 in
     walks_on_same node v (walked + one.0) rest s t one.2 (subst (λ (n : ℕ). WalksOn node v (walked + n) rest t) same other.2)
 
-is_walk_same : (node : Node) (walk : List Op) (s t : ℕ) → IsWalk node walk s → IsWalk node walk t → s ≡ t
+pub is_walk_same : (node : Node) (walk : List Op) (s t : ℕ) → IsWalk node walk s → IsWalk node walk t → s ≡ t
 is_walk_same node [] s t one other = absurd one
 is_walk_same node (u ∷ rest) s t one other = walks_on_same node u (lower_of node.problem node.fixings u) rest s t one.1 other.1
 
@@ -87,11 +87,11 @@ abbrev pub Once : List Op → Type 0
 Once [] = Unit {0}
 Once (o ∷ ops) = (Among o ops → ⊥) × Once ops
 
-once_from : (walk : List Op) → HasNoRepeat walk → Once walk
+pub once_from : (walk : List Op) → HasNoRepeat walk → Once walk
 once_from [] single = tt
 once_from (o ∷ ops) single = ((λ there. let at = at_among o ops there in single 0 (suc at.0) o (omega arith) refl at.1), once_from ops (λ i j p lt one. single (suc i) (suc j) p (omega (arith, lt)) one))
 
-from_once : (walk : List Op) → Once walk → HasNoRepeat walk
+pub from_once : (walk : List Op) → Once walk → HasNoRepeat walk
 from_once [] once i j o lt one other = none-some o one
 from_once (p ∷ ops) once zero zero o lt one other = omega (arith, lt)
 from_once (p ∷ ops) once zero (suc j) o lt one other = once.0 (among_at p ops j (other ∙ sym one))
@@ -105,7 +105,7 @@ once_or_not (o ∷ ops) = elim (among_or_not o ops) [
   | inr none ↦ elim (once_or_not ops) [ inl rest ↦ inl (none, rest) | inr n ↦ inr (λ once. n once.1) ]
 ]
 
-ends_or_not : (walk : List Op) (o : Op) → Decided (EndsIn walk o)
+pub ends_or_not : (walk : List Op) (o : Op) → Decided (EndsIn walk o)
 ends_or_not [] o = inr (λ h. nowhere h.0 h.1)
   where
     nowhere : (front : List Op) → [] ≡ front ++ o ∷ [] → ⊥
@@ -331,7 +331,7 @@ longest_walk node o forced =
 
 -- ---- so each node has a bound
 
-adds_some : (node : Node) (c : Component) → (cost : ℕ) × AddsForced node c cost
+pub adds_some : (node : Node) (c : Component) → (cost : ℕ) × AddsForced node c cost
 adds_some node c = elim (is_forced_or_not node (component_op c)) [
   | inl forced ↦ let longest = longest_walk node (component_op c) forced in (cost_at c longest.0, inl (longest.0, forced, longest.1, refl))
   | inr free ↦ (0, inr (free, refl))
@@ -349,7 +349,7 @@ some_bound node = add_up_some node node.problem.components
 
 -- ---- and one alone
 
-adds_same : (node : Node) (c : Component) (s t : ℕ) → AddsForced node c s → AddsForced node c t → s ≡ t
+pub adds_same : (node : Node) (c : Component) (s t : ℕ) → AddsForced node c s → AddsForced node c t → s ≡ t
 adds_same node c s t (inl (m, forced, longest, is)) (inl (n, again, other, too)) = is ∙ ap (cost_at c) (one_longest node (component_op c) m n longest other) ∙ sym too
 adds_same node c s t (inl (m, forced, longest, is)) (inr (free, too)) = absurd (free forced)
 adds_same node c s t (inr (free, is)) (inl (n, forced, longest, too)) = absurd (free forced)

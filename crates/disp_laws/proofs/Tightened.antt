@@ -173,7 +173,7 @@ lower_grows problem changes fixing n o reply =
   where
     by : (old new : Option ℕ) → ((s : ℕ) → new ≡ Some s → MayBegin problem (standing_of changes) o s) → not_before (standing_of changes) o ≤ not_before (standing_of changes ++ fixing ∷ []) o
         → unwrap_or old (max (option_map_or (λ p. p.lower) (slice_get (train_at problem o.train) o.op) 0) (not_before (standing_of changes) o))
-          ≤ unwrap_or (option_or old new) (max (option_map_or (λ p. p.lower) (slice_get (train_at problem o.train) o.op) 0) (not_before (standing_of changes ++ fixing ∷ []) o))
+        ≤ unwrap_or (option_or old new) (max (option_map_or (λ p. p.lower) (slice_get (train_at problem o.train) o.op) 0) (not_before (standing_of changes ++ fixing ∷ []) o))
     by (Some s) new within grows = omega arith
     by None None within grows = omega (arith, grows)
     by None (Some s) within grows = let may = within s refl in rw may.there (omega (arith, may.lower, may.earliest))

@@ -6,6 +6,7 @@ use Rattle.disp_model.specs.declared.fixing.Fixing.{Fixing}
 use Rattle.disp_model.specs.declared.plan.Event.{Event}
 use Rattle.disp_model.specs.declared.decision.Decision.{Decision}
 use Rattle.disp_model.specs.declared.tree.ComponentWalk.{ComponentWalk}
+use Rattle.disp_model.specs.declared.tree.TrainWalks.{TrainWalks}
 use Rattle.disp_model.specs.declared.tree.Leaf.{Leaf as TreeLeaf}
 use Rattle.disp_model.specs.declared.tree.Leaf.TheVariants.{NoRoute, Cycle, Late, Costs, Shares}
 use Rattle.disp_model.specs.declared.tree.TreeNode.{TreeNode}
@@ -17,10 +18,11 @@ use Rattle.disp_model.specs.Valid.{IsValid}
 use Rattle.disp_model.specs.Cost.{cost_of}
 use Rattle.disp_model.specs.Node.{Node, root_of, with_decision}
 use Rattle.disp_model.specs.Follows.{Follows}
-use Rattle.disp_model.specs.Trees.{ReachVerdict, Shows, LeafHolds, children_of, Fills, Accepts}
+use Rattle.disp_model.specs.Trees.{ReachVerdict, ShareVerdict, Shows, LeafHolds, children_of, Fills, Accepts}
 use Rattle.disp_laws.proofs.Branching.{covers, contains_map}
 use Rattle.disp_laws.proofs.WalksHold.{has_routes, no_cycle, in_time}
 use Rattle.disp_laws.proofs.Costs.{walks_cost}
+use Rattle.disp_laws.proofs.ShownShares.{shares_say}
 
 -- what a verdict says of a valid plan
 abbrev pub SaysOf : Problem → List Event → Verdict → Type 0
@@ -32,6 +34,11 @@ reaches : (node : Node) (plan : List Event) (verdict : Verdict) (walks : List Co
 reaches node plan (Optimal cost) walks valid follows enough = omega (arith, enough.enough, walks_cost node plan walks enough.sum valid follows enough.distinct enough.sum_is)
 reaches node plan Infeasible walks valid follows enough = enough
 
+share_reaches : (node : Node) (plan : List Event) (verdict : Verdict) (walks : List ComponentWalk) (trains : List TrainWalks) → IsValid node.problem node.fixings plan → Follows plan node.decisions
+    → ShareVerdict node verdict walks trains → SaysOf node.problem plan verdict
+share_reaches node plan (Optimal cost) walks trains valid follows enough = shares_say node plan walks trains cost valid follows enough
+share_reaches node plan Infeasible walks trains valid follows enough = enough
+
 shows : (node : Node) (plan : List Event) (verdict : Verdict) (leaf : TreeLeaf) → IsValid node.problem node.fixings plan → Follows plan node.decisions
     → Shows node verdict leaf → SaysOf node.problem plan verdict
 shows node plan verdict NoRoute valid follows shown = absurd shown
@@ -39,7 +46,7 @@ shows node plan verdict (Cycle nodes) valid follows shown = absurd (no_cycle nod
 shows node plan verdict (Late walk) valid follows shown =
     absurd (omega (arith, shown.late, in_time node plan walk shown.total shown.end shown.upper valid follows shown.is_walk shown.ends shown.upper_is))
 shows node plan verdict (Costs walks) valid follows shown = reaches node plan verdict walks valid follows shown
-shows node plan verdict (Shares walks trains) valid follows shown = ?
+shows node plan verdict (Shares walks trains) valid follows shown = share_reaches node plan verdict walks trains valid follows shown
 
 -- a leaf that holds says it of each valid plan that follows its decisions
 pub leaf_says : (node : Node) (plan : List Event) (verdict : Verdict) (leaf : TreeLeaf) → IsValid node.problem node.fixings plan → Follows plan node.decisions

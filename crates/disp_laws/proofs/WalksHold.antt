@@ -82,7 +82,6 @@ fixed_is_met plan o time [] met found = absurd (none-some time found)
 fixed_is_met plan o time (Started t p s ∷ fixings) met found =
     fixed_at_head plan o t p s time (fixed_start fixings o) ((nat_eq t o.train) && (nat_eq p o.op)) refl (met 0 (Started t p s) (omega arith)) (λ h. fixed_is_met plan o time fixings (All-tail (IsMet plan) (Started t p s) fixings met) h) found
 fixed_is_met plan o time (Chosen t p next ∷ fixings) met found = fixed_is_met plan o time fixings (All-tail (IsMet plan) (Chosen t p next) fixings met) found
-
 fixed_is_met plan o time (NotBefore t p s ∷ fixings) met found = fixed_is_met plan o time fixings (All-tail (IsMet plan) (NotBefore t p s) fixings met) found
 
 not_before_head : (plan : List Event) (o : Op) (t p s start later : ℕ) (b : Bool) → ((nat_eq t o.train) && (nat_eq p o.op)) ≡ b → IfSome (start_of plan t p) (λ x. s ≤ x)

@@ -1,5 +1,5 @@
 // Laws over the definitions, each the contract of a function without a body, for every crate to cite.
-ghost use Rattle.std.specs.Prelude.{◌≡◌, ◌≢◌, ◌⊎◌, ◌↔◌, ◌+◌, ◌<◌, ◌≤◌, ℕ, List, [], ◌∷◌, ◌++◌, Contains, Some, None, slice_get, length};
+ghost use Rattle.std.specs.Prelude.{◌≡◌, ◌≢◌, ◌⊎◌, ◌↔◌, ◌+◌, ◌<◌, ◌≤◌, ℕ, List, [], ◌∷◌, ◌++◌, Contains, Some, None, slice_get, length, sum_by};
 ghost use Rattle.disp_model.specs.declared.problem.Problem.{Problem};
 ghost use Rattle.disp_model.specs.declared.train.Component.{Component};
 ghost use Rattle.disp_model.specs.declared.train.Op.{Op};
@@ -14,6 +14,7 @@ ghost use Rattle.disp_model.specs.Node.{Node, node_at, with_decision, with_fixin
 ghost use Rattle.disp_model.specs.Changes.{standing_of};
 ghost use Rattle.disp_model.specs.declared.decision.Choice.{Choice};
 ghost use Rattle.disp_model.specs.declared.decision.Choice.TheVariants.{Route};
+ghost use Rattle.disp_model.specs.declared.reply.Reply.{Reply};
 ghost use Rattle.disp_model.specs.declared.reply.Reply.TheVariants.{Accepted};
 ghost use Rattle.disp_model.specs.declared.tree.ComponentWalk.{ComponentWalk};
 ghost use Rattle.disp_model.specs.declared.tree.TreeNode.{TreeNode};
@@ -21,17 +22,18 @@ ghost use Rattle.disp_model.specs.declared.tree.Leaf.{Leaf as TreeLeaf};
 ghost use Rattle.disp_model.specs.declared.tree.Verdict.{Verdict};
 ghost use Rattle.disp_model.specs.declared.tree.Verdict.TheVariants.{Optimal, Infeasible};
 ghost use Rattle.disp_model.specs.Train.{IsEntry, IsExit};
-ghost use Rattle.disp_model.specs.WellFormed.{horizon};
+ghost use Rattle.disp_model.specs.WellFormed.{horizon, operation_count};
+ghost use Rattle.disp_model.specs.Numbers.{number_of};
 ghost use Rattle.disp_model.specs.Plan.{operations_of};
 ghost use Rattle.disp_model.specs.Fixing.{after};
 ghost use Rattle.disp_model.specs.Cost.{cost_at, cost_of, IsInfeasible};
 ghost use Rattle.disp_model.specs.Valid.{train_at, IsValid};
 ghost use Rattle.disp_model.specs.Follows.{Follows};
 ghost use Rattle.disp_model.specs.Routes.{Starts, IsAllowed, HasRoute, HasNoRoute, IsForced};
-ghost use Rattle.disp_model.specs.Arcs.{IsArc, IsLongestArc};
+ghost use Rattle.disp_model.specs.Arcs.{IsTrainArc, IsArc, IsLongestArc};
 ghost use Rattle.disp_model.specs.Walks.{lower_of, upper_of, IsWalk, EndsIn, IsLongest, HasCycle};
 ghost use Rattle.disp_model.specs.Nodes.{IsDead};
-ghost use Rattle.disp_model.specs.Shares.{IsBound};
+ghost use Rattle.disp_model.specs.Shares.{IsShare, own_cost, IsBound};
 ghost use Rattle.disp_model.specs.Trees.{IsChoice, children_of, HaveDistinct, WalksCost, LeafHolds, Accepts};
 ghost use Rattle.disp_model.specs.Replies.{IsReply, IsEdition};
 ghost use Rattle.disp_model.specs.Earliest.{HaveOneRoute, IsEarliest, IsPicked};
@@ -102,11 +104,26 @@ pub fn costs_grow()
         → sum ≤ cost_of node.problem.components plan }
 {}
 
-/// A node's bound is at most the cost of every valid plan that follows its decisions.
+/// A node's bound is at most the cost of every valid plan that follows its decisions, whatever the rule. The
+/// bound of the free rule is at least that of the fixed one.
 pub fn bound_holds()
-    ensures { (node : Node) (plan : List Event) (bound : ℕ)
-        → IsValid node.problem node.fixings plan → Follows plan node.decisions → IsBound node Fixed bound
+    ensures costs { (node : Node) (rule : Rule) (plan : List Event) (bound : ℕ)
+        → IsValid node.problem node.fixings plan → Follows plan node.decisions → IsBound node rule bound
         → bound ≤ cost_of node.problem.components plan }
+    ensures free { (node : Node) (bound other : ℕ)
+        → IsBound node Fixed bound → IsBound node Free other → bound ≤ other }
+{}
+
+/// Each train with an allowed route has one share, and its components cost at least that in every valid plan
+/// that follows the decisions.
+pub fn shares_hold()
+    ensures there { (node : Node) (t : ℕ) → t < length node.problem.trains → HasRoute node t
+        → (share : ℕ) × IsShare node t share }
+    ensures alone { (node : Node) (t share other : ℕ)
+        → IsShare node t share → IsShare node t other → share ≡ other }
+    ensures costs { (node : Node) (plan : List Event) (t share : ℕ)
+        → IsValid node.problem node.fixings plan → Follows plan node.decisions → IsShare node t share
+        → share ≤ sum_by (own_cost t plan) node.problem.components }
 {}
 
 /// A tree's yes: where a tree is accepted for 'optimal' with a cost no valid plan costs less, and where
@@ -132,12 +149,12 @@ pub fn picked_is_open()
 {}
 
 /// None is picked exactly where each train has one allowed route and the earliest plan is valid; then its
-/// cost is the bound.
+/// cost is the bound, whatever the rule.
 pub fn unpicked_costs_bound()
-    ensures exactly { (node : Node)
-        → IsPicked node Fixed None ↔ ((plan : List Event) × IsEarliest node plan × IsValid node.problem node.fixings plan) }
-    ensures costs { (node : Node) (plan : List Event) (bound : ℕ)
-        → IsEarliest node plan → IsValid node.problem node.fixings plan → IsBound node Fixed bound
+    ensures exactly { (node : Node) (rule : Rule)
+        → IsPicked node rule None ↔ ((plan : List Event) × IsEarliest node plan × IsValid node.problem node.fixings plan) }
+    ensures costs { (node : Node) (rule : Rule) (plan : List Event) (bound : ℕ)
+        → IsEarliest node plan → IsValid node.problem node.fixings plan → IsBound node rule bound
         → cost_of node.problem.components plan ≡ bound }
 {}
 
@@ -180,6 +197,21 @@ pub fn longest_arcs_exist()
         → IsArc node u v arc_length → (longest : ℕ) × IsLongestArc node u v longest }
 {}
 
+/// Arcs of one train compose: by an operation that each allowed route has, least sums add up. So a walk may
+/// leave out what lies between where it enters a train and where it leaves it.
+pub fn train_arcs_compose()
+    ensures sums { (node : Node) (u v w : Op) (one two : ℕ)
+        → IsForced node v → IsTrainArc node u v one → IsTrainArc node v w two → IsTrainArc node u w (one + two) }
+    ensures walks { (node : Node) (front : List Op) (u v w : Op) (rest : List Op) (total : ℕ) → u.train ≡ v.train → v.train ≡ w.train
+        → IsWalk node (front ++ u ∷ v ∷ w ∷ rest) total → IsWalk node (front ++ u ∷ w ∷ rest) total }
+{}
+
+/// Whether a leaf holds is decided.
+pub fn leaves_are_decided()
+    ensures { (node : Node) (verdict : Verdict) (leaf : TreeLeaf)
+        → LeafHolds node verdict leaf ⊎ (LeafHolds node verdict leaf → ⊥) }
+{}
+
 /// Leaves stay good: with an accepted fixing added a leaf that holds still holds for the same decisions and
 /// verdict, and an accepted tree is still accepted.
 pub fn leaves_stay_good()
@@ -191,14 +223,33 @@ pub fn leaves_stay_good()
         → Accepts problem (standing_of changes ++ fixing ∷ []) verdict tree }
 {}
 
-/// Each forced operation has a longest walk, and each node has one bound.
+/// Each forced operation has a longest walk, and each node has one bound by each rule.
 pub fn longest_walks_exist()
     ensures longest { (node : Node) (o : Op)
         → IsForced node o → (total : ℕ) × IsLongest node o total }
-    ensures bound { (node : Node)
-        → (bound : ℕ) × IsBound node Fixed bound }
-    ensures alone { (node : Node) (bound other : ℕ)
-        → IsBound node Fixed bound → IsBound node Fixed other → bound ≡ other }
+    ensures bound { (node : Node) (rule : Rule)
+        → (bound : ℕ) × IsBound node rule bound }
+    ensures alone { (node : Node) (rule : Rule) (bound other : ℕ)
+        → IsBound node rule bound → IsBound node rule other → bound ≡ other }
+{}
+
+/// Operations are numbered from 0, trains in order: the numbers of a problem's operations are below their
+/// count, different operations have different numbers, and each number below the count is one's.
+pub fn operations_are_numbered()
+    ensures below { (problem : Problem) (o : Op) → o.train < length problem.trains → o.op < length (train_at problem o.train)
+        → number_of problem o < operation_count problem.trains }
+    ensures apart { (problem : Problem) (o p : Op)
+        → o.train < length problem.trains → o.op < length (train_at problem o.train)
+        → p.train < length problem.trains → p.op < length (train_at problem p.train)
+        → number_of problem o ≡ number_of problem p → o ≡ p }
+    ensures each { (problem : Problem) (n : ℕ) → n < operation_count problem.trains
+        → (o : Op) × (o.train < length problem.trains) × (o.op < length (train_at problem o.train)) × (number_of problem o ≡ n) }
+{}
+
+/// Whatever the problem and the changes before, a change has one reply.
+pub fn replies_are_one()
+    ensures { (problem : Problem) (changes : List Change) (change : Change) (reply other : Reply)
+        → IsReply problem changes change reply → IsReply problem changes change other → reply ≡ other }
 {}
 
 /// The horizon bounds walks: with an edition's fixings and no cycle of arcs, no walk is longer than the

@@ -9,7 +9,8 @@ mod laws;
 pub use laws::{
     allowed_routes_are_listed, arcs_hold, bound_holds, branching_covers, costs_grow,
     earliest_plans_exist, fixings_tighten, followed_is_not_dead, forced_are_run,
-    horizon_bounds_walks, leaves_stay_good, longest_arcs_exist, longest_walks_exist,
-    picked_is_open, runs_are_allowed, trains_have_ends, trees_say_yes, unpicked_costs_bound,
-    walks_hold,
+    horizon_bounds_walks, leaves_are_decided, leaves_stay_good, longest_arcs_exist,
+    longest_walks_exist, operations_are_numbered, picked_is_open, replies_are_one,
+    runs_are_allowed, shares_hold, train_arcs_compose, trains_have_ends, trees_say_yes,
+    unpicked_costs_bound, walks_hold,
 };

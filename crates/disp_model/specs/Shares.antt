@@ -4,6 +4,7 @@ use Rattle.std.specs.List.{list_any}
 use Rattle.disp_model.specs.declared.train.Op.{Op}
 use Rattle.disp_model.specs.declared.train.Operation.{Operation}
 use Rattle.disp_model.specs.declared.train.Component.{Component}
+use Rattle.disp_model.specs.declared.plan.Event.{Event}
 use Rattle.disp_model.specs.declared.problem.Problem.{Problem}
 use Rattle.disp_model.specs.declared.settings.Rule.{Rule}
 use Rattle.disp_model.specs.declared.settings.Rule.TheVariants.{Fixed, Free}
@@ -11,7 +12,7 @@ use Rattle.disp_model.specs.declared.tree.ComponentWalk.{ComponentWalk}
 use Rattle.disp_model.specs.declared.tree.TrainWalks.{TrainWalks}
 use Rattle.disp_model.specs.Train.{duration_of}
 use Rattle.disp_model.specs.Valid.{train_at}
-use Rattle.disp_model.specs.Cost.{cost_at}
+use Rattle.disp_model.specs.Cost.{cost_at, cost_in}
 use Rattle.disp_model.specs.Node.{Node}
 use Rattle.disp_model.specs.Routes.{IsAllowed, HasRoute, IsForced}
 use Rattle.disp_model.specs.Walks.{lower_of, IsWalk, EndsIn, IsLongest}
@@ -43,6 +44,10 @@ pub record IsShareOver (node : Node) (t : ℕ) (base : ℕ → ℕ) (share : ℕ
   pub reach_is : (route : List ℕ) (o : ℕ) → IsAllowed node t route → Contains route o → IsReach node t base o (reach o)
   pub there : (route : List ℕ) × IsAllowed node t route × (route_cost node.problem t reach route ≡ share)
   pub least : (route : List ℕ) → IsAllowed node t route → share ≤ route_cost node.problem t reach route
+
+-- what a component of a train costs in a plan, and nothing for one of another train
+abbrev pub own_cost : ℕ → List Event → Component → ℕ
+own_cost t plan c = if c.train == t then cost_in plan c else 0
 
 -- the base of an operation: its longest walk where it is forced, else its lower
 abbrev pub IsBase : Node → Op → ℕ → Type 0

@@ -1,7 +1,6 @@
-use crate::list::Copied;
-use crate::memory::Memory;
 use crate::plan::Plan;
 use crate::tree::Tree;
+use plain_values::{Copied, Memory};
 
 /// Why a search ended without a verdict.
 #[derive(Clone, Copy, Debug, PartialEq, Eq)]

@@ -1,6 +1,5 @@
-use crate::list::Copied;
-use crate::memory::Memory;
 use crate::train::Op;
+use plain_values::{Copied, Memory};
 
 /// What a branch of the search decides. `Go`: where the operation is run, `next` of its train follows
 /// it. `First`: where both are run, a stands before b. `Run`: the operation is run. `Skip`: it is not.

@@ -1,10 +1,9 @@
 use crate::decision::Choice;
 use crate::fixing::Change;
-use crate::list::{Copied, List};
-use crate::memory::Memory;
 use crate::plan::Plan;
 use crate::reply::Reply;
 use crate::tree::{Tree, Verdict};
+use plain_values::{Copied, List, Memory};
 
 /// How far an edition is settled.
 #[derive(Clone, Copy, Debug, PartialEq, Eq)]

@@ -1,5 +1,4 @@
-use crate::list::Copied;
-use crate::memory::Memory;
+use plain_values::{Copied, Memory};
 
 /// What a dispatcher has fixed: an operation of a train started at a time, goes on to an operation of
 /// the train, or does not start before a time. The numbers are as they were read.

@@ -10,13 +10,10 @@ mod decision;
 mod entry;
 mod fixing;
 mod limits;
-mod list;
-mod memory;
 mod plan;
 mod problem;
 mod reply;
 mod settings;
-mod text;
 mod train;
 mod tree;
 
@@ -25,17 +22,15 @@ pub use decision::{Choice, Decision};
 pub use entry::{Entry, Mark, Split, Standing, Unasked};
 pub use fixing::{Change, Fixing};
 pub use limits::{
-    GREATEST_COST, GREATEST_EVENT_TIME, GREATEST_NUMBER, MOST_CALLERS, MOST_COMPONENTS,
-    MOST_EVENTS, MOST_FILE_BYTES, MOST_CHANGES, MOST_LINE_BYTES, MOST_LINES, MOST_OPERATIONS,
+    GREATEST_COST, GREATEST_EVENT_TIME, GREATEST_NUMBER, MOST_CALLERS, MOST_CHANGES,
+    MOST_COMPONENTS, MOST_EVENTS, MOST_FILE_BYTES, MOST_LINE_BYTES, MOST_LINES, MOST_OPERATIONS,
     MOST_TRAINS,
 };
-pub use list::{Copied, List};
-pub use memory::Memory;
+pub use plain_values::{Copied, List, Memory, Text};
 pub use plan::{Event, Plan};
 pub use problem::Problem;
 pub use reply::{Refusal, Reply};
 pub use settings::{Rule, Settings};
-pub use text::Text;
 pub use train::{Component, Listing, Op, Operation, Train};
 pub use tree::{ComponentWalk, Leaf, TrainWalks, Tree, TreeNode, Verdict};
 

@@ -1,5 +1,4 @@
-use crate::list::{Copied, List};
-use crate::memory::Memory;
+use plain_values::{Copied, List, Memory};
 
 /// The start of an operation of a train. Events are ordered by time, then train, then operation.
 #[derive(Clone, Copy, Debug, PartialEq, Eq, PartialOrd, Ord)]

@@ -1,9 +1,7 @@
 ghost use Rattle.disp_model.specs.WellFormed.{IsWellFormed};
 
-use crate::list::{Copied, List};
-use crate::memory::Memory;
-use crate::text::Text;
 use crate::train::{Component, Train};
+use plain_values::{Copied, List, Memory, Text};
 
 /// A problem: trains, the components of the cost, and the names of the resources, which listings
 /// refer to by their places. Each problem is well formed: its numbers and counts are within the

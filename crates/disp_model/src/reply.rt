@@ -1,5 +1,4 @@
-use crate::list::Copied;
-use crate::memory::Memory;
+use plain_values::{Copied, Memory};
 
 /// Why a change is refused.
 #[derive(Clone, Copy, Debug, PartialEq, Eq)]

@@ -1,8 +1,8 @@
 // Copies are equal to what they are copied from.
 use crate::{
     Alone, Answer, Change, Choice, ComponentWalk, Copied, Entry, Event, Fixing, GREATEST_COST,
-    GREATEST_EVENT_TIME, GREATEST_NUMBER, Leaf, List, Listing, MOST_CALLERS, MOST_COMPONENTS,
-    MOST_EVENTS, MOST_FILE_BYTES, MOST_CHANGES, MOST_LINE_BYTES, MOST_LINES, MOST_OPERATIONS,
+    GREATEST_EVENT_TIME, GREATEST_NUMBER, Leaf, List, Listing, MOST_CALLERS, MOST_CHANGES,
+    MOST_COMPONENTS, MOST_EVENTS, MOST_FILE_BYTES, MOST_LINE_BYTES, MOST_LINES, MOST_OPERATIONS,
     MOST_TRAINS, Mark, Memory, Op, Operation, Plan, Reply, Split, Standing, Text, Tree, TreeNode,
     Unasked, Verdict,
 };

@@ -1,5 +1,4 @@
-use crate::list::{Copied, List};
-use crate::memory::Memory;
+use plain_values::{Copied, List, Memory};
 
 /// The name of an operation: its train, and its number in that train.
 #[derive(Clone, Copy, Debug, PartialEq, Eq, PartialOrd, Ord)]
@@ -39,12 +38,6 @@ pub struct Component {
     pub threshold: u32,
     pub increment: u32,
     pub coeff: u32,
-}
-
-impl Copied for u32 {
-    fn copy(&self) -> Result<u32, Memory> {
-        Ok(*self)
-    }
 }
 
 impl Copied for Op {

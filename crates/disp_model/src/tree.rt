@@ -1,7 +1,6 @@
 use crate::decision::Choice;
-use crate::list::{Copied, List};
-use crate::memory::Memory;
 use crate::train::Op;
+use plain_values::{Copied, List, Memory};
 
 /// A walk of operations to the operation of a component.
 #[derive(Drop)]

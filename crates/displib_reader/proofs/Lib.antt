@@ -1,7 +1,6 @@
 pub mod Components
 pub mod Distinct
 pub mod Each
-pub mod Joined
 pub mod Kept
 pub mod Marks
 pub mod Numbers

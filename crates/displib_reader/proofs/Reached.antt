@@ -5,6 +5,7 @@ use Rattle.std.proofs.lemmas.Bool.{eq-eqb, eqb-true, false≢true, cases_lt}
 use Rattle.std.proofs.lemmas.Option.{same_Some, slice_get_within, slice_get-get_or}
 use Rattle.std.proofs.lemmas.List.{length-set, length-replicate, get_or-set_same, get_or-set_other, get_or-replicate, get_or_past}
 use Rattle.std.proofs.lemmas.List.Elements.{Contains-append_left, Contains-append_right, Contains-push, Contains-push_cases, Contains-append_cases, All-contains}
+use Rattle.plain_values.proofs.Lists.{contains_none, contains_one}
 use Rattle.disp_model.specs.declared.train.Operation.{Operation}
 use Rattle.disp_model.specs.Train.{next_of, IsSuccessor}
 use Rattle.disp_model.specs.WellFormed.{LeadsTo}
@@ -12,13 +13,6 @@ use Rattle.displib_reader.specs.Graphs.{IsOnCycle, HasNoCycle, AreInside}
 use Rattle.displib_reader.specs.Ranks.{IsAbove, IsNotBelow, Rises, RisesBefore, NeverFalls}
 use Rattle.displib_reader.specs.Reach.{IsReached, IsMarked, unmarked, Visits, AreReached}
 use Rattle.displib_reader.proofs.Marks.{count_cons}
-
-contains_none : {A : Type 0} (x : A) → Contains [] x → ⊥
-contains_none x (k, lt, e) = omega arith
-
-contains_one : (a x : ℕ) → Contains (a ∷ []) x → x ≡ a
-contains_one a x (zero, lt, e) = sym e
-contains_one a x (suc k, lt, e) = absurd (omega arith)
 
 contains_itself : (a : ℕ) → Contains (a ∷ []) a
 contains_itself a = (0, omega arith, refl)

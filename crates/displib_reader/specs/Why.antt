@@ -1,5 +1,5 @@
 -- The printed text of a refusal: the variant's name, then its numbers and places, one space between.
-use Rattle.std.specs.Prelude.{◌≡◌, ℕ, List, ◌++◌, codes}
+use Rattle.std.specs.Prelude.{ℕ, List, ◌++◌, codes}
 use Rattle.std.specs.Fmt.{decimal}
 use Rattle.displib_reader.specs.declared.place.Place.{Place}
 use Rattle.displib_reader.specs.declared.place.Place.TheVariants as place
@@ -13,10 +13,6 @@ use Rattle.displib_reader.specs.declared.fault.Kind.{Kind}
 use Rattle.displib_reader.specs.declared.fault.Kind.TheVariants as kind
 use Rattle.displib_reader.specs.declared.fault.ProblemNo.{ProblemNo}
 use Rattle.displib_reader.specs.declared.fault.ProblemNo.TheVariants.{NotJson, Shape, NotWhole, TooLarge, TooMany, BadIndex, NotOneEntry, NotOneExit, Loop, UnknownObjective, TooCostly, Memory}
-
--- the piece was added at the end
-pub record Adds (old new piece : List ℕ) : Type 0 where
-  pub is : new ≡ old ++ piece
 
 abbrev pub operation_key_text : OperationKey → List ℕ
 operation_key_text StartLb = codes "start_lb"

@@ -1,6 +1,7 @@
 ghost use Rattle.std.specs.Prelude.{◌≡◌, ◌++◌, OnOk, OnErr, codes, string_bytes};
 ghost use Rattle.std.specs.Fmt.{decimal};
-ghost use Rattle.displib_reader.specs.Why.{Adds, operation_text, listing_text, operation_key_text, listing_key_text, component_key_text, place_text, kind_text, why_text};
+ghost use Rattle.plain_values.specs.Texts.{Adds};
+ghost use Rattle.displib_reader.specs.Why.{operation_text, listing_text, operation_key_text, listing_key_text, component_key_text, place_text, kind_text, why_text};
 
 use crate::fault::{Kind, ProblemNo};
 use crate::place::{ComponentKey, ListingKey, OperationKey, Place};
@@ -71,7 +72,7 @@ fn write_operation(text: &mut String, t: u64, o: u64) -> Result<(), Memory>
 }
 
 /// Adds the place of a listing.
-#[tactic(auto, using(crate::proofs::Joined::joined))]
+#[tactic(auto, using(plain_values::proofs::Added::joined))]
 fn write_listing(text: &mut String, t: u64, o: u64, k: u64) -> Result<(), Memory>
     ensures { OnOk result (Adds (string_bytes text.old) (string_bytes text.new) (listing_text t o k)) }
 {
@@ -123,7 +124,7 @@ fn write_at(text: &mut String, word: &str, place: Place) -> Result<(), Memory>
 
 impl Place {
     /// Adds the place as a JSON pointer; the root is written `/`.
-    #[tactic(auto, using(crate::proofs::Joined::joined))]
+    #[tactic(auto, using(plain_values::proofs::Added::joined))]
     fn write(self, text: &mut String) -> Result<(), Memory>
         ensures { OnOk result (Adds (string_bytes text.old) (string_bytes text.new) (place_text self)) }
     {

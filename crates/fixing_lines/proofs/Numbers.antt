@@ -9,9 +9,9 @@ use Rattle.std.proofs.lemmas.Str.Parse.{IsNumeralModel, numerals_by_value, tells
 use Rattle.std.proofs.lemmas.Fmt.{decimal-digits_value, digits_decimal, digits_value-decimal, decimal_nonempty, decimal_digit, first_decimal}
 use Rattle.std.proofs.lemmas.List.Elements.{All-nil, All-cons, All-tail}
 use Rattle.std.proofs.lemmas.Grind.{get_or_default_zero}
-use Rattle.decimal_numbers.specs.declared.read.NumberNo.{NumberNo}
-use Rattle.decimal_numbers.specs.declared.read.NumberNo.TheVariants.{NotNumber, TooLarge}
-use Rattle.decimal_numbers.specs.Decimal.{AreDigits, IsDecimal, IsNumber, IsAbove, value_of}
+use Rattle.plain_values.specs.declared.number.NumberNo.{NumberNo}
+use Rattle.plain_values.specs.declared.number.NumberNo.TheVariants.{NotNumber, TooLarge}
+use Rattle.plain_values.specs.Decimal.{AreDigits, IsDecimal, IsNumber, IsAbove, value_of}
 use Rattle.fixing_lines.specs.Requests.{IsField, HasNoSpace}
 
 own : IsNumeralModel (AllDigits 10) (digits_value 10)

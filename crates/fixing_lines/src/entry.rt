@@ -3,9 +3,10 @@ ghost use Rattle.disp_model.specs.declared.entry.Entry.{Entry};
 ghost use Rattle.fixing_lines.specs.Entries.{asked_line, unread_line, shown_line, published_line, settled_line, stopped_line, entry_text};
 
 use crate::pieces::{
-    push_change, push_line, push_reply, push_standing, push_text, push_verdict, unasked_word,
+    push_change, push_line, push_reply, push_standing, push_verdict, unasked_word,
 };
 use disp_model::{Change, Entry, Event, Memory, Reply, Standing, Unasked, Verdict};
+use plain_values::push_text;
 use solution_text::write_solution;
 use std::alloc::Global;
 

@@ -2,7 +2,7 @@ ghost use Rattle.fixing_lines.specs.declared.fields.Fields.{Fields};
 ghost use Rattle.std.specs.Prelude.{◌≡◌, ◌+◌, ◌<◌, ℕ, List, [], MatchOption, length, take, drop, get_or};
 ghost use Rattle.fixing_lines.specs.Requests.{IsField, HasFields, HasNumber, LeadsWith, HasNoSpace};
 
-use decimal_numbers::read_number;
+use plain_values::read_number;
 
 /// The three numbers of a line: a train, an operation of it, and a time or the operation that comes next.
 #[derive(Clone, Copy)]

@@ -1,19 +1,12 @@
 ghost use Rattle.std.specs.Prelude.{◌≡◌, ◌++◌, IfOk, OnOk, OnErr, codes, string_bytes};
 ghost use Rattle.std.specs.Fmt.{decimal};
-ghost use Rattle.solution_text.specs.Texts.{Adds};
+ghost use Rattle.plain_values.specs.Texts.{Adds};
 ghost use Rattle.fixing_lines.specs.Requests.{fixing_text, change_text};
 ghost use Rattle.fixing_lines.specs.Entries.{refusal_text, reply_text, unasked_text, mark_text, best_text, standing_text, verdict_text, line_text};
 
 use disp_model::{Change, Fixing, Mark, Memory, Refusal, Reply, Standing, Unasked, Verdict};
+use plain_values::push_text;
 use std::alloc::Global;
-
-/// Adds a text.
-pub(crate) fn push_text(text: &mut String, piece: &str) -> Result<(), Memory>
-    ensures { OnOk result (Adds (string_bytes text.old) (string_bytes text.new) piece.now) }
-{
-    text.push_str(piece)?;
-    Ok(())
-}
 
 /// Adds the feed and the number of a line.
 pub(crate) fn push_line(text: &mut String, feed: u32, line: u64) -> Result<(), Memory>

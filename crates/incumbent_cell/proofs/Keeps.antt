@@ -9,6 +9,7 @@ use native.Mathlib.Decide.{ℕ_discrete, dec_le}
 use lib.ListN.{get_elem?}
 use Rattle.atomic_table.specs.Table.{step, keeps, stepped, Allows, Splits, Joins, Final, Seen}
 use Rattle.atomic_table.proofs.Lists.{at_set, set_here, set_else, at_snoc, at_longer}
+use Rattle.plain_values.proofs.Lists.{contains_last, contains_none_where, contains_one}
 use Rattle.incumbent_cell.specs.declared.pass.Known.{Known}
 use Rattle.incumbent_cell.specs.Code.{opening_code}
 use Rattle.incumbent_cell.specs.Knowledge.{with_put, with_found, halved, joined, spent, IsWhole, IsAmong, Stands, IsPut, IsTraced, weight, Cells, Kept, Sat, Puts, Finds}
@@ -24,16 +25,6 @@ one_view l i j v w at there e = some-injective w v (sym there ∙ (ap (get_elem?
 
 all_of : (P : ℕ → Type 0) (l : List ℕ) → ((c : ℕ) → Contains l c → P c) → All P l
 all_of P l f = λ k d h. f (get_or l k d) (All-contains_itself l k d h)
-
-contains_one : (c d : ℕ) → Contains (c ∷ []) d → d ≡ c
-contains_one c d (zero, h, e) = sym e
-contains_one c d (suc k, h, e) = absurd (omega arith)
-
-pub contains_last : (l : List ℕ) (c : ℕ) → Contains (l ++ c ∷ []) c
-contains_last l c = Contains-append_right l (c ∷ []) c (0, omega arith, refl)
-
-contains_none : (l : List ℕ) (c : ℕ) → l ≡ [] → Contains l c → ⊥
-contains_none l c e (k, h, _) = let n : length l ≡ 0 = ap length e in omega arith
 
 -- what is put stays put where a view takes in more
 put_after : (l : List Known) (i : ℕ) (v w : Known) → get_elem? l i ≡ some v → ((c : ℕ) → Contains v.put c → Contains w.put c) → (c : ℕ) → IsPut l c → IsPut (set l i w) c
@@ -76,7 +67,7 @@ stands s k i v at = record {
     mine whole c (inl e) = inl e
     mine whole c (inr p) = inr (dite (ℕ_discrete p.0 i)
         (λ e. subst (λ (z : Known). Contains z.put c) (one_view s.views i p.0 v p.1 at p.2 e) p.3)
-        (λ apart. absurd (contains_none p.1.put c (k.spent_knows_nothing p.0 p.1 p.2 (whole_alone k.scale s.views i p.0 v p.1 k.scaled k.one_whole at whole p.2 apart)).0 p.3)))
+        (λ apart. absurd (contains_none_where p.1.put c (k.spent_knows_nothing p.0 p.1 p.2 (whole_alone k.scale s.views i p.0 v p.1 k.scaled k.one_whole at whole p.2 apart)).0 p.3)))
 
 -- The word becomes n, which is no greater, and a seat's view takes in more: the codes put are the old ones and maybe n
 moved : (s : Cells) → Kept s → (n i : ℕ) (cs : List (ℕ × Unit {0})) (v w : Known) → get_elem? s.views i ≡ some v → 0 < v.share.parts → w.share ≡ v.share
@@ -161,12 +152,12 @@ joins i v other w live s k at apart still = let b : Known = joined v w in let l 
     let old = λ (c : ℕ) (t : IsTraced s.views c). kept_traced s.views i v other w at there apart c t in record {
       one_word = k.one_word;
       below_opening = k.below_opening;
-      below_put = λ j u c e h. each_after (λ (z : Known). (d : ℕ) → Contains z.put d → word s ≤ d) l other spent (λ d g. absurd (contains_none [] d refl g))
+      below_put = λ j u c e h. each_after (λ (z : Known). (d : ℕ) → Contains z.put d → word s ≤ d) l other spent (λ d g. absurd (contains_none_where [] d refl g))
           (each_after (λ (z : Known). (d : ℕ) → Contains z.put d → word s ≤ d) s.views i b
           (λ d g. ⊎_elim (λ (o : Contains v.put d). k.below_put i v d at o) (λ (o : Contains w.put d). k.below_put other w d there o) (Contains-append_cases v.put w.put d g))
           (λ j' u' e' d g. k.below_put j' u' d e' g)) j u e c h;
       is_put = old (word s) k.is_put;
-      each_is_put = λ j u c e h. let P : Known → Type 0 = λ z. (d : ℕ) → Contains z.found d → IsTraced (set l other spent) d in each_after P l other spent (λ d g. absurd (contains_none [] d refl g))
+      each_is_put = λ j u c e h. let P : Known → Type 0 = λ z. (d : ℕ) → Contains z.found d → IsTraced (set l other spent) d in each_after P l other spent (λ d g. absurd (contains_none_where [] d refl g))
           (each_after P s.views i b
           (λ d g. ⊎_elim (λ (o : Contains v.found d). old d (k.each_is_put i v d at o)) (λ (o : Contains w.found d). old d (k.each_is_put other w d there o)) (Contains-append_cases v.found w.found d g))
           (λ j' u' e' d g. old d (k.each_is_put j' u' d e' g))) j u e c h;

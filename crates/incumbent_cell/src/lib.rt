@@ -6,14 +6,13 @@
 #![tactic(auto)]
 
 mod cell;
-mod errors;
 mod packing;
 mod pass;
 
 pub use cell::Least;
-pub use errors::Memory;
 pub use packing::{NEWEST, SATURATED, answer_of, code_of};
 pub use pass::{CellPass, Known, Share};
+pub use plain_values::Memory;
 
 #[cfg(test)]
 mod tests;

@@ -8,7 +8,7 @@ use Rattle.disp_model.specs.declared.plan.Event.{Event}
 use Rattle.disp_model.specs.declared.train.Operation.{Operation}
 use Rattle.disp_model.specs.Train.{duration_of}
 use Rattle.disp_model.specs.Plan.{run_of}
-use Rattle.disp_model.proofs.Runs.{Spaced}
+use Rattle.disp_laws.proofs.Runs.{Spaced}
 use Rattle.single_routes.specs.Earliest.{lower_in, run_along, events_along}
 use Rattle.single_routes.specs.Stops.{stops_along, event_at}
 use Rattle.single_routes.proofs.Ordered.{comes_before, not_before, sorted_more, sorted_one, sorted_none}

@@ -11,9 +11,10 @@ use Rattle.disp_model.specs.declared.tree.TreeNode.TheVariants.{Leaf}
 use Rattle.disp_model.specs.declared.tree.Verdict.TheVariants as verdict
 use Rattle.disp_model.specs.declared.problem.Problem.{Problem}
 use Rattle.disp_model.specs.Cost.{cost_of}
+use Rattle.disp_model.specs.Node.{root_of}
 use Rattle.disp_model.specs.Walks.{IsWalk, EndsIn}
 use Rattle.disp_model.specs.Trees.{IsLateWalk, Accepts, FitsOp, FitsLeaf, FitsNode}
-use Rattle.disp_model.proofs.TreesYes.{tree_says}
+use Rattle.disp_laws.proofs.TreesYes.{tree_says}
 use Rattle.single_routes.specs.declared.run.Run.{Run}
 use Rattle.single_routes.specs.Choices.{HasChoices}
 use Rattle.single_routes.specs.Earliest.{IsInOrder}
@@ -59,11 +60,11 @@ none_made problem runs walk tree single are late is =
     let t = late.train in
     let between = walk_between t late.run.stops.items s.from late.place in
     let has = (reached problem runs t late.run late.place s single are late.run_is late.to.there).walk in
-    let shown : IsLateWalk problem [] [] walk = record {
+    let shown : IsLateWalk (root_of problem []) walk = record {
       end = op t s.op;
       ends = subst (λ (l : List Op). EndsIn l (op t s.op)) (sym late.to.walk_is) (walk_ends problem between s.start (op t s.op) has);
       total = s.start;
-      is_walk = subst (λ (l : List Op). IsWalk problem [] [] l s.start) (sym late.to.walk_is) (walk_is_walk problem between s.start (op t s.op) has);
+      is_walk = subst (λ (l : List Op). IsWalk (root_of problem []) l s.start) (sym late.to.walk_is) (walk_is_walk problem between s.start (op t s.op) has);
       upper = late.late.0;
       upper_is = late.late.1;
       late = late.late.2;

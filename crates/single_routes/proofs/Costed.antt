@@ -19,14 +19,14 @@ use Rattle.disp_model.specs.WellFormed.{horizon, most_of, IsComponent}
 use Rattle.disp_model.specs.Plan.{start_of}
 use Rattle.disp_model.specs.Valid.{IsValid}
 use Rattle.disp_model.specs.Cost.{cost_at, cost_in, cost_of}
+use Rattle.disp_model.specs.Node.{root_of}
 use Rattle.disp_model.specs.Follows.{Follows}
 use Rattle.disp_model.specs.Replies.{IsEdition}
 use Rattle.disp_model.specs.Walks.{IsWalk, EndsIn}
 use Rattle.disp_model.specs.Trees.{WalkCosts, WalksCost, HaveDistinct, FitsOp, FitsWalk}
-use Rattle.disp_model.proofs.Branching.{IsStartedAt}
-use Rattle.disp_model.proofs.WalksHold.{no_cycle}
-use Rattle.disp_model.proofs.HorizonBounds.{within_horizon}
-use Rattle.disp_model.proofs.Costs.{start_is}
+use Rattle.disp_laws.proofs.Branching.{IsStartedAt}
+use Rattle.disp_laws.proofs.WalksHold.{no_cycle, start_is}
+use Rattle.disp_laws.proofs.HorizonBounds.{within_horizon}
 use Rattle.single_routes.specs.declared.stop.Stop.{Stop}
 use Rattle.single_routes.specs.declared.run.Run.{Run}
 use Rattle.single_routes.specs.Choices.{HasChoices}
@@ -98,7 +98,7 @@ pub start_within : (problem : Problem) (runs : List Run) (plan : List Event) (t 
     → s.start ≤ horizon problem.trains
 start_within problem runs plan t run k s single are valid at found =
     let walk = (reached problem runs t run k s single are at found).walk in
-    within_horizon problem [] [] (walk_between t run.stops.items s.from k) s.start (no_fixings problem) (λ cycle. no_cycle problem [] plan [] cycle.0 valid (follows_none plan) cycle.1)
+    within_horizon (root_of problem []) (walk_between t run.stops.items s.from k) s.start tt (λ cycle. no_cycle (root_of problem []) plan cycle.0 valid (follows_none plan) cycle.1)
     (walk_is_walk problem (walk_between t run.stops.items s.from k) s.start (op t s.op) walk)
 
 pub times_within : (problem : Problem) (runs : List Run) (plan : List Event) → (HasChoices problem → ⊥) → AreRuns problem.trains runs → IsValid problem [] plan → IsInOrder (events_of 0 runs) plan → All (λ e. e.time ≤ horizon problem.trains) plan
@@ -182,7 +182,7 @@ costs_fit problem runs plan single are valid =
 -- ---- the walks of the components
 
 walk_costs : (problem : Problem) (runs : List Run) (c : Component) (w : ComponentWalk) → (HasChoices problem → ⊥) → AreRuns problem.trains runs → IsComponent problem.trains c → slice_get problem.components w.component ≡ Some c → IsComponentWalk runs c w.walk
-    → WalkCosts problem [] [] w (cost_in_runs runs c)
+    → WalkCosts (root_of problem []) w (cost_in_runs runs c)
 walk_costs problem runs c w single are named there is =
     let at = stop_of problem runs c are named in
     let place = slice_index is.run.places.items c.operation in
@@ -198,12 +198,12 @@ walk_costs problem runs c w single are named there is =
       there = there;
       ends = subst (λ (o : ℕ). EndsIn w.walk (op c.train o)) names (subst (λ (l : List Op). EndsIn l (op c.train s.op)) (sym is.to.walk_is) ends);
       total = s.start;
-      is_walk = subst (λ (l : List Op). IsWalk problem [] [] l s.start) (sym is.to.walk_is) (walk_is_walk problem between s.start (op c.train s.op) walk);
+      is_walk = subst (λ (l : List Op). IsWalk (root_of problem []) l s.start) (sym is.to.walk_is) (walk_is_walk problem between s.start (op c.train s.op) walk);
       cost_is = costs_at_stop problem runs c at ∙ ap (λ (x : Stop). cost_at c x.start) stop;
     }
 
 costs_from : (problem : Problem) (runs : List Run) (k : ℕ) (components : List Component) (walks : List ComponentWalk) → (HasChoices problem → ⊥) → AreRuns problem.trains runs
-    → ((i : ℕ) (c : Component) → slice_get components i ≡ Some c → slice_get problem.components (k + i) ≡ Some c) → AreWalksFrom k runs components walks → WalksCost problem [] [] walks (sum_by (cost_in_runs runs) components)
+    → ((i : ℕ) (c : Component) → slice_get components i ≡ Some c → slice_get problem.components (k + i) ≡ Some c) → AreWalksFrom k runs components walks → WalksCost (root_of problem []) walks (sum_by (cost_in_runs runs) components)
 costs_from problem runs k [] [] single are there walks = refl
 costs_from problem runs k [] (w ∷ ws) single are there walks = absurd walks
 costs_from problem runs k (c ∷ components) [] single are there walks = absurd walks
@@ -218,7 +218,7 @@ costs_from problem runs k (c ∷ components) (w ∷ ws) single are there walks =
       sum_by-cons (cost_in_runs runs) c components,
     )
 
-pub walks_cost : (problem : Problem) (runs : List Run) (walks : List ComponentWalk) → (HasChoices problem → ⊥) → AreRuns problem.trains runs → AreWalksFrom 0 runs problem.components walks → WalksCost problem [] [] walks (sum_by (cost_in_runs runs) problem.components)
+pub walks_cost : (problem : Problem) (runs : List Run) (walks : List ComponentWalk) → (HasChoices problem → ⊥) → AreRuns problem.trains runs → AreWalksFrom 0 runs problem.components walks → WalksCost (root_of problem []) walks (sum_by (cost_in_runs runs) problem.components)
 walks_cost problem runs walks single are made = costs_from problem runs 0 problem.components walks single are (λ i c found. let same : i ≡ 0 + i = omega arith in subst (λ (n : ℕ). slice_get problem.components n ≡ Some c) same found) made
 
 numbered : (k : ℕ) (runs : List Run) (components : List Component) (walks : List ComponentWalk) → AreWalksFrom k runs components walks → (i : ℕ) (w : ComponentWalk) → slice_get walks i ≡ Some w → w.component ≡ k + i

@@ -15,7 +15,7 @@ use Rattle.disp_model.specs.Train.{duration_of, IsRoute}
 use Rattle.disp_model.specs.Plan.{run_of, end_of}
 use Rattle.disp_model.specs.Valid.{train_at, operation_of, MayStart, IsValid, KeepApart}
 use Rattle.disp_model.specs.Arcs.{listings_of}
-use Rattle.disp_model.proofs.Runs.{Spaced, lasts_from_runs}
+use Rattle.disp_laws.proofs.Runs.{Spaced, lasts_from_runs}
 use Rattle.single_routes.specs.declared.stop.Stop.{Stop}
 use Rattle.single_routes.specs.declared.run.Run.{Run}
 use Rattle.single_routes.specs.Choices.{HasChoices}

@@ -11,8 +11,8 @@ use Rattle.disp_model.specs.declared.train.Component.{Component}
 use Rattle.disp_model.specs.declared.problem.Problem.{Problem}
 use Rattle.disp_model.specs.WellFormed.{IsAcyclic, IsComponent}
 use Rattle.disp_model.specs.Train.{duration_of, IsRoute}
-use Rattle.disp_model.proofs.Paths.{IsIn, is_in}
-use Rattle.disp_model.proofs.RouteSearch.{each_within}
+use Rattle.disp_laws.proofs.Paths.{IsIn, is_in}
+use Rattle.disp_laws.proofs.RouteSearch.{each_within}
 use Rattle.single_routes.specs.declared.stop.Stop.{Stop}
 use Rattle.single_routes.specs.declared.run.Run.{Run}
 use Rattle.single_routes.specs.Earliest.{lower_in}

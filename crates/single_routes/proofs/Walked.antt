@@ -10,10 +10,11 @@ use Rattle.disp_model.specs.declared.train.Operation.{Operation}
 use Rattle.disp_model.specs.declared.problem.Problem.{Problem}
 use Rattle.disp_model.specs.Train.{duration_of, IsRoute}
 use Rattle.disp_model.specs.Valid.{train_at}
+use Rattle.disp_model.specs.Node.{root_of}
 use Rattle.disp_model.specs.Routes.{IsAllowed, IsForced}
 use Rattle.disp_model.specs.Arcs.{Passes, IsTrainArc, IsArc, IsLongestArc}
 use Rattle.disp_model.specs.Walks.{lower_of, IsWalk, WalksOn, EndsIn}
-use Rattle.disp_model.proofs.Paths.{IsIn, contains_in, in_middle}
+use Rattle.disp_laws.proofs.Paths.{IsIn, contains_in, in_middle}
 use Rattle.single_routes.specs.declared.stop.Stop.{Stop}
 use Rattle.single_routes.specs.Choices.{HasChoices}
 use Rattle.single_routes.specs.Earliest.{lower_in}
@@ -26,13 +27,13 @@ op t o = record { train = t; op = o }
 
 -- ---- what is on the route is forced
 
-pub route_allowed : (problem : Problem) (t : ℕ) (route : List ℕ) → IsRoute (train_at problem t) route → IsAllowed problem [] [] t route
+pub route_allowed : (problem : Problem) (t : ℕ) (route : List ℕ) → IsRoute (train_at problem t) route → IsAllowed (root_of problem []) t route
 route_allowed problem t route is = record { is_route = is; fixings_agree = λ k d lt. absurd (omega (arith, lt)); decisions_agree = λ k d lt. absurd (omega (arith, lt)) }
 
 pub only_route : (problem : Problem) (t : ℕ) (route other : List ℕ) → (HasChoices problem → ⊥) → t < length problem.trains → IsRoute (train_at problem t) route → IsRoute (train_at problem t) other → route ≡ other
 only_route problem t route other single there one two = one_route (train_at problem t) route other (problem.well_formed.acyclic t [] there) (all_straight problem single t [] there) one two
 
-pub route_forced : (problem : Problem) (t : ℕ) (route : List ℕ) (o : ℕ) → (HasChoices problem → ⊥) → t < length problem.trains → IsRoute (train_at problem t) route → IsIn o route → IsForced problem [] [] (op t o)
+pub route_forced : (problem : Problem) (t : ℕ) (route : List ℕ) (o : ℕ) → (HasChoices problem → ⊥) → t < length problem.trains → IsRoute (train_at problem t) route → IsIn o route → IsForced (root_of problem []) (op t o)
 route_forced problem t route o single there is on = record {
   train = there;
   allowed = (route, route_allowed problem t route is);
@@ -41,7 +42,7 @@ route_forced problem t route o single there is on = record {
 
 -- ---- consecutive operations have an arc, as long as the first lasts
 
-next_arc : (problem : Problem) (t : ℕ) (before : List ℕ) (u v : ℕ) (behind : List ℕ) → IsRoute (train_at problem t) (before ++ u ∷ v ∷ behind) → IsTrainArc problem [] [] (op t u) (op t v) (duration_of (train_at problem t) u)
+next_arc : (problem : Problem) (t : ℕ) (before : List ℕ) (u v : ℕ) (behind : List ℕ) → IsRoute (train_at problem t) (before ++ u ∷ v ∷ behind) → IsTrainArc (root_of problem []) (op t u) (op t v) (duration_of (train_at problem t) u)
 next_arc problem t before u v behind is = record {
   same_train = refl;
   reached = (before ++ u ∷ v ∷ behind, route_allowed problem t (before ++ u ∷ v ∷ behind) is, direct);
@@ -51,7 +52,7 @@ next_arc problem t before u v behind is = record {
     direct : Passes (train_at problem t) (before ++ u ∷ v ∷ behind) u v (duration_of (train_at problem t) u)
     direct = record { before = before; between = []; behind = behind; route_is = refl; total_is = sym (sum_by-cons (duration_of (train_at problem t)) u [] ∙ (let none : duration_of (train_at problem t) u + 0 ≡ duration_of (train_at problem t) u = omega arith in none)) }
 
-no_more : (problem : Problem) (u v : Op) (arc_length other : ℕ) → IsTrainArc problem [] [] u v arc_length → IsArc problem [] [] u v other → other ≤ arc_length
+no_more : (problem : Problem) (u v : Op) (arc_length other : ℕ) → IsTrainArc (root_of problem []) u v arc_length → IsArc (root_of problem []) u v other → other ≤ arc_length
 no_more problem u v arc_length other arc is =
     elim is.kind [
       | inl own ↦ own.least arc.reached.0 arc_length arc.reached.1 arc.reached.2
@@ -62,7 +63,7 @@ no_more problem u v arc_length other arc is =
     ]
 
 longest_arc : (problem : Problem) (t : ℕ) (before : List ℕ) (u v : ℕ) (behind : List ℕ) → (HasChoices problem → ⊥) → t < length problem.trains → IsRoute (train_at problem t) (before ++ u ∷ v ∷ behind)
-    → IsLongestArc problem [] [] (op t u) (op t v) (duration_of (train_at problem t) u)
+    → IsLongestArc (root_of problem []) (op t u) (op t v) (duration_of (train_at problem t) u)
 longest_arc problem t before u v behind single there is =
     let arc = next_arc problem t before u v behind is in
     let again : (before ++ u ∷ []) ++ v ∷ behind ≡ before ++ u ∷ v ∷ behind = append_assoc before (u ∷ []) (v ∷ behind) in
@@ -86,12 +87,12 @@ pub record HasWalk (problem : Problem) (walk : List Op) (total : ℕ) (last : Op
   pub first : Op
   pub rest : List Op
   pub walk_is : walk ≡ first ∷ rest
-  pub forced : IsForced problem [] [] first
-  pub on : WalksOn problem [] [] first (lower_of problem [] first) rest total
+  pub forced : IsForced (root_of problem []) first
+  pub on : WalksOn (root_of problem []) first (lower_of problem [] first) rest total
   pub ends : last_of first rest ≡ last
 
-walks_more : (problem : Problem) (u : Op) (walked : ℕ) (rest : List Op) (total : ℕ) (v : Op) (arc_length : ℕ) → WalksOn problem [] [] u walked rest total → IsLongestArc problem [] [] (last_of u rest) v arc_length
-    → WalksOn problem [] [] u walked (rest ++ v ∷ []) (total + arc_length)
+walks_more : (problem : Problem) (u : Op) (walked : ℕ) (rest : List Op) (total : ℕ) (v : Op) (arc_length : ℕ) → WalksOn (root_of problem []) u walked rest total → IsLongestArc (root_of problem []) (last_of u rest) v arc_length
+    → WalksOn (root_of problem []) u walked (rest ++ v ∷ []) (total + arc_length)
 walks_more problem u walked [] total v arc_length on arc = (arc_length, arc, ap (λ (n : ℕ). n + arc_length) on)
 walks_more problem u walked (x ∷ rest) total v arc_length on arc = (on.0, on.1, walks_more problem x (walked + on.0) rest total v arc_length on.2 arc)
 
@@ -103,22 +104,22 @@ ends_last : (u : Op) (rest : List Op) → EndsIn (u ∷ rest) (last_of u rest)
 ends_last u [] = ([], refl)
 ends_last u (v ∷ rest) = let later = ends_last v rest in (u ∷ later.0, ap (λ (l : List Op). u ∷ l) later.1)
 
-pub walk_is_walk : (problem : Problem) (walk : List Op) (total : ℕ) (last : Op) → HasWalk problem walk total last → IsWalk problem [] [] walk total
-walk_is_walk problem walk total last has = subst (λ (w : List Op). IsWalk problem [] [] w total) (sym has.walk_is) (has.forced, has.on)
+pub walk_is_walk : (problem : Problem) (walk : List Op) (total : ℕ) (last : Op) → HasWalk problem walk total last → IsWalk (root_of problem []) walk total
+walk_is_walk problem walk total last has = subst (λ (w : List Op). IsWalk (root_of problem []) w total) (sym has.walk_is) (has.forced, has.on)
 
 pub walk_ends : (problem : Problem) (walk : List Op) (total : ℕ) (last : Op) → HasWalk problem walk total last → EndsIn walk last
 walk_ends problem walk total last has = subst (λ (w : List Op). EndsIn w last) (sym has.walk_is) (subst (EndsIn (has.first ∷ has.rest)) has.ends (ends_last has.first has.rest))
 
-one_walk : (problem : Problem) (o : Op) (total : ℕ) → IsForced problem [] [] o → lower_of problem [] o ≡ total → HasWalk problem (o ∷ []) total o
+one_walk : (problem : Problem) (o : Op) (total : ℕ) → IsForced (root_of problem []) o → lower_of problem [] o ≡ total → HasWalk problem (o ∷ []) total o
 one_walk problem o total forced is = record { first = o; rest = []; walk_is = refl; forced = forced; on = is; ends = refl }
 
-longer_walk : (problem : Problem) (walk : List Op) (total : ℕ) (u v : Op) (arc_length : ℕ) → HasWalk problem walk total u → IsLongestArc problem [] [] u v arc_length → HasWalk problem (walk ++ v ∷ []) (total + arc_length) v
+longer_walk : (problem : Problem) (walk : List Op) (total : ℕ) (u v : Op) (arc_length : ℕ) → HasWalk problem walk total u → IsLongestArc (root_of problem []) u v arc_length → HasWalk problem (walk ++ v ∷ []) (total + arc_length) v
 longer_walk problem walk total u v arc_length has arc = record {
   first = has.first;
   rest = has.rest ++ v ∷ [];
   walk_is = ap (λ (w : List Op). w ++ v ∷ []) has.walk_is;
   forced = has.forced;
-  on = walks_more problem has.first (lower_of problem [] has.first) has.rest total v arc_length has.on (subst (λ (x : Op). IsLongestArc problem [] [] x v arc_length) (sym has.ends) arc);
+  on = walks_more problem has.first (lower_of problem [] has.first) has.rest total v arc_length has.on (subst (λ (x : Op). IsLongestArc (root_of problem []) x v arc_length) (sym has.ends) arc);
   ends = last_more has.first v has.rest;
 }
 
@@ -152,13 +153,13 @@ walk_here t done s from is = rw is (ap (map (λ (x : Stop). op t x.op)) (drop_al
 walk_on : (t : ℕ) (done : List Stop) (s : Stop) (from : ℕ) → from < length done → walk_in t (done ++ s ∷ []) from ≡ walk_in t done from ++ op t s.op ∷ []
 walk_on t done s from lt = ap (map (λ (x : Stop). op t x.op)) (drop_more from done s lt) ∙ map-append (λ (x : Stop). op t x.op) (drop from done) (s ∷ [])
 
-begun : (problem : Problem) (t : ℕ) (done : List Stop) (s : Stop) → IsForced problem [] [] (op t s.op) → s.from ≡ length done → lower_in (train_at problem t) s.op ≡ s.start → Carried problem t s.op s.start (done ++ s ∷ []) s.from
+begun : (problem : Problem) (t : ℕ) (done : List Stop) (s : Stop) → IsForced (root_of problem []) (op t s.op) → s.from ≡ length done → lower_in (train_at problem t) s.op ≡ s.start → Carried problem t s.op s.start (done ++ s ∷ []) s.from
 begun problem t done s forced from start = record {
   from_done = omega (arith, from, length-append done (s ∷ []));
-  walk = subst (λ (w : List Op). HasWalk problem w s.start (op t s.op)) (sym (walk_here t done s s.from from)) (one_walk problem (op t s.op) s.start forced start);
+  walk = subst (λ (w : List Op). HasWalk problem w s.start (op t s.op)) (sym (walk_here t done s s.from from)) (one_walk problem (op t s.op) s.start forced (let own : lower_of problem [] (op t s.op) ≡ lower_in (train_at problem t) s.op = omega arith in own ∙ start));
 }
 
-continued : (problem : Problem) (t : ℕ) (done : List Stop) (s : Stop) (last start arc_length : ℕ) → IsLongestArc problem [] [] (op t last) (op t s.op) arc_length → start + arc_length ≡ s.start → Carried problem t last start done s.from → Carried problem t s.op s.start (done ++ s ∷ []) s.from
+continued : (problem : Problem) (t : ℕ) (done : List Stop) (s : Stop) (last start arc_length : ℕ) → IsLongestArc (root_of problem []) (op t last) (op t s.op) arc_length → start + arc_length ≡ s.start → Carried problem t last start done s.from → Carried problem t s.op s.start (done ++ s ∷ []) s.from
 continued problem t done s last start arc_length arc is carried = record {
   from_done = omega (arith, carried.from_done, length-append done (s ∷ []));
   walk =

@@ -9,7 +9,7 @@ use Rattle.std.proofs.lemmas.Map.Steps.{length-le_from_distinct_below}
 use Rattle.disp_model.specs.declared.train.Operation.{Operation}
 use Rattle.disp_model.specs.Train.{next_of, IsSuccessor, IsEntry, IsExit, GoesOn, IsRoute}
 use Rattle.disp_model.specs.WellFormed.{LeadsTo, IsAcyclic}
-use Rattle.disp_model.proofs.Paths.{IsIn, is_in, contains_in, in_or_not}
+use Rattle.disp_laws.proofs.Paths.{IsIn, is_in, contains_in, in_or_not}
 use Rattle.single_routes.specs.Stops.{IsStraight, Goes}
 
 -- the operations go on to operations of the train

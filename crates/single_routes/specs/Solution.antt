@@ -12,6 +12,7 @@ use Rattle.disp_model.specs.declared.limits.TheConstants.{GREATEST_COST}
 use Rattle.disp_model.specs.WellFormed.{horizon}
 use Rattle.disp_model.specs.Valid.{IsValid}
 use Rattle.disp_model.specs.Cost.{cost_of, IsLeast, IsInfeasible}
+use Rattle.disp_model.specs.Node.{root_of}
 use Rattle.disp_model.specs.Trees.{Accepts, FitsNode}
 use Rattle.disp_model.specs.Earliest.{IsEarliest}
 use Rattle.single_routes.specs.declared.solved.Solved.{Solved}
@@ -33,7 +34,7 @@ pub record HasLateWalk (tree : List TreeNode) : Type 0 where
 -- the plan of earliest starts, each at its longest walk, is valid and costs so much, and the tree shows that none costs less
 pub record IsBest (problem : Problem) (plan : List Event) (cost : ℕ) (tree : List TreeNode) : Type 0 where
   pub earliest : IsEarliestPlan problem plan
-  pub by_walks : IsEarliest problem [] [] plan
+  pub by_walks : IsEarliest (root_of problem []) plan
   pub valid : IsValid problem [] plan
   pub costs : cost_of problem.components plan ≡ cost
   pub least : IsLeast problem [] cost

@@ -1,14 +1,12 @@
--- Texts that were added one after another.
-use Rattle.std.proofs.Common.{ℕ, ◌+◌, ◌<◌, List, [], ◌++◌, length, take, get_or, ap, ◌∙◌, append_assoc}
+-- Events that were added one after another.
+use Rattle.std.proofs.Common.{ℕ, ◌+◌, ◌<◌, List, [], ◌++◌, length, take, get_or}
 use Rattle.std.specs.Prelude.{codes}
 use Rattle.std.specs.List.{flat_map}
 use Rattle.std.proofs.lemmas.List.{flat_map_more, take_more}
 use Rattle.disp_model.specs.declared.plan.Event.{Event}
-use Rattle.solution_text.specs.Texts.{Adds, event_text, next_event_text}
-
--- one more text behind those that were added
-pub joined : {before text more added piece : List ℕ} → Adds before text added → Adds text more piece → Adds before more (added ++ piece)
-joined {before} {text} {more} {added} {piece} first second = record { is = second.is ∙ ap (λ (t : List ℕ). t ++ piece) first.is ∙ append_assoc before added piece }
+use Rattle.plain_values.specs.Texts.{Adds}
+use Rattle.plain_values.proofs.Added.{joined}
+use Rattle.solution_text.specs.Texts.{event_text, next_event_text}
 
 -- one more event behind those that were added
 pub more_events : {before text then now : List ℕ} (plan : List Event) (i : ℕ) (d : Event) → i < length plan → Adds before text (flat_map next_event_text (take i plan)) → Adds text then (codes ",") → Adds then now (event_text (get_or plan i d))

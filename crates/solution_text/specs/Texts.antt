@@ -1,12 +1,8 @@
 -- The texts that the program writes.
-use Rattle.std.specs.Prelude.{◌≡◌, ℕ, List, [], ◌∷◌, ◌++◌, codes}
+use Rattle.std.specs.Prelude.{ℕ, List, [], ◌∷◌, ◌++◌, codes}
 use Rattle.std.specs.List.{flat_map}
 use Rattle.std.specs.Fmt.{decimal}
 use Rattle.disp_model.specs.declared.plan.Event.{Event}
-
--- the piece was added at the end
-pub record Adds (old new piece : List ℕ) : Type 0 where
-  pub is : new ≡ old ++ piece
 
 -- an event in a solution (format: keys in order, compact)
 abbrev pub event_text : Event → List ℕ

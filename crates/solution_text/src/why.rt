@@ -1,6 +1,6 @@
 ghost use Rattle.std.specs.Prelude.{◌≡◌, ◌++◌, OnOk, OnErr, codes, string_bytes};
 ghost use Rattle.std.specs.Fmt.{decimal};
-ghost use Rattle.solution_text.specs.Texts.{Adds};
+ghost use Rattle.plain_values.specs.Texts.{Adds};
 ghost use Rattle.solution_text.specs.Why.{key_text, place_text, why_text};
 
 use crate::fault::SolutionNo;

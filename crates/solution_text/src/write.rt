@@ -1,18 +1,12 @@
 ghost use Rattle.std.specs.Prelude.{◌≡◌, ◌++◌, OnOk, IfOk, string_bytes};
 ghost use Rattle.std.specs.List.{flat_map};
 ghost use Rattle.std.specs.Fmt.{decimal};
-ghost use Rattle.solution_text.specs.Texts.{Adds, event_text, next_event_text, events_text, solution_text};
+ghost use Rattle.plain_values.specs.Texts.{Adds};
+ghost use Rattle.solution_text.specs.Texts.{event_text, next_event_text, events_text, solution_text};
 
 use disp_model::{Event, Memory};
+use plain_values::push_text;
 use std::alloc::Global;
-
-/// Adds a text.
-fn push_text(text: &mut String, piece: &str) -> Result<(), Memory>
-    ensures ok { OnOk result (Adds (string_bytes text.old) (string_bytes text.new) piece.now) }
-{
-    text.push_str(piece)?;
-    Ok(())
-}
 
 /// Adds a number in decimal.
 fn push_number(text: &mut String, number: u64) -> Result<(), Memory>

@@ -5,6 +5,7 @@ use Rattle.std.specs.Option.{ForSome}
 use Rattle.std.proofs.lemmas.Option.{slice_get_within, slice_get-get_or, none-some, same_Some}
 use Rattle.std.proofs.lemmas.Bool.{cases_lt, le-ltb, lt-ltb}
 use Rattle.std.proofs.lemmas.List.Elements.{All-from_recursion}
+use Rattle.plain_values.proofs.Lists.{contains_none, contains_one}
 use Rattle.disp_model.specs.declared.train.Operation.{Operation}
 use Rattle.disp_model.specs.declared.train.Listing.{Listing}
 use Rattle.disp_model.specs.declared.train.Component.{Component}
@@ -33,13 +34,6 @@ chained_at n k (p ∷ train) zero o h at =
 chained_at n k (p ∷ train) (suc i) o h at =
     let same : k + suc i ≡ (k + 1) + i = omega arith in
     rw same (chained_at n (k + 1) train i o h.1 at)
-
-contains_none : (s : ℕ) → Contains [] s → ⊥
-contains_none s (k, lt, e) = omega arith
-
-contains_one : (a s : ℕ) → Contains (a ∷ []) s → s ≡ a
-contains_one a s (zero, lt, e) = sym e
-contains_one a s (suc k, lt, e) = absurd (omega arith)
 
 contains_next_place : (n k s : ℕ) → Contains (next_place n k) s → (s ≡ k + 1) × (k + 1 < n)
 contains_next_place n k s h =

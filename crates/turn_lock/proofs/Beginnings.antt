@@ -1,24 +1,13 @@
 -- Lists that begin with others, and lists of places.
 use Rattle.std.proofs.Common.{◌≡◌, ℕ, zero, suc, ◌+◌, ◌<◌, ◌≤◌, ◌⊎◌, Bool, true, false, List, [], ◌∷◌, ◌++◌, length, sym, refl, ap, ◌∙◌, subst, inl, inr, arith, append_assoc, length-append, Some}
-use Rattle.std.specs.Prelude.{Contains, slice_get, nat_lt}
+use Rattle.std.specs.Prelude.{slice_get, nat_lt}
 use Rattle.std.proofs.lemmas.List.{append-nil}
-use Rattle.std.proofs.lemmas.List.Elements.{Contains-append_right}
 use Rattle.std.proofs.lemmas.Bool.{ltb-true, ltb-false, cond_both}
 use Rattle.turn_lock.specs.View.{StartsWith, longer_of, shorter_of}
 
 pub either_bool : (b : Bool) → (b ≡ true) ⊎ (b ≡ false)
 either_bool true = inl refl
 either_bool false = inr refl
-
-pub contains_one : (c d : ℕ) → Contains (c ∷ []) d → d ≡ c
-contains_one c d (zero, h, e) = sym e
-contains_one c d (suc k, h, e) = absurd (omega arith)
-
-pub contains_last : (l : List ℕ) (c : ℕ) → Contains (l ++ c ∷ []) c
-contains_last l c = Contains-append_right l (c ∷ []) c (0, omega arith, refl)
-
-pub contains_none : (l : List ℕ) (c : ℕ) → l ≡ [] → Contains l c → ⊥
-contains_none l c e (k, h, _) = let n : length l ≡ 0 = ap length e in omega arith
 
 module _ {E : Type 0} where
   pub nil_of : (l : List E) → length l ≡ 0 → l ≡ []

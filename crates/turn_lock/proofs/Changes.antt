@@ -9,12 +9,13 @@ use mathlib.Core.Option.{some}
 use native.Mathlib.Decide.{ℕ_discrete}
 use lib.ListN.{get_elem?}
 use Rattle.atomic_table.proofs.Lists.{set_here, set_else, at_longer}
+use Rattle.plain_values.proofs.Lists.{contains_last, contains_none_where, contains_one}
 use Rattle.turn_lock.specs.declared.pass.View.{View}
 use Rattle.turn_lock.specs.View.{giving, given_view, joining, spent_view, longer_of, shorter_of}
 use Rattle.turn_lock.specs.Section.{IsOf}
 use Rattle.turn_lock.specs.Steps.{entered}
 use Rattle.turn_lock.specs.Order.{Fits, Roster}
-use Rattle.turn_lock.proofs.Beginnings.{contains_one, contains_last, contains_none, starts_none, starts_refl, starts_more, starts_length, get_back, get_last, starts_both, longer_starts, shorter_starts, le_longer, shorter_le}
+use Rattle.turn_lock.proofs.Beginnings.{starts_none, starts_refl, starts_more, starts_length, get_back, get_last, starts_both, longer_starts, shorter_starts, le_longer, shorter_le}
 use Rattle.turn_lock.proofs.Rosters.{inside, one_view, each_after, at_end, SameRole, same_roles, roles_before, roles_after}
 
 module _ {E : Type 0} (named : E → Option ℕ) where
@@ -110,11 +111,11 @@ module _ {E : Type 0} (named : E → Option ℕ) where
               seen = f.seen;
               count = f.count;
               held = λ has. absurd (both_ways false refl has);
-              within = λ place c. absurd (contains_none [] place refl c);
-              names = λ place x c there _ _. absurd (contains_none [] place refl there);
+              within = λ place c. absurd (contains_none_where [] place refl c);
+              names = λ place x c there _ _. absurd (contains_none_where [] place refl there);
               others_back = λ _. refl;
               spent = λ gone. (refl, refl);
-              met_apart = λ place c _. contains_none [] place refl c;
+              met_apart = λ place c _. contains_none_where [] place refl c;
               met_one = starts_none [];
             })
             (at_end l1 g u j e);
@@ -124,9 +125,9 @@ module _ {E : Type 0} (named : E → Option ℕ) where
         apart = λ j k u x place a b p q. ⊎_elim
             (λ (o : P j u). ⊎_elim
             (λ (n : P k x). r.apart j k o.0 n.0 place o.1 n.1 (subst (λ z. Contains z place) o.2 p) (subst (λ z. Contains z place) n.2 q))
-            (λ (t : (k ≡ length l1) × (g ≡ x)). absurd (contains_none x.mine place (ap (λ (z : View E). z.mine) (sym t.1)) q))
+            (λ (t : (k ≡ length l1) × (g ≡ x)). absurd (contains_none_where x.mine place (ap (λ (z : View E). z.mine) (sym t.1)) q))
             (old k x b))
-            (λ (t : (j ≡ length l1) × (g ≡ u)). absurd (contains_none u.mine place (ap (λ (z : View E). z.mine) (sym t.1)) p))
+            (λ (t : (j ≡ length l1) × (g ≡ u)). absurd (contains_none_where u.mine place (ap (λ (z : View E). z.mine) (sym t.1)) p))
             (old j u a);
         first_seat = i;
         first = w;
@@ -158,11 +159,11 @@ module _ {E : Type 0} (named : E → Option ℕ) where
     seen = starts_none h;
     count = omega arith;
     held = λ has. absurd (both_ways false refl has);
-    within = λ place c. absurd (contains_none [] place refl c);
-    names = λ place x c there _ _. absurd (contains_none [] place refl there);
+    within = λ place c. absurd (contains_none_where [] place refl c);
+    names = λ place x c there _ _. absurd (contains_none_where [] place refl there);
     others_back = λ _. refl;
     spent = λ gone. (refl, refl);
-    met_apart = λ place c _. contains_none [] place refl c;
+    met_apart = λ place c _. contains_none_where [] place refl c;
     met_one = starts_none [];
   }
 
@@ -181,12 +182,12 @@ module _ {E : Type 0} (named : E → Option ℕ) where
     not_both n x place not_i not_j e p q = ⊎_elim (λ (o : Contains v.mine place). not_i (r.apart n i x v place e at q o)) (λ (o : Contains w.mine place). not_j (r.apart n j x w place e there q o)) (Contains-append_cases v.mine w.mine place p)
 
     apart_after : (m n : ℕ) (u x : View E) (place : ℕ) → Came l i v j w m u → Came l i v j w n x → Contains u.mine place → Contains x.mine place → m ≡ n
-    apart_after m n u x place (inr (inl s)) _ p q = absurd (contains_none u.mine place (ap (λ (z : View E). z.mine) (sym s)) p)
+    apart_after m n u x place (inr (inl s)) _ p q = absurd (contains_none_where u.mine place (ap (λ (z : View E). z.mine) (sym s)) p)
     apart_after m n u x place (inl t) (inl s) p q = t.0 ∙ sym s.0
-    apart_after m n u x place (inl t) (inr (inl s)) p q = absurd (contains_none x.mine place (ap (λ (z : View E). z.mine) (sym s)) q)
+    apart_after m n u x place (inl t) (inr (inl s)) p q = absurd (contains_none_where x.mine place (ap (λ (z : View E). z.mine) (sym s)) q)
     apart_after m n u x place (inl t) (inr (inr o)) p q = absurd (not_both n x place o.0 o.1 o.2 (subst (λ (z : View E). Contains z.mine place) (sym t.1) p) q)
     apart_after m n u x place (inr (inr o)) (inl s) p q = absurd (not_both m u place o.0 o.1 o.2 (subst (λ (z : View E). Contains z.mine place) (sym s.1) q) p)
-    apart_after m n u x place (inr (inr o)) (inr (inl s)) p q = absurd (contains_none x.mine place (ap (λ (z : View E). z.mine) (sym s)) q)
+    apart_after m n u x place (inr (inr o)) (inr (inl s)) p q = absurd (contains_none_where x.mine place (ap (λ (z : View E). z.mine) (sym s)) q)
     apart_after m n u x place (inr (inr o)) (inr (inr s)) p q = r.apart m n u x place o.2 s.2 p q
 
   -- the first pass takes in another
@@ -212,7 +213,7 @@ module _ {E : Type 0} (named : E → Option ℕ) where
               within = λ place c. ⊎_elim (λ (o : Contains v.mine place). let a = f.within place o in let q = longer.0 in omega arith) (λ (o : Contains w.mine place). let a = g.within place o in let q = longer.1 in omega arith) (Contains-append_cases v.mine w.mine place c);
               names = λ place x caller c found names. ⊎_elim
                   (λ (o : Contains v.mine place). ⊎_elim (λ (own : caller ≡ v.caller). inl own) (λ (back : Contains v.back caller). inr (Contains-append_left v.back (w.caller ∷ []) caller back)) (f.names place x caller o found names))
-                  (λ (o : Contains w.mine place). ⊎_elim (λ (own : caller ≡ w.caller). inr (subst (Contains b.back) (sym own) (contains_last v.back w.caller))) (λ (back : Contains w.back caller). absurd (contains_none w.back caller no_back back)) (g.names place x caller o found names))
+                  (λ (o : Contains w.mine place). ⊎_elim (λ (own : caller ≡ w.caller). inr (subst (Contains b.back) (sym own) (contains_last v.back w.caller))) (λ (back : Contains w.back caller). absurd (contains_none_where w.back caller no_back back)) (g.names place x caller o found names))
                   (Contains-append_cases v.mine w.mine place c);
               others_back = λ not_first. absurd (both_ways v.first not_first is);
               spent = λ gone. absurd (both_ways v.spent first_live gone);

@@ -7,10 +7,11 @@ use mathlib.Core.Option.{some, some-injective}
 use native.Mathlib.Decide.{ℕ_discrete}
 use lib.ListN.{get_elem?}
 use Rattle.atomic_table.specs.Table.{State, Final, Seen}
+use Rattle.plain_values.proofs.Lists.{contains_none_where}
 use Rattle.turn_lock.specs.declared.pass.View.{View}
 use Rattle.turn_lock.specs.View.{IsLast}
 use Rattle.turn_lock.specs.Order.{Ordered}
-use Rattle.turn_lock.proofs.Beginnings.{either_bool, contains_none, starts_whole}
+use Rattle.turn_lock.proofs.Beginnings.{either_bool, starts_whole}
 use Rattle.turn_lock.proofs.Rosters.{one_view}
 
 module _ {S E : Type 0} (entries : S → List E) (named : E → Option ℕ) where
@@ -41,7 +42,7 @@ module _ {S E : Type 0} (entries : S → List E) (named : E → Option ℕ) wher
     mine_all : (place : ℕ) → place < length r.history → Contains v.mine place
     mine_all place short = let c = r.roster.covered place short in dite (ℕ_discrete c.0 i)
         (λ is. subst (λ (z : View E). Contains z.mine place) (one_view s.views i c.0 v c.1 at c.2 is) c.3)
-        (λ apart. absurd (contains_none c.1.mine place ((r.roster.fits c.0 c.1 c.2).spent (other_spent c.0 c.1 c.2 apart)).0 c.3))
+        (λ apart. absurd (contains_none_where c.1.mine place ((r.roster.fits c.0 c.1 c.2).spent (other_spent c.0 c.1 c.2 apart)).0 c.3))
 
     seen_all : v.seen ≡ r.history
     seen_all = let f = r.roster.fits i v at in starts_whole r.history v.seen f.seen (reaches (length r.history) (λ place short. f.within place (mine_all place short)))

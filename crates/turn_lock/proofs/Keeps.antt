@@ -10,12 +10,13 @@ use lib.Seq.{set-get_or}
 use prog.Atomic.{either}
 use Rattle.atomic_table.specs.Table.{State, step, keeps, takes, gives, stepped, Allows, Splits, Joins, opening}
 use Rattle.atomic_table.proofs.Lists.{set_here, set_else, at_longer}
+use Rattle.plain_values.proofs.Lists.{contains_none_where}
 use Rattle.turn_lock.specs.declared.pass.View.{View}
 use Rattle.turn_lock.specs.View.{StartsWith, first_view, giving, given_view, joining, spent_view}
 use Rattle.turn_lock.specs.Section.{IsOf, OwnsPlaces, Begins}
 use Rattle.turn_lock.specs.Steps.{missed, holding, entered, counted, released, Sat, Takes, Enters, Counts, Releases, Settles}
 use Rattle.turn_lock.specs.Order.{Fits, Roster, Held, Ordered}
-use Rattle.turn_lock.proofs.Beginnings.{either_bool, contains_none, starts_none, starts_refl, starts_length}
+use Rattle.turn_lock.proofs.Beginnings.{either_bool, starts_none, starts_refl, starts_length}
 use Rattle.turn_lock.proofs.Rosters.{inside, one_view, each_after, at_end, SameRole, owns, begins, roster_set}
 use Rattle.turn_lock.proofs.Changes.{roster_add, roster_split, roster_join}
 
@@ -304,11 +305,11 @@ module _ {S E : Type 0} (entries : S → List E) (named : E → Option ℕ) wher
         seen = ([], refl);
         count = omega arith;
         held = λ z. absurd (both_ways false refl z);
-        within = λ place c. absurd (contains_none [] place refl c);
-        names = λ place x c there _ _. absurd (contains_none [] place refl there);
+        within = λ place c. absurd (contains_none_where [] place refl c);
+        names = λ place x c there _ _. absurd (contains_none_where [] place refl there);
         others_back = λ _. refl;
         spent = λ gone. (refl, refl);
-        met_apart = λ place c _. contains_none [] place refl c;
+        met_apart = λ place c _. contains_none_where [] place refl c;
         met_one = starts_none [];
       };
       covered = λ place short. absurd (omega arith);
@@ -322,7 +323,7 @@ module _ {S E : Type 0} (entries : S → List E) (named : E → Option ℕ) wher
       given = λ j u e of _. absurd (both_ways u.first of (ap (λ (z : View E). z.first) (sym (only_one v u j e).1)));
       out = λ j u e of _ _. both_ways u.first of (ap (λ (z : View E). z.first) (sym (only_one v u j e).1));
       one_each = λ j m u x a b _ _ _ _ _. (only_one v u j a).0 ∙ sym (only_one v x m b).0;
-      own_apart = λ c. contains_none [] caller refl c;
-      back_given = λ c t. absurd (contains_none [] c refl t);
+      own_apart = λ c. contains_none_where [] caller refl c;
+      back_given = λ c t. absurd (contains_none_where [] c refl t);
     };
   }

@@ -7,10 +7,11 @@ use mathlib.Core.Option.{some, some-injective, some-ne-none}
 use native.Mathlib.Decide.{ℕ_discrete}
 use lib.ListN.{get_elem?}
 use Rattle.atomic_table.proofs.Lists.{at_set, set_here, set_else}
+use Rattle.plain_values.proofs.Lists.{contains_none_where}
 use Rattle.turn_lock.specs.declared.pass.View.{View}
 use Rattle.turn_lock.specs.Section.{Begins, OwnsPlaces}
 use Rattle.turn_lock.specs.Order.{Fits, Roster}
-use Rattle.turn_lock.proofs.Beginnings.{either_bool, contains_none, starts_get}
+use Rattle.turn_lock.proofs.Beginnings.{either_bool, starts_get}
 
 module _ {A : Type 0} where
   pub inside : (l : List A) (i : ℕ) (v : A) → get_elem? l i ≡ some v → i < length l
@@ -42,7 +43,7 @@ pub record SameRole {E : Type 0} (v w : View E) : Type 0 where
 
 module _ {E : Type 0} (named : E → Option ℕ) where
   lives : (h : List E) (v : View E) → Fits named h v → (place : ℕ) → Contains v.mine place → v.spent ≡ false
-  lives h v f place inside = ⊎_elim (λ (e : v.spent ≡ true). absurd (contains_none v.mine place (f.spent e).0 inside)) (λ (e : v.spent ≡ false). e) (either_bool v.spent)
+  lives h v f place inside = ⊎_elim (λ (e : v.spent ≡ true). absurd (contains_none_where v.mine place (f.spent e).0 inside)) (λ (e : v.spent ≡ false). e) (either_bool v.spent)
 
   is_first_view : (h : List E) (l : List (View E)) (r : Roster named h l) → (j : ℕ) (u : View E) → get_elem? l j ≡ some u → u.first ≡ true → u ≡ r.first
   is_first_view h l r j u at e = one_view l r.first_seat j r.first u r.first_there at (r.only_first j u at e)
@@ -70,7 +71,7 @@ module _ {E : Type 0} (named : E → Option ℕ) where
       (λ (vf : v.first ≡ true). absurd (of_first vf (r.back_given v.caller b)))
       (λ (vg : v.first ≡ false). absurd (r.out i v at vg live b))
       (either_bool v.first))
-      (λ (ug : u.first ≡ false). absurd (contains_none u.back v.caller (f.others_back ug) back))
+      (λ (ug : u.first ≡ false). absurd (contains_none_where u.back v.caller (f.others_back ug) back))
       (either_bool u.first))
       (f.names place e v.caller c.3 found names)
 

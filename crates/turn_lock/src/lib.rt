@@ -13,10 +13,11 @@ mod pass;
 mod steps;
 mod turns;
 
-pub use errors::{Busy, Memory};
+pub use errors::Busy;
 pub use history::History;
 pub use lock::Turn;
 pub use pass::{Meeting, Pass, View};
+pub use plain_values::Memory;
 
 #[cfg(test)]
 mod tests;

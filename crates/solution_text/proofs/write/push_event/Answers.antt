@@ -1,4 +1,4 @@
-use Rattle.solution_text.proofs.Joined.{joined}
+use Rattle.plain_values.proofs.Added.{joined}
 use Rattle.solution_text.proofs.write.push_event.Goals as goal
 
 pub returns : goal.returns

@@ -1,7 +1,8 @@
 -- the texts so far
 use Rattle.std.proofs.Common.{take, string_bytes}
 use Rattle.std.specs.List.{flat_map}
-use Rattle.solution_text.specs.Texts.{Adds, next_event_text}
+use Rattle.plain_values.specs.Texts.{Adds}
+use Rattle.solution_text.specs.Texts.{next_event_text}
 use Rattle.solution_text.proofs.write.push_next_events.Given as goal
 
 abbrev pub invariant-loop-event : goal.invariant-loop-event
