@@ -324,3 +324,16 @@ order_none changes withdrawn i count standing d o are lt none order = record {
     same : map (λ p. p.1) (standing_from changes (1 + i) (drop i changes)) ≡ map (λ p. p.1) (standing_from changes (1 + (i + 1)) (drop (i + 1) changes))
     same = ap (λ (l : List Change). map (λ p. p.1) (standing_from changes (1 + i) l)) (opens changes i d lt)
         ∙ ap (λ (l : List (ℕ × Fixing)). map (λ p. p.1) l) (left_none changes (drop (i + 1) changes) i (get_or changes i d) (get_or withdrawn i o) none (at_place changes withdrawn i o are lt))
+
+-- ---- no more stand than there are changes
+
+few_from : (all : List Change) (m : ℕ) (changes : List Change) → length (standing_from all m changes) ≤ length changes
+few_from all m [] = omega arith
+few_from all m (Withdraw k ∷ changes) = omega (arith, few_from all (m + 1) changes)
+few_from all m (Fix fixing ∷ changes) = elim (cases_Bool (is_withdrawn m all)) [
+  | inl is ↦ rw is (omega (arith, few_from all (m + 1) changes))
+  | inr is ↦ rw is (omega (arith, few_from all (m + 1) changes))
+]
+
+pub few_stand : (changes : List Change) → length (standing_of changes) ≤ length changes
+few_stand changes = omega (arith, as_many (numbered_standing changes), few_from changes 1 changes)

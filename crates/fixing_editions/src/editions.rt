@@ -75,6 +75,8 @@ impl Editions {
     pub fn fixings(&mut self) -> &[Fixing]
         ensures* rests { sem 𝓛 (RestsAs self.entry) }
         ensures all { result.now ≡ standing_of self.old.changes }
+        ensures edition { IsEdition self.old.problem self.old.changes }
+        ensures fits { length result.now ≤ MOST_CHANGES }
     {
         settle(&mut self.kept, self.changes.as_slice());
         self.kept.standing.as_slice()
