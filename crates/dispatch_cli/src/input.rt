@@ -84,7 +84,8 @@ pub(crate) fn solution_file<S: Shelf>(
 fn take<F: Feed>(alloc: Global, problem: &Problem, feed: &mut F) -> Result<Editions, Cause>
     requires { F.has_ended feed.old ≡ false }
     ensures problem { IfOk result (λ editions. editions.problem ≡ problem.now) }
-    ensures ok { IfOk result (λ editions. IfSome (F.lines feed.old) (λ lines. TakesLines problem.now lines editions.changes)) }
+    ensures ok { IfOk result (λ editions.
+        IfSome (F.lines feed.old) (λ lines. TakesLines problem.now lines editions.changes)) }
     ensures no { IfErr result (RefusesLines problem.now (F.lines feed.old)) }
     ensures failed { (result ≡ Err (Failed Input.Fixings)) ↔ (F.faults feed.old < F.faults feed.new) }
     ensures counted { F.faults feed.old ≤ F.faults feed.new }
@@ -124,7 +125,8 @@ pub(crate) fn fixings_file<S: Shelf>(
     problem: &Problem,
     name: &str,
 ) -> Result<Editions, Cause>
-    ensures ok { IfOk result (λ editions. IsFixingsTaken (S.holds shelf.old) problem.now name.now editions.problem editions.changes) }
+    ensures ok { IfOk result (λ editions.
+        IsFixingsTaken (S.holds shelf.old) problem.now name.now editions.problem editions.changes) }
     ensures no { IfErr result (StopsFixings (S.holds shelf.old) (S.reading_faults shelf.old) (S.reading_faults shelf.new) problem.now name.now) }
     ensures reads { ReadsOne name.now (S.reading_faults shelf.old) (S.reading_faults shelf.new) (S.putting_faults shelf.old) (S.putting_faults shelf.new) (S.holds shelf.old) (S.holds shelf.new) (IsErrAnd result IsReadingFault) }
 {

@@ -18,6 +18,10 @@ pub record Edition : Type 0 where
   pub problem : Problem
   pub changes : List Change
 
+-- with these changes in place of its own
+abbrev pub with_changes : Edition → List Change → Edition
+with_changes edition changes = record { problem = edition.problem; changes = changes }
+
 -- the changes after a reply: an accepted one is added at the end, and nothing else changes them
 abbrev pub changes_after : List Change → Change → Reply → List Change
 changes_after changes change (Accepted number) = changes ++ change ∷ []

@@ -5,7 +5,7 @@ ghost use Rattle.disp_model.specs.declared.limits.TheConstants.{MOST_CHANGES};
 ghost use Rattle.disp_model.specs.declared.reply.Reply.TheVariants.{Accepted};
 ghost use Rattle.disp_model.specs.Changes.{standing_of, change_at};
 ghost use Rattle.disp_model.specs.Replies.{IsReply, IsEdition};
-ghost use Rattle.fixing_editions.specs.Edition.{changes_after};
+ghost use Rattle.fixing_editions.specs.Edition.{changes_after, with_changes};
 
 use crate::kept::{Kept, enter, settle, take_back, without_fixings};
 use crate::reply::reply_to;
@@ -38,7 +38,8 @@ impl Editions {
 
     /// The problem without changes, in a copy of its own.
     pub fn new(alloc: Global, problem: &Problem) -> Result<Editions, Memory>
-        ensures { IfOk result (λ editions. editions ≡ record { problem = problem.now; changes = [] }) }
+        ensures { IfOk result (λ editions.
+            editions ≡ record { problem = problem.now; changes = [] }) }
     {
         let problem = problem.copy()?;
         let by_train = without_fixings(alloc, problem.trains.len())?;
@@ -86,8 +87,10 @@ impl Editions {
     /// nothing else changes them. A fixing takes time linear in the operations of its train, their successors
     /// and that train's own fixings that stand, a withdrawal in those fixings alone.
     pub fn ask(&mut self, change: Change) -> Result<Reply, Memory>
-        ensures reply { IfOk result (λ reply. IsReply self.old.problem self.old.changes change reply) }
-        ensures kept { IfOk result (λ reply. self.new ≡ record { problem = self.old.problem; changes = changes_after self.old.changes change reply }) }
+        ensures reply { IfOk result (λ reply.
+            IsReply self.old.problem self.old.changes change reply) }
+        ensures kept { IfOk result (λ reply.
+            self.new ≡ with_changes self.old (changes_after self.old.changes change reply)) }
         ensures err { OnErr result (self.new ≡ self.old) }
     {
         match change {
@@ -98,8 +101,10 @@ impl Editions {
 
     /// Asks for a fixing.
     fn ask_fixing(&mut self, fixing: Fixing) -> Result<Reply, Memory>
-        ensures reply { IfOk result (λ reply. IsReply self.old.problem self.old.changes (Fix fixing) reply) }
-        ensures kept { IfOk result (λ reply. self.new ≡ record { problem = self.old.problem; changes = changes_after self.old.changes (Fix fixing) reply }) }
+        ensures reply { IfOk result (λ reply.
+            IsReply self.old.problem self.old.changes (Fix fixing) reply) }
+        ensures kept { IfOk result (λ reply.
+            self.new ≡ with_changes self.old (changes_after self.old.changes (Fix fixing) reply)) }
         ensures err { OnErr result (self.new ≡ self.old) }
     {
         let alloc = *self.changes.allocator();
@@ -123,7 +128,8 @@ impl Editions {
     /// Adds a fixing that is accepted.
     fn accept_fixing(&mut self, number: u32, fixing: Fixing) -> Result<(), Memory>
         requires { IsReply self.old.problem self.old.changes (Fix fixing) (Accepted number) }
-        ensures ok { OnOk result (self.new ≡ record { problem = self.old.problem; changes = self.old.changes ++ Fix fixing ∷ [] }) }
+        ensures ok { OnOk result
+            (self.new ≡ with_changes self.old (self.old.changes ++ Fix fixing ∷ [])) }
         ensures err { OnErr result (self.new ≡ self.old) }
     {
         self.changes.push(Change::Fix(fixing))?;
@@ -138,8 +144,11 @@ impl Editions {
 
     /// Asks for a withdrawal.
     fn ask_withdrawal(&mut self, number: u64) -> Result<Reply, Memory>
-        ensures reply { IfOk result (λ reply. IsReply self.old.problem self.old.changes (Withdraw number) reply) }
-        ensures kept { IfOk result (λ reply. self.new ≡ record { problem = self.old.problem; changes = changes_after self.old.changes (Withdraw number) reply }) }
+        ensures reply { IfOk result (λ reply.
+            IsReply self.old.problem self.old.changes (Withdraw number) reply) }
+        ensures kept { IfOk result (λ reply.
+            self.new
+            ≡ with_changes self.old (changes_after self.old.changes (Withdraw number) reply)) }
         ensures err { OnErr result (self.new ≡ self.old) }
     {
         let Some(fixing) = fixing_at(&self.changes, number) else {
@@ -159,7 +168,8 @@ impl Editions {
     fn accept_withdrawal(&mut self, by: u32, number: u64, fixing: Fixing) -> Result<(), Memory>
         requires accepted { IsReply self.old.problem self.old.changes (Withdraw number) (Accepted by) }
         requires there { change_at self.old.changes number ≡ Some (Fix fixing) }
-        ensures ok { OnOk result (self.new ≡ record { problem = self.old.problem; changes = self.old.changes ++ Withdraw number ∷ [] }) }
+        ensures ok { OnOk result
+            (self.new ≡ with_changes self.old (self.old.changes ++ Withdraw number ∷ [])) }
         ensures err { OnErr result (self.new ≡ self.old) }
     {
         self.changes.push(Change::Withdraw { number })?;

@@ -40,7 +40,8 @@ fn list(
     fixing: Fixing,
 ) -> Result<(), Memory>
     ensures standing { OnOk result (standing.new.items ≡ standing.old.items ++ fixing ∷ []) }
-    ensures own { OnOk result (own.new ≡ own.old ++ record { number = number; fixing = fixing } ∷ []) }
+    ensures own { OnOk result
+        (own.new ≡ own.old ++ record { number = number; fixing = fixing } ∷ []) }
     ensures standing_err { OnErr result (standing.new.items ≡ standing.old.items) }
     ensures own_err { OnErr result (own.new ≡ own.old) }
 {

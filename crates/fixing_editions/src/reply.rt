@@ -64,7 +64,9 @@ fn reply_from_earliest(
     requires there { at_train < length problem.now.trains }
     requires kept { kept.now ≡ own_of at_train (numbered_standing changes.now) }
     requires fits { length changes.now ≤ MOST_CHANGES }
-    ensures { IfOk result (λ reply. RepliesFromEarliest problem.now changes.now at_train at_op time (earliest_in kept.now at_op) reply) }
+    ensures { IfOk result (λ reply.
+        RepliesFromEarliest problem.now changes.now at_train at_op time
+        (earliest_in kept.now at_op) reply) }
 {
     let earliest = earliest_in(kept, at_op);
     if time < earliest {
@@ -92,7 +94,8 @@ fn reply_in_time(
     requires there { at_train < length problem.now.trains }
     requires kept { kept.now ≡ own_of at_train (numbered_standing changes.now) }
     requires fits { length changes.now ≤ MOST_CHANGES }
-    ensures { IfOk result (λ reply. RepliesInTime problem.now changes.now at_train at_op time reply) }
+    ensures { IfOk result (λ reply.
+        RepliesInTime problem.now changes.now at_train at_op time reply) }
 {
     let fixing = Fixing::Started {
         at_train,
@@ -111,7 +114,8 @@ fn reply_in_time(
 
 /// The operation's upper, where the time is above it.
 fn passed_upper(operation: &Operation, time: u64) -> Option<u32>
-    ensures { MatchOption result (IsNotBeyond operation.now time) (λ upper. IsBeyond operation.now time upper) }
+    ensures { MatchOption result (IsNotBeyond operation.now time) (λ upper.
+        IsBeyond operation.now time upper) }
 {
     match operation.upper {
         Some(upper) => {
@@ -139,7 +143,8 @@ fn reply_to_start(
     requires there { at_train < length problem.now.trains }
     requires kept { kept.now ≡ own_of at_train (numbered_standing changes.now) }
     requires fits { length changes.now ≤ MOST_CHANGES }
-    ensures { IfOk result (λ reply. RepliesToStart problem.now changes.now at_train at_op time operation.now reply) }
+    ensures { IfOk result (λ reply.
+        RepliesToStart problem.now changes.now at_train at_op time operation.now reply) }
 {
     if time > u64::from(GREATEST_NUMBER) {
         return Ok(Reply::Refused(Refusal::TooLarge));
@@ -180,7 +185,8 @@ fn reply_to_choice(
     requires kept { kept.now ≡ own_of at_train (numbered_standing changes.now) }
     requires fits { length changes.now ≤ MOST_CHANGES }
     requires operation { slice_get (train_at problem.now at_train) at_op ≡ Some operation.now }
-    ensures { IfOk result (λ reply. RepliesToChoice problem.now changes.now at_train at_op next reply) }
+    ensures { IfOk result (λ reply.
+        RepliesToChoice problem.now changes.now at_train at_op next reply) }
 {
     if !is_successor(operation, next) {
         return Ok(Reply::Refused(Refusal::NoSuccessor));

@@ -13,7 +13,9 @@ use disp_model::{Change, Fixing, Refusal, Reply};
 /// The fixing that was accepted as the change of a number.
 pub(crate) fn fixing_at(changes: &[Change], number: u64) -> Option<Fixing>
     ensures some { IfSome result (λ fixing. change_at changes.now number ≡ Some (Fix fixing)) }
-    ensures none { IfNone result (RepliesToWithdrawal changes.now number (change_at changes.now number) (Refused NoSuchChange)) }
+    ensures none { IfNone result
+        (RepliesToWithdrawal changes.now number (change_at changes.now number)
+        (Refused NoSuchChange)) }
 {
     if number == 0 {
         return None;

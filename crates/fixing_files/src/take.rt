@@ -46,7 +46,8 @@ impl From<Memory> for FileNo {
 
 /// The change that a line asks for.
 fn change_of(line: &[u8]) -> Option<Change>
-    ensures { MatchOption result ((change : Change) → IsAsked line.now change → ⊥) (IsAsked line.now) }
+    ensures { MatchOption result ((change : Change) → IsAsked line.now change → ⊥)
+        (IsAsked line.now) }
 {
     match read_request(line) {
         Request::Ask(change) => Some(change),
@@ -57,9 +58,11 @@ fn change_of(line: &[u8]) -> Option<Change>
 /// Asks for a change.
 fn ask_for(editions: &mut Editions, change: Change, number: u64) -> Result<(), FileNo>
     ensures problem { editions.new.problem ≡ editions.old.problem }
-    ensures ok { OnOk result (TakesChange editions.old.problem editions.old.changes change editions.new.changes) }
+    ensures ok { OnOk result
+        (TakesChange editions.old.problem editions.old.changes change editions.new.changes) }
     ensures same { OnErr result (editions.new.changes ≡ editions.old.changes) }
-    ensures no { IfErr result (RefusesChange editions.old.problem editions.old.changes change number) }
+    ensures no { IfErr result
+        (RefusesChange editions.old.problem editions.old.changes change number) }
 {
     match editions.ask(change)? {
         Reply::Accepted(_) => Ok(()),
@@ -71,9 +74,11 @@ fn ask_for(editions: &mut Editions, change: Change, number: u64) -> Result<(), F
 /// Asks for the change of a line.
 fn take_line(editions: &mut Editions, line: &[u8], number: u64) -> Result<(), FileNo>
     ensures problem { editions.new.problem ≡ editions.old.problem }
-    ensures ok { OnOk result (TakesText editions.old.problem editions.old.changes line.now editions.new.changes) }
+    ensures ok { OnOk result
+        (TakesText editions.old.problem editions.old.changes line.now editions.new.changes) }
     ensures same { OnErr result (editions.new.changes ≡ editions.old.changes) }
-    ensures no { IfErr result (RefusesText editions.old.problem editions.old.changes line.now number) }
+    ensures no { IfErr result
+        (RefusesText editions.old.problem editions.old.changes line.now number) }
 {
     match change_of(line) {
         Some(change) => ask_for(editions, change, number),
@@ -90,11 +95,17 @@ fn take_next<F: Feed>(
 ) -> Result<bool, FileNo>
     requires { F.has_ended feed.old ≡ false }
     ensures problem { editions.new.problem ≡ editions.old.problem }
-    ensures given { result ≡ Ok false → IfSome (F.lines feed.old) (λ lines. TakesFirst editions.old.problem editions.old.changes lines (F.lines feed.new) editions.new.changes) }
+    ensures given { result ≡ Ok false → IfSome (F.lines feed.old) (λ lines.
+        TakesFirst editions.old.problem editions.old.changes lines (F.lines feed.new)
+        editions.new.changes) }
     ensures open { result ≡ Ok false → F.has_ended feed.new ≡ false }
-    ensures end { result ≡ Ok true → IfSome (F.lines feed.old) (λ lines. lines ≡ []) × (editions.new.changes ≡ editions.old.changes) }
+    ensures end { result ≡ Ok true
+        → IfSome (F.lines feed.old) (λ lines. lines ≡ [])
+        × (editions.new.changes ≡ editions.old.changes) }
     ensures ended { result ≡ Ok true → F.has_ended feed.new ≡ true }
-    ensures no { IfErr result (RefusesNext editions.old.problem editions.old.changes (F.lines feed.old) (F.lines feed.new) number) }
+    ensures no { IfErr result
+        (RefusesNext editions.old.problem editions.old.changes (F.lines feed.old) (F.lines feed.new)
+        number) }
     ensures same { OnErr result (editions.new.changes ≡ editions.old.changes) }
     ensures failed { IsErrOf result FileNo.Failed ↔ (F.faults feed.old < F.faults feed.new) }
     ensures counted { F.faults feed.old ≤ F.faults feed.new }
@@ -140,11 +151,13 @@ pub fn take_fixings<F: Feed>(feed: &mut F, editions: &mut Editions) -> Result<()
     requires new { editions.old.changes ≡ [] }
     requires open { F.has_ended feed.old ≡ false }
     ensures problem { editions.new.problem ≡ editions.old.problem }
-    ensures ok { OnOk result (IfSome (F.lines feed.old) (λ lines. TakesAll editions.old.problem [] lines editions.new.changes)) }
+    ensures ok { OnOk result (IfSome (F.lines feed.old) (λ lines.
+        TakesAll editions.old.problem [] lines editions.new.changes)) }
     ensures few { OnOk result (IfSome (F.lines feed.old) (λ lines. length lines ≤ MOST_LINES)) }
     ensures ended { OnOk result (F.has_ended feed.new ≡ true) }
     ensures no { IfErr result (Refuses editions.old.problem (F.lines feed.old)) }
-    ensures left { IfErr result (λ no. IfSome (F.lines feed.old) (λ lines. Leaves editions.old.problem lines (F.lines feed.new) editions.new.changes no)) }
+    ensures left { IfErr result (λ no. IfSome (F.lines feed.old) (λ lines.
+        Leaves editions.old.problem lines (F.lines feed.new) editions.new.changes no)) }
 
     // A fault is told exactly where it is counted.
     ensures failed { IsErrOf result FileNo.Failed ↔ (F.faults feed.old < F.faults feed.new) }

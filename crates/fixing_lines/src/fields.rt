@@ -60,7 +60,8 @@ pub(crate) fn fields_after(line: &[u8], word: &[u8]) -> Option<Fields>
 
 /// The number behind a word, which has the space between.
 pub(crate) fn number_after(line: &[u8], word: &[u8]) -> Option<u64>
-    ensures { MatchOption result ((n : ℕ) → HasNumber word.now line.now n → ⊥) (HasNumber word.now line.now) }
+    ensures { MatchOption result ((n : ℕ) → HasNumber word.now line.now n → ⊥)
+        (HasNumber word.now line.now) }
 {
     let field = line.strip_prefix(word)?;
     number(field)

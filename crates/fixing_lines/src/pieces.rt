@@ -42,7 +42,8 @@ fn push_fixing(text: &mut String, fixing: Fixing) -> Result<(), Memory>
 
 /// Adds the line that asks for a change.
 pub(crate) fn push_change(text: &mut String, change: Change) -> Result<(), Memory>
-    ensures { OnOk result (Adds (string_bytes text.old) (string_bytes text.new) (change_text change)) }
+    ensures { OnOk result (Adds (string_bytes text.old) (string_bytes text.new)
+        (change_text change)) }
 {
     match change {
         Change::Fix(fixing) => push_fixing(text, fixing)?,

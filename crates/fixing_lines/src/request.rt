@@ -18,7 +18,8 @@ pub enum Request {
 
 /// The change that a line asks for.
 fn asked(line: &[u8]) -> Option<Change>
-    ensures { MatchOption result ((change : Change) → IsAsked line.now change → ⊥) (IsAsked line.now) }
+    ensures { MatchOption result ((change : Change) → IsAsked line.now change → ⊥)
+        (IsAsked line.now) }
 {
     if let Some(fields) = fields_after(line, b"started ") {
         return Some(Change::Fix(Fixing::Started {
