@@ -252,7 +252,7 @@ followed t o n (e ∷ plan) goes = followed_at (nat_eq e.train t) refl (λ h. fo
     followed_at false is later goes = followed_later t o n e plan (later goes)
     followed_at true is later goes = followed_here t o n e plan (operations_of t plan) refl (eqb-true e.train t is) goes later
 
-get_dropped : (plan : List Event) (m k : ℕ) → slice_get (drop m plan) k ≡ slice_get plan (m + k)
+pub get_dropped : (plan : List Event) (m k : ℕ) → slice_get (drop m plan) k ≡ slice_get plan (m + k)
 get_dropped plan zero k = let same : 0 + k ≡ k = omega arith in rw same refl
 get_dropped [] (suc m) k = refl
 get_dropped (e ∷ plan) (suc m) k = let more : suc m + k ≡ suc (m + k) = omega arith in rw more (get_dropped plan m k)

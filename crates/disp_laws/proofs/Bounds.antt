@@ -245,12 +245,12 @@ free_is_no_less node fixed free one other =
 
 -- ---- with one route each they are equal
 
-base_longest : (node : Node) (o : Op) (base : ℕ) → IsBase node o base → IsForced node o → IsLongest node o base
+pub base_longest : (node : Node) (o : Op) (base : ℕ) → IsBase node o base → IsForced node o → IsLongest node o base
 base_longest node o base (inl (again, longest)) forced = longest
 base_longest node o base (inr (free, same)) forced = absurd (free forced)
 
 -- from an operation of a train to its successor it takes at least its duration
-next_step : (node : Node) (t p q low high : ℕ) → (HasCycle node → ⊥) → IsSuccessor (train_at node.problem t) p q → IsForced node (record { train = t; op = p }) → IsForced node (record { train = t; op = q })
+pub next_step : (node : Node) (t p q low high : ℕ) → (HasCycle node → ⊥) → IsSuccessor (train_at node.problem t) p q → IsForced node (record { train = t; op = p }) → IsForced node (record { train = t; op = q })
     → IsLongest node (record { train = t; op = p }) low → IsLongest node (record { train = t; op = q }) high → low + duration_of (train_at node.problem t) p ≤ high
 next_step node t p q low high no_cycle next one other from to =
     let u : Op = record { train = t; op = p } in

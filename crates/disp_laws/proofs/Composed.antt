@@ -36,7 +36,7 @@ in_back : (x : ℕ) (front rest : List ℕ) → IsIn x rest → IsIn x (front ++
 in_back x [] rest there = there
 in_back x (p ∷ front) rest there = inr (in_back x front rest there)
 
-in_front_or_back : (x : ℕ) (front rest : List ℕ) → IsIn x (front ++ rest) → IsIn x front ⊎ IsIn x rest
+pub in_front_or_back : (x : ℕ) (front rest : List ℕ) → IsIn x (front ++ rest) → IsIn x front ⊎ IsIn x rest
 in_front_or_back x [] rest there = inr there
 in_front_or_back x (p ∷ front) rest (inl same) = inl (inl same)
 in_front_or_back x (p ∷ front) rest (inr there) = elim (in_front_or_back x front rest there) [ inl h ↦ inl (inr h) | inr h ↦ inr h ]
@@ -50,7 +50,7 @@ after_in_front x v (p ∷ q ∷ front) one other (inl same) = rw (eq-eqb p x sam
 after_in_front x v (p ∷ q ∷ front) one other (inr there) = ap (λ (o : Option ℕ). cond (nat_eq p x) (Some q) o) (after_in_front x v (q ∷ front) one other there)
 
 -- nor does what follows another one depend on the front
-after_behind : (x v : ℕ) (front rest : List ℕ) → (IsIn x front → ⊥) → after x (front ++ v ∷ rest) ≡ after x (v ∷ rest)
+pub after_behind : (x v : ℕ) (front rest : List ℕ) → (IsIn x front → ⊥) → after x (front ++ v ∷ rest) ≡ after x (v ∷ rest)
 after_behind x v [] rest not = refl
 after_behind x v (p ∷ []) rest not = rw (ne_eqb p x (λ same. not (inl same))) refl
 after_behind x v (p ∷ q ∷ front) rest not = rw (ne_eqb p x (λ same. not (inl same))) (after_behind x v (q ∷ front) rest (λ there. not (inr there)))
@@ -74,7 +74,7 @@ route_joined : (train : List Operation) (v : ℕ) (front one other : List ℕ) �
 route_joined train v [] one other is behind = (is.0, behind)
 route_joined train v (p ∷ front) one other is behind = (is.0, goes_joined train p v front one other is.1 behind)
 
-front_leads : (train : List Operation) (x v : ℕ) (front rest : List ℕ) → IsRoute train (front ++ v ∷ rest) → IsIn x front → (n : ℕ) × LeadsTo train n x v
+pub front_leads : (train : List Operation) (x v : ℕ) (front rest : List ℕ) → IsRoute train (front ++ v ∷ rest) → IsIn x front → (n : ℕ) × LeadsTo train n x v
 front_leads train x v front rest is there = by (parted x front there)
   where
     by : Parted x front → (n : ℕ) × LeadsTo train n x v
@@ -82,7 +82,7 @@ front_leads train x v front rest is there = by (parted x front there)
         let whole : front ++ v ∷ rest ≡ part.before ++ x ∷ (part.rest ++ v ∷ rest) = ap (λ (l : List ℕ). l ++ v ∷ rest) part.is ∙ append_assoc part.before (x ∷ part.rest) (v ∷ rest) in
         route_leads train part.before x part.rest v rest (subst (IsRoute train) whole is)
 
-back_leads : (train : List Operation) (x v : ℕ) (front rest : List ℕ) → IsRoute train (front ++ v ∷ rest) → IsIn x rest → (n : ℕ) × LeadsTo train n v x
+pub back_leads : (train : List Operation) (x v : ℕ) (front rest : List ℕ) → IsRoute train (front ++ v ∷ rest) → IsIn x rest → (n : ℕ) × LeadsTo train n v x
 back_leads train x v front rest is there = leads_along train v x rest (route_from train front v rest is) there
 
 -- an operation does not stand before another on one route and behind it on another

@@ -67,7 +67,7 @@ out e (f ∷ events) (inr there) = let later = out e events there in record { fr
 compare : (m n : ℕ) → (m < n) ⊎ ((m ≡ n) ⊎ (n < m))
 compare m n = elim (cases_lt m n) [ inl lt ↦ inl lt | inr le ↦ elim (cases_lt n m) [ inl gt ↦ inr (inr gt) | inr ge ↦ inr (inl (omega (arith, le, ge))) ] ]
 
-same_events : (e f : Event) → e.time ≡ f.time → e.train ≡ f.train → e.operation ≡ f.operation → e ≡ f
+pub same_events : (e f : Event) → e.time ≡ f.time → e.train ≡ f.train → e.operation ≡ f.operation → e ≡ f
 same_events e f time train operation =
     let first : ℕ → Event = λ n. record { time = n; train = e.train; operation = e.operation } in
     let second : ℕ → Event = λ n. record { time = f.time; train = n; operation = e.operation } in
@@ -92,7 +92,7 @@ in_some_order e f = elim (compare e.time f.time) [
   ]
 ]
 
-comes_then : (e f g : Event) → ComesBefore e f → ComesBefore f g → ComesBefore e g
+pub comes_then : (e f g : Event) → ComesBefore e f → ComesBefore f g → ComesBefore e g
 comes_then e f g (inl one) (inl other) = inl (omega (arith, one, other))
 comes_then e f g (inl one) (inr other) = inl (omega (arith, one, other.0))
 comes_then e f g (inr one) (inl other) = inl (omega (arith, one.0, other))

@@ -53,7 +53,7 @@ sum_two f g (x ∷ xs) = omega (arith, sum_two f g xs)
 span_at : Problem → Op → ℕ
 span_at problem o = min_of problem o + most_released problem o
 
-get_within : {X : Type 0} (xs : List X) (k : ℕ) → k < length xs → (x : X) × (slice_get xs k ≡ Some x)
+pub get_within : {X : Type 0} (xs : List X) (k : ℕ) → k < length xs → (x : X) × (slice_get xs k ≡ Some x)
 get_within [] k lt = absurd (omega arith)
 get_within (x ∷ xs) zero lt = (x, refl)
 get_within (x ∷ xs) (suc k) lt = get_within xs k (omega arith)

@@ -31,7 +31,7 @@ use Rattle.disp_laws.proofs.Shares.{train_there, share_exists, one_share}
 pub le_or_not : (m n : ℕ) → Decided (m ≤ n)
 le_or_not m n = elim (cases_lt n m) [ inl lt ↦ inr (λ le. omega (arith, lt, le)) | inr le ↦ inl le ]
 
-lt_or_not : (m n : ℕ) → Decided (m < n)
+pub lt_or_not : (m n : ℕ) → Decided (m < n)
 lt_or_not m n = elim (cases_lt m n) [ inl lt ↦ inl lt | inr le ↦ inr (λ lt. omega (arith, lt, le)) ]
 
 -- no two elements of a list have one key

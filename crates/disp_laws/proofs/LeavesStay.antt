@@ -33,7 +33,7 @@ use Rattle.disp_laws.proofs.LongestArcs.{longest_arc}
 abbrev pub HaveRoutes : Node → Type 0
 HaveRoutes node = (t : ℕ) → t < length node.problem.trains → HasRoute node t
 
-none_or_all : (P : ℕ → Type 0) (n : ℕ) → ((t : ℕ) → t < n → Decided (P t)) → ((t : ℕ) × (t < n) × (P t → ⊥)) ⊎ ((t : ℕ) → t < n → P t)
+pub none_or_all : (P : ℕ → Type 0) (n : ℕ) → ((t : ℕ) → t < n → Decided (P t)) → ((t : ℕ) × (t < n) × (P t → ⊥)) ⊎ ((t : ℕ) → t < n → P t)
 none_or_all P zero each = inr (λ t lt. absurd (omega arith))
 none_or_all P (suc n) each = elim (each n (omega arith)) [
   | inr not ↦ inl (n, omega arith, not)

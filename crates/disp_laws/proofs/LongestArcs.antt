@@ -136,7 +136,7 @@ no_listings_or_not : (ls : List Listing) → Decided (ls ≡ [])
 no_listings_or_not [] = inl refl
 no_listings_or_not (l ∷ ls) = inr (λ e. absurd cc)
 
-conflicts_or_not : (problem : Problem) (a b : Op) → Decided (Conflicts problem a b)
+pub conflicts_or_not : (problem : Problem) (a b : Op) → Decided (Conflicts problem a b)
 conflicts_or_not problem a b = elim (both (denied (same_number a.train b.train)) (denied (no_listings_or_not (shared_listings (listings_of problem a) (listings_of problem b))))) [
   | inl is ↦ inl (record { trains = is.0; shared = is.1 })
   | inr n ↦ inr (λ conflicts. n (conflicts.trains, conflicts.shared))
@@ -161,7 +161,7 @@ order_is a b (Run o) is = absurd is
 order_is a b (Skip o) is = absurd is
 order_is a b (First c d) is = ap (λ (x : Op). First x d) is.0 ∙ ap (λ (x : Op). First a x) is.1
 
-decided_or_not : (decisions : List Decision) (a b : Op) → Decided (Contains decisions (First a b))
+pub decided_or_not : (decisions : List Decision) (a b : Op) → Decided (Contains decisions (First a b))
 decided_or_not decisions a b = elim (some_or_not (IsOrder a b) (is_order_or_not a b) decisions) [
   | inl found ↦ inl (subst (Contains decisions) (order_is a b found.0 found.2) found.1)
   | inr none ↦ inr (λ there. none (First a b, there, (refl, refl)))

@@ -30,7 +30,7 @@ use Rattle.disp_model.specs.Arcs.{listings_of, shared_listings, Conflicts}
 use Rattle.disp_model.specs.Walks.{IsLongest}
 use Rattle.disp_model.specs.Nodes.{component_op, AddsForced, ForcedAddUp, IsForcedBound}
 use Rattle.disp_model.specs.Trees.{IsChoice, children_of}
-use Rattle.disp_model.specs.Earliest.{op_of, IsEarliest, IsFork, IsOpenClash, IsFixedPick}
+use Rattle.disp_model.specs.Earliest.{op_of, IsEarliest, IsFork, Clash, IsOpenClash, IsFixedPick}
 use Rattle.disp_laws.proofs.Paths.{IsIn, contains_in, goes_to_next, in_middle}
 use Rattle.disp_laws.proofs.Positions.{start_is_started}
 use Rattle.disp_laws.proofs.Arcs.{names_op}
@@ -59,7 +59,7 @@ route_goes_on train o s (p ∷ rest) is there next = goes_to_next train o p rest
     nothing : (s : ℕ) → Contains [] s → ⊥
     nothing s (k, lt, e) = omega arith
 
-two_elements : (xs : List ℕ) (s u : ℕ) → Contains xs s → Contains xs u → s ≢ u → 2 ≤ length xs
+pub two_elements : (xs : List ℕ) (s u : ℕ) → Contains xs s → Contains xs u → s ≢ u → 2 ≤ length xs
 two_elements [] s u (k, lt, e) other apart = absurd (omega arith)
 two_elements (x ∷ []) s u (zero, lt, e) (zero, gt, f) apart = absurd (apart (sym e ∙ f))
 two_elements (x ∷ []) s u (suc k, lt, e) other apart = absurd (omega (arith, lt))
@@ -78,31 +78,35 @@ pub record GoesTwoWays (node : Node) (o : Op) : Type 0 where
   pub other_goes : after o.op other ≡ Some other_next
   pub apart : one_next ≢ other_next
 
-pub fork_goes_two_ways : (node : Node) (o : Op) → IsFork node o → GoesTwoWays node o
-fork_goes_two_ways node o fork = by_next (after o.op fork.one) (after o.op fork.other) refl refl
+-- an operation of all allowed routes, from which two go on differently
+pub goes_two_ways : (node : Node) (o : Op) (left right : List ℕ) → IsAllowed node o.train left → IsAllowed node o.train right → ((route : List ℕ) → IsAllowed node o.train route → IsIn o.op route)
+    → after o.op left ≢ after o.op right → GoesTwoWays node o
+goes_two_ways node o left right left_allowed right_allowed reaches differ = by_next (after o.op left) (after o.op right) refl refl
   where
-    reaches : (route : List ℕ) → IsAllowed node o.train route → IsIn o.op route
-    reaches route allowed = let parts = fork.alike route allowed in subst (IsIn o.op) (sym parts.1) (in_middle o.op fork.front parts.0)
-
-    by_next : (a b : Option ℕ) → after o.op fork.one ≡ a → after o.op fork.other ≡ b → GoesTwoWays node o
-    by_next None None one other = absurd (fork.apart (one ∙ sym other))
+    by_next : (a b : Option ℕ) → after o.op left ≡ a → after o.op right ≡ b → GoesTwoWays node o
+    by_next None None one other = absurd (differ (one ∙ sym other))
     by_next (Some s) None one other =
-        let next = route_goes_on (train_at node.problem o.train) o.op s fork.other fork.other_allowed.is_route (reaches fork.other fork.other_allowed) (route_to_successor (train_at node.problem o.train) o.op s fork.one fork.one_allowed.is_route one) in
+        let next = route_goes_on (train_at node.problem o.train) o.op s right right_allowed.is_route (reaches right right_allowed) (route_to_successor (train_at node.problem o.train) o.op s left left_allowed.is_route one) in
         absurd (none-some next.0 (sym other ∙ next.1))
     by_next None (Some s) one other =
-        let next = route_goes_on (train_at node.problem o.train) o.op s fork.one fork.one_allowed.is_route (reaches fork.one fork.one_allowed) (route_to_successor (train_at node.problem o.train) o.op s fork.other fork.other_allowed.is_route other) in
+        let next = route_goes_on (train_at node.problem o.train) o.op s left left_allowed.is_route (reaches left left_allowed) (route_to_successor (train_at node.problem o.train) o.op s right right_allowed.is_route other) in
         absurd (none-some next.0 (sym one ∙ next.1))
     by_next (Some s) (Some u) one other = record {
-      one = fork.one;
-      other = fork.other;
-      one_allowed = fork.one_allowed;
-      other_allowed = fork.other_allowed;
+      one = left;
+      other = right;
+      one_allowed = left_allowed;
+      other_allowed = right_allowed;
       one_next = s;
       other_next = u;
       one_goes = one;
       other_goes = other;
-      apart = λ same. fork.apart (one ∙ ap (λ (n : ℕ). Some n) same ∙ sym other);
+      apart = λ same. differ (one ∙ ap (λ (n : ℕ). Some n) same ∙ sym other);
     }
+
+pub fork_goes_two_ways : (node : Node) (o : Op) → IsFork node o → GoesTwoWays node o
+fork_goes_two_ways node o fork =
+    goes_two_ways node o fork.one fork.other fork.one_allowed fork.other_allowed
+    (λ route allowed. let parts = fork.alike route allowed in subst (IsIn o.op) (sym parts.1) (in_middle o.op fork.front parts.0)) fork.apart
 
 fork_is_choice : (node : Node) (o : Op) → IsFork node o → IsChoice node.problem (Route o)
 fork_is_choice node o fork =
@@ -141,19 +145,23 @@ no_shared a b l k own other same none = filter_keeps (λ l. list_any (λ k. k.re
     at : (b : List Listing) (k : Listing) → Contains b k → k.resource ≡ l.resource → Any (λ k. nat_eq k.resource l.resource ≡ true) b
     at b k (i, lt, e) same = (i, k, lt, e, eq-eqb k.resource l.resource same)
 
-pub clash_conflicts : (node : Node) (plan : List Event) (a b : Op) → IsOpenClash node plan a b → Conflicts node.problem a b
-clash_conflicts node plan a b free = record {
-  trains = λ same. omega (arith, free.trains, same);
-  shared = λ none. free.clash.not_apart (λ o p at there k d lt any. absurd (
-      elim free.clash.names [
-        | inl straight ↦ no_shared (listings_of node.problem a) (listings_of node.problem b) (get_or o.listings k d) any.1
-            (subst (λ (ls : List Listing). Contains ls (get_or o.listings k d)) (sym (names_op node.problem a free.clash.earlier o straight.0 at)) (Contains-get_or o.listings k d lt))
-            (subst (λ (ls : List Listing). Contains ls any.1) (sym (names_op node.problem b free.clash.later p straight.1 there)) (any.0, any.2, any.3)) any.4 none
-        | inr crossed ↦ no_shared (listings_of node.problem a) (listings_of node.problem b) any.1 (get_or o.listings k d)
-            (subst (λ (ls : List Listing). Contains ls any.1) (sym (names_op node.problem a free.clash.later p crossed.1 there)) (any.0, any.2, any.3))
-            (subst (λ (ls : List Listing). Contains ls (get_or o.listings k d)) (sym (names_op node.problem b free.clash.earlier o crossed.0 at)) (Contains-get_or o.listings k d lt)) (sym any.4) none
+-- operations of different trains that clash share a resource
+pub clash_shares : (problem : Problem) (plan : List Event) (a b : Op) → a.train ≢ b.train → Clash problem plan a b → Conflicts problem a b
+clash_shares problem plan a b trains clash = record {
+  trains = trains;
+  shared = λ none. clash.not_apart (λ o p at there k d lt any. absurd (
+      elim clash.names [
+        | inl straight ↦ no_shared (listings_of problem a) (listings_of problem b) (get_or o.listings k d) any.1
+            (subst (λ (ls : List Listing). Contains ls (get_or o.listings k d)) (sym (names_op problem a clash.earlier o straight.0 at)) (Contains-get_or o.listings k d lt))
+            (subst (λ (ls : List Listing). Contains ls any.1) (sym (names_op problem b clash.later p straight.1 there)) (any.0, any.2, any.3)) any.4 none
+        | inr crossed ↦ no_shared (listings_of problem a) (listings_of problem b) any.1 (get_or o.listings k d)
+            (subst (λ (ls : List Listing). Contains ls any.1) (sym (names_op problem a clash.later p crossed.1 there)) (any.0, any.2, any.3))
+            (subst (λ (ls : List Listing). Contains ls (get_or o.listings k d)) (sym (names_op problem b clash.earlier o crossed.0 at)) (Contains-get_or o.listings k d lt)) (sym any.4) none
       ]));
 }
+
+pub clash_conflicts : (node : Node) (plan : List Event) (a b : Op) → IsOpenClash node plan a b → Conflicts node.problem a b
+clash_conflicts node plan a b free = clash_shares node.problem plan a b (λ same. omega (arith, free.trains, same)) free.clash
 
 -- a picked choice may be made
 pub fixed_is_choice : (node : Node) (choice : Choice) → IsFixedPick node (Some choice) → IsChoice node.problem choice
@@ -163,7 +171,7 @@ fixed_is_choice node (Run o) picked = absurd picked
 
 -- ---- none is decided
 
-map_contains : (o : Op) (xs : List ℕ) (child : Decision) → Contains (map (λ s. Go o s) xs) child → (s : ℕ) × (Go o s ≡ child)
+pub map_contains : (o : Op) (xs : List ℕ) (child : Decision) → Contains (map (λ s. Go o s) xs) child → (s : ℕ) × (Go o s ≡ child)
 map_contains o [] child (k, lt, e) = absurd (omega arith)
 map_contains o (x ∷ xs) child (zero, lt, e) = (x, e)
 map_contains o (x ∷ xs) child (suc k, lt, e) = map_contains o xs child (k, omega arith, e)
@@ -183,17 +191,17 @@ pub one_longest : (node : Node) (o : Op) (s t : ℕ) → IsLongest node o s → 
 one_longest node o s t one other =
     omega (arith, one.none_longer other.reached.0 t other.reached.1 other.reached.2 other.reached.3, other.none_longer one.reached.0 s one.reached.1 one.reached.2 one.reached.3)
 
-contains_at : (plan : List Event) (e : Event) → Contains plan e → (i : ℕ) × (slice_get plan i ≡ Some e)
+pub contains_at : (plan : List Event) (e : Event) → Contains plan e → (i : ℕ) × (slice_get plan i ≡ Some e)
 contains_at [] e (k, lt, same) = absurd (omega arith)
 contains_at (f ∷ plan) e (zero, lt, same) = (0, ap (λ (g : Event). Some g) same)
 contains_at (f ∷ plan) e (suc k, lt, same) = let later = contains_at plan e (k, omega arith, same) in (suc later.0, later.1)
 
-at_contains : (plan : List Event) (i : ℕ) (e : Event) → slice_get plan i ≡ Some e → Contains plan e
+pub at_contains : (plan : List Event) (i : ℕ) (e : Event) → slice_get plan i ≡ Some e → Contains plan e
 at_contains [] i e at = absurd (none-some e at)
 at_contains (f ∷ plan) zero e at = (0, omega arith, same_Some f e at)
 at_contains (f ∷ plan) (suc i) e at = let later = at_contains plan i e at in (suc later.0, omega (arith, later.1), later.2)
 
-same_op : (o : Op) (e : Event) → Starts o e → op_of e ≡ o
+pub same_op : (o : Op) (e : Event) → Starts o e → op_of e ≡ o
 same_op o e starts = rw (starts.train, starts.operation) refl
 
 adds_cost : (node : Node) (plan : List Event) (c : Component) (cost : ℕ) → IsEarliest node plan → IsValid node.problem node.fixings plan → AddsForced node c cost → cost_in plan c ≡ cost

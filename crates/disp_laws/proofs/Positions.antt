@@ -57,7 +57,7 @@ pub record IsAround (t : ℕ) (plan : List Event) (e f : Event) : Type 0 where
 own_run : (t : ℕ) (e : Event) (rest : List Event) → e.train ≡ t → run_of t (e ∷ rest) ≡ e ∷ run_of t rest
 own_run t e rest same = rw (same, eq-eqb t t refl) refl
 
-run_split : (t : ℕ) (plan : List Event) (i : ℕ) (e : Event) → slice_get plan i ≡ Some e → e.train ≡ t → run_of t plan ≡ run_of t (take i plan) ++ e ∷ run_of t (drop (i + 1) plan)
+pub run_split : (t : ℕ) (plan : List Event) (i : ℕ) (e : Event) → slice_get plan i ≡ Some e → e.train ≡ t → run_of t plan ≡ run_of t (take i plan) ++ e ∷ run_of t (drop (i + 1) plan)
 run_split t plan i e at same =
     ap (run_of t) (split_at plan i e at) ∙ filter-append (λ g. nat_eq g.train t) (take i plan) (e ∷ drop (i + 1) plan)
     ∙ ap (λ (l : List Event). run_of t (take i plan) ++ l) (own_run t e (drop (i + 1) plan) same)

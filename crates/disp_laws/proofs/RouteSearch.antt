@@ -47,7 +47,7 @@ both (inl p) (inl q) = inl (p, q)
 both (inl p) (inr n) = inr (λ h. n h.1)
 both (inr n) q = inr (λ h. n h.0)
 
-implied : {P Q : Type 0} → Decided P → Decided Q → Decided (P → Q)
+pub implied : {P Q : Type 0} → Decided P → Decided Q → Decided (P → Q)
 implied (inl p) (inl q) = inl (λ h. q)
 implied (inl p) (inr n) = inr (λ h. n (h p))
 implied (inr n) q = inl (λ p. absurd (n p))

@@ -38,7 +38,7 @@ start_behind : (o : Op) (e : Event) (plan : List Event) (b : Bool) → ((nat_eq 
 start_behind o e plan true is later = (e.time, refl)
 start_behind o e plan false is later = later
 
-has_start : (o : Op) (plan : List Event) (i : ℕ) (e : Event) → IsStartedAt plan o i e → (time : ℕ) × (start_of plan o.train o.op ≡ Some time)
+pub has_start : (o : Op) (plan : List Event) (i : ℕ) (e : Event) → IsStartedAt plan o i e → (time : ℕ) × (start_of plan o.train o.op ≡ Some time)
 has_start o [] i e started = absurd (none-some e started.0)
 has_start o (f ∷ plan) zero e started = (f.time, start_here o f plan (subst (Starts o) (sym (same_Some f e started.0)) started.1))
 has_start o (f ∷ plan) (suc i) e started = start_behind o f plan ((nat_eq f.train o.train) && (nat_eq f.operation o.op)) refl (has_start o plan i e (started.0, started.1))
