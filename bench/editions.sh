@@ -1,23 +1,28 @@
 #!/usr/bin/env bash
-# Seconds in which the fixings of trains of two operations are accepted, one of each operation, in one run:
+# Seconds in which changes of trains of two operations are accepted, two of each train: that both of its operations
+# start; and, in a run of their own, that one starts, and that this is taken back:
 #     bench/editions.sh [TRAINS]        32 768, where it is left out
 # The program is proved, and built as the shipped one is, in a scratch folder that goes away. The proofs take some
 # two minutes, and less where crates/fixing_editions has been checked.
 set -eu
 trains=${1:-32768}
 . "$(dirname "$0")/scratch.sh"
-open_scratch editions_bench 'disp_model:
-fixing_editions: disp_model
-editions_bench: disp_model fixing_editions' disp_model fixing_editions
+open_scratch editions_bench 'plain_values:
+disp_model: plain_values
+disp_laws: disp_model
+fixing_editions: disp_model disp_laws
+editions_bench: disp_model fixing_editions' plain_values disp_model disp_laws fixing_editions
 mkdir -p proofs/problem_of
 cat > src/main.rt <<PROGRAM
-//! Times the asking of fixings.
+//! Times the asking of changes.
 #![tactic(auto)]
 
 ghost use Rattle.std.specs.Prelude.{◌≡◌, ◌<◌, ◌∷◌, [], IfOk, All, None, length};
 ghost use Rattle.editions_bench.specs.Pair.{pair};
 
-use disp_model::{Copied, Fixing, List, Memory, Operation, Problem, Refusal, Reply, Train};
+use disp_model::{
+    Change, Copied, Fixing, List, Memory, Operation, Problem, Refusal, Reply, Train,
+};
 use fixing_editions::Editions;
 use std::alloc::Global;
 use std::io;
@@ -57,32 +62,56 @@ fn problem_of(alloc: Global, count: u32) -> Result<Problem, Memory>
     })
 }
 
-// How many of the fixings are accepted with the numbers 1, 2, .., and how many are refused as too many.
-fn ask_all(editions: &mut Editions, count: u32) -> Result<(u32, u32), Memory>
-    requires fits { count < 65536 }
-{
-    let mut accepted = 0u32;
-    let mut full = 0u32;
-    for at_train in 0..u64::from(count) {
-        for at_op in 0..2 {
-            let fixing = Fixing::Started {
-                at_train,
-                at_op,
-                time: 0,
-            };
-            let reply = editions.ask(fixing)?;
-            if reply == Reply::Accepted(accepted.saturating_add(1)) {
-                accepted = accepted.saturating_add(1);
-            }
-            if reply == Reply::Refused(Refusal::Full(65535)) {
-                full = full.saturating_add(1);
-            }
-        }
-    }
-    Ok((accepted, full))
+// How many changes are accepted with the numbers 1, 2, .., and how many are refused as too many.
+#[derive(Clone, Copy)]
+struct Counts {
+    accepted: u32,
+    full: u32,
 }
 
-fn measure(rt: &(impl Clock + Print + AllocGlobal), count: u32) -> io::Result<()>
+// The counts with one more reply.
+fn counted(counts: Counts, reply: Reply) -> Counts {
+    let next = counts.accepted.saturating_add(1);
+    if reply == Reply::Accepted(next) {
+        return Counts { accepted: next, full: counts.full };
+    }
+    if reply == Reply::Refused(Refusal::Full(65535)) {
+        return Counts { accepted: counts.accepted, full: counts.full.saturating_add(1) };
+    }
+    counts
+}
+
+// The start of an operation.
+fn started(at_train: u64, at_op: u64) -> Change {
+    Change::Fix(Fixing::Started {
+        at_train,
+        at_op,
+        time: 0,
+    })
+}
+
+// Starts both operations of each train.
+fn start_all(editions: &mut Editions, count: u32) -> Result<Counts, Memory> {
+    let mut counts = Counts { accepted: 0, full: 0 };
+    for at_train in 0..u64::from(count) {
+        counts = counted(counts, editions.ask(started(at_train, 0))?);
+        counts = counted(counts, editions.ask(started(at_train, 1))?);
+    }
+    Ok(counts)
+}
+
+// Starts an operation of each train, and takes it back.
+fn take_back_all(editions: &mut Editions, count: u32) -> Result<Counts, Memory> {
+    let mut counts = Counts { accepted: 0, full: 0 };
+    for at_train in 0..u64::from(count) {
+        counts = counted(counts, editions.ask(started(at_train, 0))?);
+        let number = u64::from(counts.accepted);
+        counts = counted(counts, editions.ask(Change::Withdraw { number })?);
+    }
+    Ok(counts)
+}
+
+fn measure(rt: &(impl Clock + Print + AllocGlobal), count: u32, back: bool) -> io::Result<()>
     requires fits { count < 65536 }
 {
     let Ok(problem) = problem_of(rt.alloc(), count) else {
@@ -92,15 +121,23 @@ fn measure(rt: &(impl Clock + Print + AllocGlobal), count: u32) -> io::Result<()
     let Ok(mut editions) = Editions::new(rt.alloc(), &problem) else {
         return println!(rt; "no memory is left");
     };
-    let Ok((accepted, full)) = ask_all(&mut editions, count) else {
+    let answer = if back {
+        take_back_all(&mut editions, count)
+    } else {
+        start_all(&mut editions, count)
+    };
+    let Ok(counts) = answer else {
         return println!(rt; "no memory is left");
     };
+    let stand = editions.fixings().len();
     let seconds = start.elapsed(rt)?.as_secs_f64();
-    println!(rt; "{count} trains, {accepted} accepted, {full} too many: {seconds:.3} s")
+    let Counts { accepted, full } = counts;
+    println!(rt; "{count} trains, {accepted} accepted, {full} too many, {stand} stand: {seconds:.3} s")
 }
 
 fn main(rt: HostRuntime) -> io::Result<()> {
-    measure(&rt, $trains)
+    measure(&rt, $trains, false)?;
+    measure(&rt, $trains, true)
 }
 PROGRAM
 add_copies

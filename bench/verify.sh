@@ -6,9 +6,11 @@
 # crates/solution_verifier has been checked.
 set -eu
 . "$(dirname "$0")/scratch.sh"
-open_scratch verify_bench 'disp_model:
-solution_verifier: disp_model serde_json thiserror
-verify_bench: disp_model solution_verifier' disp_model solution_verifier
+open_scratch verify_bench 'plain_values:
+disp_model: plain_values
+disp_laws: disp_model
+solution_verifier: plain_values disp_model disp_laws serde_json thiserror
+verify_bench: disp_model solution_verifier' plain_values disp_model disp_laws solution_verifier
 mkdir -p proofs/{corridor,name_all,problem_of}
 cat > src/main.rt <<'PROGRAM'
 //! Times the judging of valid solutions.

@@ -8,6 +8,8 @@ use Rattle.disp_model.specs.declared.tree.TreeNode.{TreeNode}
 use Rattle.disp_model.specs.declared.entry.Standing.{Standing}
 use Rattle.disp_model.specs.declared.entry.Mark.TheVariants as mark
 use Rattle.disp_model.specs.declared.problem.Problem.{Problem}
+use Rattle.disp_model.specs.declared.settings.Settings.{Settings}
+use Rattle.disp_model.specs.declared.settings.Rule.TheVariants.{Fixed}
 use Rattle.disp_model.specs.History.{IsStanding, last_plan, edition_of}
 use Rattle.disp_model.specs.Legal.{IsLegal, IsLegalEntry, IsLegalPlan, HasBranchesOf}
 use Rattle.disp_model.specs.Replay.{grown_by}
@@ -29,7 +31,7 @@ published_legal problem plan cost tree best = record {
   better = (None, refl, tt);
 }
 
-settled_legal : (problem : Problem) (plan : List Event) (cost : ℕ) (tree : List TreeNode) → IsBest problem plan cost tree → (d : ℕ) → IsLegalEntry problem d (take 1 (journal_of (Optimal plan cost tree))) (Settled 0 (verdict.Optimal cost) tree)
+settled_legal : (problem : Problem) (plan : List Event) (cost : ℕ) (tree : List TreeNode) → IsBest problem plan cost tree → (d : Settings) → IsLegalEntry problem d (take 1 (journal_of (Optimal plan cost tree))) (Settled 0 (verdict.Optimal cost) tree)
 settled_legal problem plan cost tree best d = record {
   working = record { newest_is = refl; working = refl };
   accepted = best.accepted;
@@ -41,7 +43,7 @@ settled_legal problem plan cost tree best d = record {
   verdict_is = refl;
 }
 
-closed_legal : (problem : Problem) (tree : List TreeNode) → IsNone problem tree → (d : ℕ) → IsLegalEntry problem d [] (Settled 0 verdict.Infeasible tree)
+closed_legal : (problem : Problem) (tree : List TreeNode) → IsNone problem tree → (d : Settings) → IsLegalEntry problem d [] (Settled 0 verdict.Infeasible tree)
 closed_legal problem tree none d = record {
   working = record { newest_is = refl; working = refl };
   accepted = none.accepted;
@@ -53,21 +55,21 @@ closed_legal problem tree none d = record {
   verdict_is = refl;
 }
 
-pub solved_legal : (problem : Problem) (budget : ℕ) (solved : Solved) → Solves problem solved → IsLegal problem budget (journal_of solved)
-solved_legal problem budget (Optimal plan cost tree) best zero entry e = rw (← injective e) (published_legal problem plan cost tree best)
+pub solved_legal : (problem : Problem) (settings : Settings) (solved : Solved) → Solves problem solved → IsLegal problem settings (journal_of solved)
+solved_legal problem settings (Optimal plan cost tree) best zero entry e = rw (← injective e) (published_legal problem plan cost tree best)
   where
     injective : {x y : Entry} → Some x ≡ Some y → x ≡ y
     injective e = cc
-solved_legal problem budget (Optimal plan cost tree) best (suc zero) entry e = rw (← injective e) (settled_legal problem plan cost tree best budget)
+solved_legal problem settings (Optimal plan cost tree) best (suc zero) entry e = rw (← injective e) (settled_legal problem plan cost tree best settings)
   where
     injective : {x y : Entry} → Some x ≡ Some y → x ≡ y
     injective e = cc
-solved_legal problem budget (Optimal plan cost tree) best (suc (suc i)) entry e = cc
-solved_legal problem budget (Infeasible tree) none zero entry e = rw (← injective e) (closed_legal problem tree none budget)
+solved_legal problem settings (Optimal plan cost tree) best (suc (suc i)) entry e = cc
+solved_legal problem settings (Infeasible tree) none zero entry e = rw (← injective e) (closed_legal problem tree none settings)
   where
     injective : {x y : Entry} → Some x ≡ Some y → x ≡ y
     injective e = cc
-solved_legal problem budget (Infeasible tree) none (suc i) entry e = cc
+solved_legal problem settings (Infeasible tree) none (suc i) entry e = cc
 
 -- where the search stands after it
 abbrev standing_of : Solved → Standing
@@ -105,7 +107,7 @@ answers problem budget name solved single solves = record {
   solved = solved;
   solves = solves;
   journal = refl;
-  legal = solved_legal problem budget solved solves;
+  legal = solved_legal problem (record { budget = budget; rule = Fixed }) solved solves;
   standing = standing_of solved;
   standing_is = stands problem solved solves;
   promise = promised problem solved solves;

@@ -88,7 +88,7 @@ long_before holds mid name same h = subst (λ (found : Option (Option (List ℕ)
 -- fixings that were taken behind another reading
 pub fixings_before : (holds mid : Holdings) (problem : Problem) (name : Option (List ℕ)) (fixings : List Fixing) → ((other : List ℕ) → mid other ≡ holds other) → AreFixings mid problem name fixings → AreFixings holds problem name fixings
 fixings_before holds mid problem None fixings same h = h
-fixings_before holds mid problem (Some name) fixings same h = record { told = h.told; lines = lines_before holds mid name h.told (same name) h.lines; taken = h.taken; edition = h.edition }
+fixings_before holds mid problem (Some name) fixings same h = record { told = h.told; lines = lines_before holds mid name h.told (same name) h.lines; changes = h.changes; taken = h.taken; edition = h.edition; standing = h.standing }
 
 has_fixings_before : (holds mid : Holdings) (problem : Problem) (name : Option (List ℕ)) → ((other : List ℕ) → mid other ≡ holds other) → HasFixings mid problem name → HasFixings holds problem name
 has_fixings_before holds mid problem name same h = (h.0, fixings_before holds mid problem name h.0 same h.1)

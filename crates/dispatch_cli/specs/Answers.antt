@@ -6,6 +6,7 @@ use Rattle.disp_model.specs.declared.entry.Mark.{Mark}
 use Rattle.disp_model.specs.declared.entry.Mark.TheVariants as mark
 use Rattle.disp_model.specs.declared.entry.Standing.{Standing}
 use Rattle.disp_model.specs.declared.problem.Problem.{Problem}
+use Rattle.disp_model.specs.declared.settings.Rule.TheVariants.{Fixed}
 use Rattle.disp_model.specs.History.{edition_of, last_plan, IsStanding}
 use Rattle.disp_model.specs.Legal.{IsLegal}
 use Rattle.solution_verifier.specs.declared.fault.Fault.{Fault}
@@ -35,14 +36,14 @@ abbrev pub put_of : Option (List ℕ) → Option (List Event × ℕ) → Option 
 put_of None plan = None
 put_of (Some name) plan = option_map (λ p. record { name = name; bytes = plan_line p }) plan
 
--- the problem has no choices, and is solved: the journal is a legal history, its mark promises what it says, and the
+-- the problem has no choices, and is solved: the journal is a legal history by the fixed rule, its mark promises what it says, and the
 -- lines are those for where the search stands
 pub record IsSolved (problem : Problem) (budget : ℕ) (plan : Option (List ℕ)) (answer : Answer) : Type 0 where
   pub single : HasChoices problem → ⊥
   pub solved : Solved
   pub solves : Solves problem solved
   pub journal : answer.journal ≡ journal_of solved
-  pub legal : IsLegal problem budget answer.journal
+  pub legal : IsLegal problem (record { budget = budget; rule = Fixed }) answer.journal
   pub standing : Standing
   pub standing_is : IsStanding problem answer.journal standing
   pub promise : Promises problem (edition_of answer.journal) standing.mark

@@ -2,6 +2,8 @@
 use Rattle.std.specs.Prelude.{◌≡◌, ℕ, ◌≤◌, List, [], length, Option, Some, None, IfSome}
 use Rattle.disp_outside.specs.Lines.{HasLinesOf}
 use Rattle.disp_model.specs.declared.fixing.Fixing.{Fixing}
+use Rattle.disp_model.specs.declared.fixing.Change.{Change}
+use Rattle.disp_model.specs.Changes.{standing_of}
 use Rattle.disp_model.specs.Replies.{IsEdition}
 use Rattle.disp_model.specs.declared.plan.Event.{Event}
 use Rattle.disp_model.specs.declared.problem.Problem.{Problem}
@@ -25,17 +27,19 @@ pub record IsSolutionFile (holds : Holdings) (name : List ℕ) (plan : List Even
   pub read : reading.IsReadAs bytes plan stated
 
 -- the lines are not too many, and all are taken
-abbrev pub TakesLines : Problem → List (List ℕ) → List Fixing → Type 0
-TakesLines problem lines fixings = (length lines ≤ MOST_LINES) × TakesAll problem [] lines fixings
+abbrev pub TakesLines : Problem → List (List ℕ) → List Change → Type 0
+TakesLines problem lines changes = (length lines ≤ MOST_LINES) × TakesAll problem [] lines changes
 
--- the lines of a name's file, where they are told, are all taken, and these fixings are an edition's
+-- the lines of a name's file, where they are told, are all taken, their changes are an edition's, and these fixings stand
 pub record IsFixingsFile (holds : Holdings) (problem : Problem) (name : List ℕ) (fixings : List Fixing) : Type 0 where
   pub told : Option (List (List ℕ))
   pub lines : HasLinesOf (holds name) told
-  pub taken : IfSome told (λ lines. TakesLines problem lines fixings)
-  pub edition : IsEdition problem fixings
+  pub changes : List Change
+  pub taken : IfSome told (λ lines. TakesLines problem lines changes)
+  pub edition : IsEdition problem changes
+  pub standing : fixings ≡ standing_of changes
 
--- the fixings of a file, if there is one; else there are none
+-- the fixings that stand behind the lines of a file, if there is one; else there are none
 abbrev pub AreFixings : Holdings → Problem → Option (List ℕ) → List Fixing → Type 0
 AreFixings holds problem None fixings = fixings ≡ []
 AreFixings holds problem (Some name) fixings = IsFixingsFile holds problem name fixings
@@ -53,8 +57,8 @@ pub record IsRefusedLine (holds : Holdings) (problem : Problem) (name : List ℕ
 -- ---- for private clauses
 
 -- the lines of a name's file, where they are told, are all taken for the problem
-pub record IsFixingsTaken (holds : Holdings) (problem : Problem) (name : List ℕ) (asked : Problem) (fixings : List Fixing) : Type 0 where
+pub record IsFixingsTaken (holds : Holdings) (problem : Problem) (name : List ℕ) (asked : Problem) (changes : List Change) : Type 0 where
   pub same : asked ≡ problem
   pub told : Option (List (List ℕ))
   pub lines : HasLinesOf (holds name) told
-  pub taken : IfSome told (λ lines. TakesLines problem lines fixings)
+  pub taken : IfSome told (λ lines. TakesLines problem lines changes)

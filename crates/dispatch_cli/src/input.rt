@@ -80,11 +80,12 @@ pub(crate) fn solution_file<S: Shelf>(
     solution_of(alloc, &bytes)
 }
 
-/// The fixings of a feed's lines.
+/// The changes of a feed's lines.
 fn take<F: Feed>(alloc: Global, problem: &Problem, feed: &mut F) -> Result<Editions, Cause>
     requires { F.has_ended feed.old ≡ false }
     ensures problem { IfOk result (λ editions. editions.problem ≡ problem.now) }
-    ensures ok { IfOk result (λ editions. IfSome (F.lines feed.old) (λ lines. TakesLines problem.now lines editions.fixings)) }
+    ensures ok { IfOk result (λ editions.
+        IfSome (F.lines feed.old) (λ lines. TakesLines problem.now lines editions.changes)) }
     ensures no { IfErr result (RefusesLines problem.now (F.lines feed.old)) }
     ensures failed { (result ≡ Err (Failed Input.Fixings)) ↔ (F.faults feed.old < F.faults feed.new) }
     ensures counted { F.faults feed.old ≤ F.faults feed.new }
@@ -117,14 +118,15 @@ fn open<S: Shelf>(alloc: Global, shelf: &mut S, name: &str) -> Result<S::Feed, C
     }
 }
 
-/// The fixings of a file. The feed is closed whatever comes.
+/// The changes of a file of fixings. The feed is closed whatever comes.
 pub(crate) fn fixings_file<S: Shelf>(
     alloc: Global,
     shelf: &mut S,
     problem: &Problem,
     name: &str,
 ) -> Result<Editions, Cause>
-    ensures ok { IfOk result (λ editions. IsFixingsTaken (S.holds shelf.old) problem.now name.now editions.problem editions.fixings) }
+    ensures ok { IfOk result (λ editions.
+        IsFixingsTaken (S.holds shelf.old) problem.now name.now editions.problem editions.changes) }
     ensures no { IfErr result (StopsFixings (S.holds shelf.old) (S.reading_faults shelf.old) (S.reading_faults shelf.new) problem.now name.now) }
     ensures reads { ReadsOne name.now (S.reading_faults shelf.old) (S.reading_faults shelf.new) (S.putting_faults shelf.old) (S.putting_faults shelf.new) (S.holds shelf.old) (S.holds shelf.new) (IsErrAnd result IsReadingFault) }
 {

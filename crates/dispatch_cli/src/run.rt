@@ -73,7 +73,7 @@ fn judge_with<S: Shelf>(
     ensures reads { Reads (IsOfTwo (Some name.now) solution.now) (S.reading_faults shelf.old) (S.reading_faults shelf.new) (S.putting_faults shelf.old) (S.putting_faults shelf.new) (S.holds shelf.old) (S.holds shelf.new) (IsErrAnd result IsReadingFault) }
 {
     match fixings_file(alloc, shelf, problem, name.as_str()) {
-        Ok(editions) => judge_file(alloc, shelf, problem, editions.fixings(), solution),
+        Ok(mut editions) => judge_file(alloc, shelf, problem, editions.fixings(), solution),
         Err(cause) => Err(cause),
     }
 }

@@ -9,8 +9,8 @@ use Rattle.disp_model.specs.declared.fixing.Fixing.{Fixing}
 use Rattle.disp_model.specs.Train.{IsSuccessor, IsEntry, GoesOn, IsRoute}
 use Rattle.disp_model.specs.WellFormed.{IsAcyclic}
 use Rattle.disp_model.specs.Fixing.{after}
-use Rattle.disp_model.proofs.Paths.{IsIn, is_in, contains_in, never_again}
-use Rattle.disp_model.proofs.RouteSearch.{each_within}
+use Rattle.disp_laws.proofs.Paths.{IsIn, is_in, contains_in, never_again}
+use Rattle.disp_laws.proofs.RouteSearch.{each_within}
 use Rattle.fixing_editions.specs.declared.wishes.Wish.{Wish}
 use Rattle.fixing_editions.specs.declared.wishes.Wish.TheVariants.{Free, Visited, Followed}
 use Rattle.fixing_editions.specs.declared.train_fixings.Numbered.{Numbered}

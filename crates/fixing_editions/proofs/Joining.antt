@@ -6,13 +6,13 @@ use Rattle.std.proofs.lemmas.Option.{none-some}
 use Rattle.std.proofs.lemmas.List.{length-set, length-replicate, get_or-set_same, get_or-set_other, take_more}
 use Rattle.std.proofs.lemmas.List.Elements.{All-nil, All-push, All-pop, All-take}
 use Rattle.disp_model.specs.declared.fixing.Fixing.{Fixing}
-use Rattle.disp_model.specs.declared.fixing.Fixing.TheVariants.{Started, Chosen}
+use Rattle.disp_model.specs.declared.fixing.Fixing.TheVariants.{Started, Chosen, NotBefore}
 use Rattle.disp_model.specs.Fixing.{after}
-use Rattle.disp_model.proofs.Paths.{IsIn, contains_in}
+use Rattle.disp_laws.proofs.Paths.{IsIn, contains_in}
 use Rattle.fixing_editions.specs.declared.train_fixings.Numbered.{Numbered}
 use Rattle.fixing_editions.specs.declared.wishes.Wish.{Wish}
 use Rattle.fixing_editions.specs.declared.wishes.Wish.TheVariants.{Free, Visited, Followed}
-use Rattle.fixing_editions.specs.Wishes.{op_of, Agrees, Meets, wish_at, AreMet, Joins, Adds, AreWishes, Clashes, HaveNoRoute}
+use Rattle.fixing_editions.specs.Wishes.{op_of, AsksNothing, Agrees, Meets, wish_at, AreMet, Joins, Adds, AreWishes, Clashes, HaveNoRoute}
 
 -- what is followed is there
 after_in : (o n : ℕ) (route : List ℕ) → after o route ≡ Some n → IsIn o route
@@ -26,9 +26,19 @@ after_in o n (p ∷ q ∷ rest) e = elim (cases_Bool (nat_eq p o)) [
 pub after_contains : (o n : ℕ) (route : List ℕ) → after o route ≡ Some n → Contains route o
 after_contains o n route e = contains_in o route (after_in o n route e)
 
-agrees_contains : (route : List ℕ) (fixing : Fixing) → Agrees route fixing → Contains route (op_of fixing)
-agrees_contains route (Started t o time) agrees = agrees
-agrees_contains route (Chosen t o next) agrees = after_contains o next route agrees
+agrees_contains : (route : List ℕ) (fixing : Fixing) → (AsksNothing fixing → ⊥) → Agrees route fixing → Contains route (op_of fixing)
+agrees_contains route (Started t o time) asks agrees = agrees
+agrees_contains route (Chosen t o next) asks agrees = after_contains o next route agrees
+agrees_contains route (NotBefore t o time) asks agrees = absurd (asks tt)
+
+-- nothing is added where nothing is asked
+pub adds_nothing : (old : List Wish) (fixing : Fixing) → AsksNothing fixing → Adds old fixing old
+adds_nothing old (Started t o time) asks = absurd asks
+adds_nothing old (Chosen t o next) asks = absurd asks
+adds_nothing old (NotBefore t o time) asks = record { long = refl; both = λ route. (λ h. h.0, λ met. (met, tt)) }
+
+pub earliest_kept : (fixing : Fixing) (wish : Wish) (t o time : ℕ) → fixing ≡ NotBefore t o time → Joins wish fixing wish
+earliest_kept fixing wish t o time f = rw f (λ route. (λ h. h.0, λ h. (h, tt)))
 
 pub adds : (old : List Wish) (fixing : Fixing) (both : Wish) → op_of fixing < length old → Joins (wish_at old (op_of fixing)) fixing both → Adds old fixing (set old (op_of fixing) both)
 adds old fixing both lt joins = record {
@@ -52,8 +62,8 @@ adds old fixing both lt joins = record {
       | inr other ↦ subst (Meets route p) (get_or-set_other old (op_of fixing) p both Free (λ e. eqb-false p (op_of fixing) other e)) (met p)
     ]
 
-pub clashes_past : (old : List Wish) (fixing : Fixing) → length old ≤ op_of fixing → Clashes old fixing
-clashes_past old fixing past route within met agrees = omega (arith, past, within (op_of fixing) (agrees_contains route fixing agrees))
+pub clashes_past : (old : List Wish) (fixing : Fixing) → (AsksNothing fixing → ⊥) → length old ≤ op_of fixing → Clashes old fixing
+clashes_past old fixing asks past route within met agrees = omega (arith, past, within (op_of fixing) (agrees_contains route fixing asks agrees))
 
 pub clashes_at : (old : List Wish) (fixing : Fixing) → ((route : List ℕ) → Meets route (op_of fixing) (wish_at old (op_of fixing)) → Agrees route fixing → ⊥) → Clashes old fixing
 clashes_at old fixing none route within met agrees = none route (met (op_of fixing)) agrees

@@ -1,9 +1,11 @@
 mod Accepting
 mod Entered
 mod Joining
+mod Keeping
 mod Owning
 mod Places
 mod Searching
 mod SmallProblems
+mod Standing
 mod Stepping
 mod Sweeping

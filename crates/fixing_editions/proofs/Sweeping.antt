@@ -39,12 +39,12 @@ taken_more [] i (suc j) x le there = absurd (contains_none x there)
 taken_more (y ∷ xs) zero (suc j) x le there = absurd (omega arith)
 taken_more (y ∷ xs) (suc i) (suc j) x le there = elim (contains_cases y x (take j xs) there) [ inl e ↦ (0, omega arith, e) | inr later ↦ contains_later y x (take i xs) (taken_more xs i j x (omega arith) later) ]
 
-set_at : {X : Type 0} (xs : List X) (i : ℕ) (x : X) → i < length xs → slice_get (set xs i x) i ≡ Some x
+pub set_at : {X : Type 0} (xs : List X) (i : ℕ) (x : X) → i < length xs → slice_get (set xs i x) i ≡ Some x
 set_at [] i x lt = absurd (omega arith)
 set_at (y ∷ xs) zero x lt = refl
 set_at (y ∷ xs) (suc i) x lt = set_at xs i x (omega arith)
 
-set_elsewhere : {X : Type 0} (xs : List X) (i j : ℕ) (x : X) → (j ≡ i → ⊥) → slice_get (set xs i x) j ≡ slice_get xs j
+pub set_elsewhere : {X : Type 0} (xs : List X) (i j : ℕ) (x : X) → (j ≡ i → ⊥) → slice_get (set xs i x) j ≡ slice_get xs j
 set_elsewhere [] i j x other = refl
 set_elsewhere (y ∷ xs) zero zero x other = absurd (other refl)
 set_elsewhere (y ∷ xs) zero (suc j) x other = refl

@@ -4,3 +4,4 @@ pub mod Sweeps
 pub mod Own
 pub mod Edition
 pub mod Answers
+pub mod Settled

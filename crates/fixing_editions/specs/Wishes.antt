@@ -2,7 +2,7 @@
 use Rattle.std.specs.Prelude.{◌≡◌, ◌↔◌, ℕ, ◌<◌, List, length, All, Contains, Some, slice_index_or}
 use Rattle.disp_model.specs.declared.train.Operation.{Operation}
 use Rattle.disp_model.specs.declared.fixing.Fixing.{Fixing}
-use Rattle.disp_model.specs.declared.fixing.Fixing.TheVariants.{Started, Chosen}
+use Rattle.disp_model.specs.declared.fixing.Fixing.TheVariants.{Started, Chosen, NotBefore}
 use Rattle.disp_model.specs.Train.{IsRoute}
 use Rattle.disp_model.specs.Fixing.{after}
 use Rattle.fixing_editions.specs.declared.train_fixings.Numbered.{Numbered}
@@ -13,11 +13,19 @@ use Rattle.fixing_editions.specs.declared.wishes.Wish.TheVariants.{Free, Visited
 abbrev pub op_of : Fixing → ℕ
 op_of (Started t o time) = o
 op_of (Chosen t o next) = o
+op_of (NotBefore t o time) = o
 
--- the route has the operation that a fixing of its train names, followed as a chosen one says
+-- the fixing asks nothing of a route
+abbrev pub AsksNothing : Fixing → Type 0
+AsksNothing (Started t o time) = ⊥
+AsksNothing (Chosen t o next) = ⊥
+AsksNothing (NotBefore t o time) = Unit {0}
+
+-- the route has the operation that a started or chosen fixing of its train names, followed as a chosen one says
 abbrev pub Agrees : List ℕ → Fixing → Type 0
 Agrees route (Started t o time) = Contains route o
 Agrees route (Chosen t o next) = after o route ≡ Some next
+Agrees route (NotBefore t o time) = Unit {0}
 
 -- the route is as it is asked of the operation
 abbrev pub Meets : List ℕ → ℕ → Wish → Type 0

@@ -4,7 +4,9 @@ ghost use Rattle.std.specs.Option.{ForSome};
 ghost use Rattle.disp_model.specs.declared.limits.TheConstants.{GREATEST_NUMBER};
 
 use crate::Editions;
-use disp_model::{Fixing, List, Listing, Memory, Operation, Problem, Refusal, Reply, Text, Train};
+use disp_model::{
+    Change, Fixing, List, Listing, Memory, Operation, Problem, Refusal, Reply, Text, Train,
+};
 use std::alloc::Global;
 use std::test::Fail;
 
@@ -80,27 +82,39 @@ fn forked(alloc: Global) -> Result<Problem, Memory> {
     })
 }
 
-fn started(at_train: u64, at_op: u64, time: u64) -> Fixing {
-    Fixing::Started {
+fn started(at_train: u64, at_op: u64, time: u64) -> Change {
+    Change::Fix(Fixing::Started {
         at_train,
         at_op,
         time,
-    }
+    })
 }
 
-fn chosen(at_train: u64, at_op: u64, next: u64) -> Fixing {
-    Fixing::Chosen {
+fn chosen(at_train: u64, at_op: u64, next: u64) -> Change {
+    Change::Fix(Fixing::Chosen {
         at_train,
         at_op,
         next,
-    }
+    })
+}
+
+fn not_before(at_train: u64, at_op: u64, time: u64) -> Change {
+    Change::Fix(Fixing::NotBefore {
+        at_train,
+        at_op,
+        time,
+    })
+}
+
+fn withdraw(number: u64) -> Change {
+    Change::Withdraw { number }
 }
 
 #[test]
 fn fixings_are_accepted_once(rt: HostRuntime) -> Result<(), Fail> {
     let problem = two_trains(rt.alloc())?;
     let mut editions = Editions::new(rt.alloc(), &problem)?;
-    for (fixing, reply) in [
+    for (change, reply) in [
         (started(2, 0, 0), Reply::Refused(Refusal::NoTrain)),
         (started(0, 2, 0), Reply::Refused(Refusal::NoOperation)),
         (chosen(0, 1, 0), Reply::Refused(Refusal::NoSuccessor)),
@@ -113,10 +127,59 @@ fn fixings_are_accepted_once(rt: HostRuntime) -> Result<(), Fail> {
         (started(1, 0, 7), Reply::Accepted(3)),
         (started(0, 0, 0), Reply::Known(2)),
     ] {
-        assert_eq!(rt; editions.ask(fixing)?, reply);
+        assert_eq!(rt; editions.ask(change)?, reply);
     }
-    let kept = [chosen(0, 0, 1), started(0, 0, 0), started(1, 0, 7)];
-    assert_eq!(rt; editions.fixings(), kept.as_slice());
+    let accepted = [chosen(0, 0, 1), started(0, 0, 0), started(1, 0, 7)];
+    assert_eq!(rt; editions.changes(), accepted.as_slice());
+    Ok(())
+}
+
+#[test]
+fn an_operation_starts_no_sooner(rt: HostRuntime) -> Result<(), Fail> {
+    let problem = two_trains(rt.alloc())?;
+    let mut editions = Editions::new(rt.alloc(), &problem)?;
+    for (change, reply) in [
+        (
+            not_before(0, 0, 2147483648),
+            Reply::Refused(Refusal::TooLarge),
+        ),
+        (not_before(1, 0, 20), Reply::Accepted(1)),
+        (not_before(1, 0, 20), Reply::Known(1)),
+        (not_before(1, 0, 7), Reply::Accepted(2)),
+        (started(1, 0, 5), Reply::Refused(Refusal::EarliestIs(20))),
+        (started(1, 0, 20), Reply::Accepted(3)),
+        (not_before(1, 0, 30), Reply::Refused(Refusal::StartedAt(20))),
+    ] {
+        assert_eq!(rt; editions.ask(change)?, reply);
+    }
+    Ok(())
+}
+
+#[test]
+fn fixings_are_taken_back(rt: HostRuntime) -> Result<(), Fail> {
+    let problem = two_trains(rt.alloc())?;
+    let mut editions = Editions::new(rt.alloc(), &problem)?;
+    for (change, reply) in [
+        (withdraw(0), Reply::Refused(Refusal::NoSuchChange)),
+        (withdraw(1), Reply::Refused(Refusal::NoSuchChange)),
+        (started(0, 0, 0), Reply::Accepted(1)),
+        (not_before(1, 0, 20), Reply::Accepted(2)),
+        (not_before(1, 0, 7), Reply::Accepted(3)),
+        (withdraw(2), Reply::Accepted(4)),
+        (withdraw(2), Reply::Refused(Refusal::Withdrawn(4))),
+        (withdraw(4), Reply::Refused(Refusal::NoSuchChange)),
+        (withdraw(5), Reply::Refused(Refusal::NoSuchChange)),
+        (started(1, 0, 5), Reply::Refused(Refusal::EarliestIs(7))),
+        (not_before(1, 0, 20), Reply::Accepted(5)),
+        (not_before(1, 0, 20), Reply::Known(5)),
+    ] {
+        assert_eq!(rt; editions.ask(change)?, reply);
+    }
+    let stands = [started(0, 0, 0), not_before(1, 0, 7), not_before(1, 0, 20)];
+    assert_eq!(rt; editions.fixings().len(), 3);
+    for (fixing, wanted) in editions.fixings().iter().zip(stands.iter()) {
+        assert_eq!(rt; Change::Fix(*fixing), *wanted);
+    }
     Ok(())
 }
 
@@ -124,12 +187,12 @@ fn fixings_are_accepted_once(rt: HostRuntime) -> Result<(), Fail> {
 fn times_lie_in_the_window(rt: HostRuntime) -> Result<(), Fail> {
     let problem = windowed(rt.alloc(), 5, Some(4))?;
     let mut editions = Editions::new(rt.alloc(), &problem)?;
-    for (fixing, why) in [
+    for (change, why) in [
         (started(0, 0, 4), Refusal::BelowLower(5)),
         (started(0, 0, 5), Refusal::AboveUpper(4)),
         (started(0, 0, 4294967296), Refusal::TooLarge),
     ] {
-        assert_eq!(rt; editions.ask(fixing)?, Reply::Refused(why));
+        assert_eq!(rt; editions.ask(change)?, Reply::Refused(why));
     }
     Ok(())
 }
@@ -138,7 +201,7 @@ fn times_lie_in_the_window(rt: HostRuntime) -> Result<(), Fail> {
 fn some_route_is_left(rt: HostRuntime) -> Result<(), Fail> {
     let problem = forked(rt.alloc())?;
     let mut editions = Editions::new(rt.alloc(), &problem)?;
-    for (fixing, reply) in [
+    for (change, reply) in [
         (started(0, 3, 9), Reply::Accepted(1)),
         (chosen(0, 0, 2), Reply::Accepted(2)),
         (chosen(0, 0, 1), Reply::Refused(Refusal::ChosenIs(2))),
@@ -147,7 +210,7 @@ fn some_route_is_left(rt: HostRuntime) -> Result<(), Fail> {
         (started(0, 2, 4), Reply::Accepted(3)),
         (chosen(0, 2, 3), Reply::Accepted(4)),
     ] {
-        assert_eq!(rt; editions.ask(fixing)?, reply);
+        assert_eq!(rt; editions.ask(change)?, reply);
     }
     Ok(())
 }

@@ -1,5 +1,5 @@
 ghost use Rattle.std.specs.Prelude.{◌≡◌, ◌↔◌, ℕ, List, All, IfOk, IfSome, IfNone, IsTrue, IsFalse, length};
-ghost use Rattle.fixing_editions.specs.Wishes.{Agrees, Meets, HaveNoRoute, AreWishes, Clashes, op_of, Joins, Adds};
+ghost use Rattle.fixing_editions.specs.Wishes.{AsksNothing, Agrees, Meets, HaveNoRoute, AreWishes, Clashes, op_of, Joins, Adds};
 
 use crate::train_fixings::Numbered;
 use disp_model::{Fixing, Memory};
@@ -34,7 +34,15 @@ fn joined(wish: Wish, fixing: &Fixing) -> Option<Wish>
         }
         (Fixing::Chosen { next, .. }, Wish::Free) => Some(Wish::Followed(next)),
         (Fixing::Chosen { next, .. }, Wish::Visited) => Some(Wish::Followed(next)),
+        (Fixing::NotBefore { .. }, wish) => Some(wish),
     }
+}
+
+/// Whether a fixing asks nothing of a route.
+fn asks_nothing(fixing: &Fixing) -> bool
+    ensures { IsTrue result ↔ AsksNothing fixing.now }
+{
+    matches!(fixing, Fixing::NotBefore { .. })
 }
 
 /// The operation that a fixing names.
@@ -44,6 +52,7 @@ fn op_of(fixing: &Fixing) -> u64
     match *fixing {
         Fixing::Started { at_op, .. } => at_op,
         Fixing::Chosen { at_op, .. } => at_op,
+        Fixing::NotBefore { at_op, .. } => at_op,
     }
 }
 
@@ -52,6 +61,9 @@ fn add(wishes: &mut Vec<Wish>, fixing: &Fixing) -> bool
     ensures added { IsTrue result → Adds wishes.old.items fixing.now wishes.new.items }
     ensures none { IsFalse result → Clashes wishes.old.items fixing.now }
 {
+    if asks_nothing(fixing) {
+        return true;
+    }
     let at = op_of(fixing) as usize;
     if at >= wishes.len() {
         return false;

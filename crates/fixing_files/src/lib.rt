@@ -1,4 +1,4 @@
-// Reads a file of fixings from a feed of its lines: each line must ask for a fixing that is accepted or
+// Reads a file of fixings from a feed of its lines: each line must ask for a change that is accepted or
 // known. `take_fixings` asks for them one after the other, and names the first line that is another.
 #![tactic(auto)]
 

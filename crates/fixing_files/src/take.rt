@@ -1,24 +1,24 @@
 ghost use Rattle.std.specs.Prelude.{◌≡◌, ◌≤◌, ◌<◌, ◌↔◌, [], false, true, length, Ok, IfErr, IfSome, OnOk, OnErr, IsErrOf, MatchOption};
 ghost use Rattle.disp_model.specs.declared.limits.TheConstants.{MOST_LINES};
-ghost use Rattle.disp_model.specs.declared.fixing.Fixing.{Fixing};
+ghost use Rattle.disp_model.specs.declared.fixing.Change.{Change};
 ghost use Rattle.fixing_lines.specs.Requests.{IsAsked};
-ghost use Rattle.fixing_files.specs.Files.{TakesFixing, RefusesFixing, TakesText, RefusesText, TakesFirst, RefusesNext, RefusesEnd, TakesAll, Refuses, Leaves};
+ghost use Rattle.fixing_files.specs.Files.{TakesChange, RefusesChange, TakesText, RefusesText, TakesFirst, RefusesNext, RefusesEnd, TakesAll, Refuses, Leaves};
 
-use disp_model::{Fixing, MOST_LINES, Memory, Refusal, Reply};
+use disp_model::{Change, MOST_LINES, Memory, Refusal, Reply};
 use disp_outside::{Feed, FeedLine, LineBuf};
 use fixing_editions::Editions;
 use fixing_lines::{Request, read_request};
 
-/// Why a line of fixings ends the reading.
+/// Why a line ends the reading.
 #[derive(Clone, Copy, Debug, PartialEq, Eq)]
 pub enum LineNo {
-    /// The line asks for no fixing.
+    /// The line asks for no change.
     Unreadable,
     /// The line has more than 256 bytes.
     Long,
     /// The line stands behind as many as are read.
     TooMany,
-    /// The fixing is refused.
+    /// The change is refused.
     Refused(Refusal),
 }
 
@@ -44,39 +44,44 @@ impl From<Memory> for FileNo {
     }
 }
 
-/// The fixing that a line asks for.
-fn fixing_of(line: &[u8]) -> Option<Fixing>
-    ensures { MatchOption result ((fixing : Fixing) → IsAsked line.now fixing → ⊥) (IsAsked line.now) }
+/// The change that a line asks for.
+fn change_of(line: &[u8]) -> Option<Change>
+    ensures { MatchOption result ((change : Change) → IsAsked line.now change → ⊥)
+        (IsAsked line.now) }
 {
     match read_request(line) {
-        Request::Ask(fixing) => Some(fixing),
+        Request::Ask(change) => Some(change),
         Request::Show | Request::Unreadable => None,
     }
 }
 
-/// Asks for a fixing.
-fn ask_for(editions: &mut Editions, fixing: Fixing, number: u64) -> Result<(), FileNo>
+/// Asks for a change.
+fn ask_for(editions: &mut Editions, change: Change, number: u64) -> Result<(), FileNo>
     ensures problem { editions.new.problem ≡ editions.old.problem }
-    ensures ok { OnOk result (TakesFixing editions.old.problem editions.old.fixings fixing editions.new.fixings) }
-    ensures same { OnErr result (editions.new.fixings ≡ editions.old.fixings) }
-    ensures no { IfErr result (RefusesFixing editions.old.problem editions.old.fixings fixing number) }
+    ensures ok { OnOk result
+        (TakesChange editions.old.problem editions.old.changes change editions.new.changes) }
+    ensures same { OnErr result (editions.new.changes ≡ editions.old.changes) }
+    ensures no { IfErr result
+        (RefusesChange editions.old.problem editions.old.changes change number) }
 {
-    match editions.ask(fixing)? {
+    match editions.ask(change)? {
         Reply::Accepted(_) => Ok(()),
         Reply::Known(_) => Ok(()),
         Reply::Refused(why) => Err(FileNo::Line(number, LineNo::Refused(why))),
     }
 }
 
-/// Asks for the fixing of a line.
+/// Asks for the change of a line.
 fn take_line(editions: &mut Editions, line: &[u8], number: u64) -> Result<(), FileNo>
     ensures problem { editions.new.problem ≡ editions.old.problem }
-    ensures ok { OnOk result (TakesText editions.old.problem editions.old.fixings line.now editions.new.fixings) }
-    ensures same { OnErr result (editions.new.fixings ≡ editions.old.fixings) }
-    ensures no { IfErr result (RefusesText editions.old.problem editions.old.fixings line.now number) }
+    ensures ok { OnOk result
+        (TakesText editions.old.problem editions.old.changes line.now editions.new.changes) }
+    ensures same { OnErr result (editions.new.changes ≡ editions.old.changes) }
+    ensures no { IfErr result
+        (RefusesText editions.old.problem editions.old.changes line.now number) }
 {
-    match fixing_of(line) {
-        Some(fixing) => ask_for(editions, fixing, number),
+    match change_of(line) {
+        Some(change) => ask_for(editions, change, number),
         None => Err(FileNo::Line(number, LineNo::Unreadable)),
     }
 }
@@ -90,12 +95,18 @@ fn take_next<F: Feed>(
 ) -> Result<bool, FileNo>
     requires { F.has_ended feed.old ≡ false }
     ensures problem { editions.new.problem ≡ editions.old.problem }
-    ensures given { result ≡ Ok false → IfSome (F.lines feed.old) (λ lines. TakesFirst editions.old.problem editions.old.fixings lines (F.lines feed.new) editions.new.fixings) }
+    ensures given { result ≡ Ok false → IfSome (F.lines feed.old) (λ lines.
+        TakesFirst editions.old.problem editions.old.changes lines (F.lines feed.new)
+        editions.new.changes) }
     ensures open { result ≡ Ok false → F.has_ended feed.new ≡ false }
-    ensures end { result ≡ Ok true → IfSome (F.lines feed.old) (λ lines. lines ≡ []) × (editions.new.fixings ≡ editions.old.fixings) }
+    ensures end { result ≡ Ok true
+        → IfSome (F.lines feed.old) (λ lines. lines ≡ [])
+        × (editions.new.changes ≡ editions.old.changes) }
     ensures ended { result ≡ Ok true → F.has_ended feed.new ≡ true }
-    ensures no { IfErr result (RefusesNext editions.old.problem editions.old.fixings (F.lines feed.old) (F.lines feed.new) number) }
-    ensures same { OnErr result (editions.new.fixings ≡ editions.old.fixings) }
+    ensures no { IfErr result
+        (RefusesNext editions.old.problem editions.old.changes (F.lines feed.old) (F.lines feed.new)
+        number) }
+    ensures same { OnErr result (editions.new.changes ≡ editions.old.changes) }
     ensures failed { IsErrOf result FileNo.Failed ↔ (F.faults feed.old < F.faults feed.new) }
     ensures counted { F.faults feed.old ≤ F.faults feed.new }
     ensures name { F.name feed.new ≡ F.name feed.old }
@@ -128,23 +139,25 @@ fn see_end<F: Feed>(feed: &mut F, line: &mut LineBuf) -> Result<(), FileNo>
     }
 }
 
-/// Asks for the fixings of a feed's lines, one after the other.
+/// Asks for the changes of a feed's lines, one after the other.
 ///
 /// # Errors
 ///
-/// `Line` with the number of the first line that asks for no fixing (an empty one and `show` too), has more
-/// than 256 bytes, asks for a fixing that is refused, or is the line 1048577, and why: the fixings then are
+/// `Line` with the number of the first line that asks for no change (an empty one and `show` too), has more
+/// than 256 bytes, asks for a change that is refused, or is the line 1048577, and why: the changes then are
 /// those of the lines before, and no line behind is read. `Failed` exactly where the feed failed; then, and
-/// where memory ran out, the fixings are those of the first so many lines.
+/// where memory ran out, the changes are those of the first so many lines.
 pub fn take_fixings<F: Feed>(feed: &mut F, editions: &mut Editions) -> Result<(), FileNo>
-    requires new { editions.old.fixings ≡ [] }
+    requires new { editions.old.changes ≡ [] }
     requires open { F.has_ended feed.old ≡ false }
     ensures problem { editions.new.problem ≡ editions.old.problem }
-    ensures ok { OnOk result (IfSome (F.lines feed.old) (λ lines. TakesAll editions.old.problem [] lines editions.new.fixings)) }
+    ensures ok { OnOk result (IfSome (F.lines feed.old) (λ lines.
+        TakesAll editions.old.problem [] lines editions.new.changes)) }
     ensures few { OnOk result (IfSome (F.lines feed.old) (λ lines. length lines ≤ MOST_LINES)) }
     ensures ended { OnOk result (F.has_ended feed.new ≡ true) }
     ensures no { IfErr result (Refuses editions.old.problem (F.lines feed.old)) }
-    ensures left { IfErr result (λ no. IfSome (F.lines feed.old) (λ lines. Leaves editions.old.problem lines (F.lines feed.new) editions.new.fixings no)) }
+    ensures left { IfErr result (λ no. IfSome (F.lines feed.old) (λ lines.
+        Leaves editions.old.problem lines (F.lines feed.new) editions.new.changes no)) }
 
     // A fault is told exactly where it is counted.
     ensures failed { IsErrOf result FileNo.Failed ↔ (F.faults feed.old < F.faults feed.new) }

@@ -8,18 +8,18 @@ use Rattle.disp_model.specs.declared.entry.Mark.TheVariants as mark
 use Rattle.disp_model.specs.declared.entry.Standing.{Standing}
 use Rattle.disp_model.specs.declared.entry.Unasked.{Unasked}
 use Rattle.disp_model.specs.declared.entry.Unasked.TheVariants as unasked
-use Rattle.disp_model.specs.declared.fixing.Fixing.{Fixing}
+use Rattle.disp_model.specs.declared.fixing.Change.{Change}
 use Rattle.disp_model.specs.declared.plan.Event.{Event}
 use Rattle.disp_model.specs.declared.reply.Refusal.{Refusal}
-use Rattle.disp_model.specs.declared.reply.Refusal.TheVariants.{NoTrain, NoOperation, NoSuccessor, TooLarge, BelowLower, AboveUpper, StartedAt, ChosenIs, NoRoute, Full}
+use Rattle.disp_model.specs.declared.reply.Refusal.TheVariants.{NoTrain, NoOperation, NoSuccessor, TooLarge, BelowLower, AboveUpper, NoSuchChange, Withdrawn, StartedAt, ChosenIs, EarliestIs, NoRoute, Full}
 use Rattle.disp_model.specs.declared.reply.Reply.{Reply}
 use Rattle.disp_model.specs.declared.reply.Reply.TheVariants.{Accepted, Known, Refused}
 use Rattle.disp_model.specs.declared.tree.Verdict.{Verdict}
 use Rattle.disp_model.specs.declared.tree.Verdict.TheVariants as verdict
 use Rattle.solution_text.specs.Texts.{solution_text}
-use Rattle.fixing_lines.specs.Requests.{fixing_text}
+use Rattle.fixing_lines.specs.Requests.{change_text}
 
--- why a fixing is refused
+-- why a change is refused
 abbrev pub refusal_text : Refusal → List ℕ
 refusal_text NoTrain = codes "NoTrain"
 refusal_text NoOperation = codes "NoOperation"
@@ -27,12 +27,15 @@ refusal_text NoSuccessor = codes "NoSuccessor"
 refusal_text TooLarge = codes "TooLarge"
 refusal_text (BelowLower n) = codes "BelowLower " ++ decimal n
 refusal_text (AboveUpper n) = codes "AboveUpper " ++ decimal n
+refusal_text NoSuchChange = codes "NoSuchChange"
+refusal_text (Withdrawn n) = codes "Withdrawn " ++ decimal n
 refusal_text (StartedAt n) = codes "StartedAt " ++ decimal n
 refusal_text (ChosenIs n) = codes "ChosenIs " ++ decimal n
+refusal_text (EarliestIs n) = codes "EarliestIs " ++ decimal n
 refusal_text NoRoute = codes "NoRoute"
 refusal_text (Full n) = codes "Full " ++ decimal n
 
--- the reply to a fixing
+-- the reply to a change
 abbrev pub reply_text : Reply → List ℕ
 reply_text (Accepted e) = codes "accepted " ++ decimal e
 reply_text (Known e) = codes "known " ++ decimal e
@@ -69,8 +72,8 @@ abbrev pub line_text : ℕ → ℕ → List ℕ
 line_text feed line = codes "feed " ++ decimal feed ++ codes " line " ++ decimal line ++ codes " "
 
 -- the line of each kind of entry, with its end
-abbrev pub asked_line : ℕ → ℕ → Fixing → Reply → List ℕ
-asked_line feed line fixing reply = line_text feed line ++ fixing_text fixing ++ codes " " ++ reply_text reply ++ codes "\n"
+abbrev pub asked_line : ℕ → ℕ → Change → Reply → List ℕ
+asked_line feed line change reply = line_text feed line ++ change_text change ++ codes " " ++ reply_text reply ++ codes "\n"
 
 abbrev pub unread_line : ℕ → ℕ → Unasked → List ℕ
 unread_line feed line why = line_text feed line ++ unasked_text why ++ codes "\n"
@@ -89,7 +92,7 @@ stopped_line edition spent bound = codes "stopped " ++ decimal edition ++ codes 
 
 -- an entry's text in the journal: its line, or nothing for a growth of the tree
 abbrev pub entry_text : Entry → List ℕ
-entry_text (entry.Asked feed line fixing reply) = asked_line feed line fixing reply
+entry_text (entry.Asked feed line change reply) = asked_line feed line change reply
 entry_text (entry.Unread feed line why) = unread_line feed line why
 entry_text (entry.Shown feed line standing) = shown_line feed line standing
 entry_text (entry.Grown searcher edition seen node splits) = []

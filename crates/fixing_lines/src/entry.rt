@@ -3,26 +3,26 @@ ghost use Rattle.disp_model.specs.declared.entry.Entry.{Entry};
 ghost use Rattle.fixing_lines.specs.Entries.{asked_line, unread_line, shown_line, published_line, settled_line, stopped_line, entry_text};
 
 use crate::pieces::{
-    push_fixing, push_line, push_reply, push_standing, push_verdict, unasked_word,
+    push_change, push_line, push_reply, push_standing, push_verdict, unasked_word,
 };
-use disp_model::{Entry, Event, Fixing, Memory, Reply, Standing, Unasked, Verdict};
+use disp_model::{Change, Entry, Event, Memory, Reply, Standing, Unasked, Verdict};
 use plain_values::push_text;
 use solution_text::write_solution;
 use std::alloc::Global;
 
-/// The line of a fixing that a feed asked for, and the reply.
+/// The line of a change that a feed asked for, and the reply.
 fn asked(
     alloc: Global,
     feed: u32,
     line: u64,
-    fixing: Fixing,
+    change: Change,
     reply: Reply,
 ) -> Result<String, Memory>
-    ensures { IfOk result (λ text. string_bytes text ≡ asked_line feed line fixing reply) }
+    ensures { IfOk result (λ text. string_bytes text ≡ asked_line feed line change reply) }
 {
     let mut text = String::new(alloc);
     push_line(&mut text, feed, line)?;
-    push_fixing(&mut text, fixing)?;
+    push_change(&mut text, change)?;
     push_text(&mut text, " ")?;
     push_reply(&mut text, reply)?;
     push_text(&mut text, "\n")?;
@@ -89,9 +89,9 @@ pub fn write_entry(alloc: Global, entry: &Entry) -> Result<Vec<u8>, Memory>
         Entry::Asked {
             feed,
             line,
-            fixing,
+            change,
             reply,
-        } => Ok(asked(alloc, *feed, *line, *fixing, *reply)?.into_bytes()),
+        } => Ok(asked(alloc, *feed, *line, *change, *reply)?.into_bytes()),
         Entry::Unread { feed, line, why } => Ok(unread(alloc, *feed, *line, *why)?.into_bytes()),
         Entry::Shown {
             feed,

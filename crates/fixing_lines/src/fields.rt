@@ -1,6 +1,6 @@
 ghost use Rattle.fixing_lines.specs.declared.fields.Fields.{Fields};
 ghost use Rattle.std.specs.Prelude.{◌≡◌, ◌+◌, ◌<◌, ℕ, List, [], MatchOption, length, take, drop, get_or};
-ghost use Rattle.fixing_lines.specs.Requests.{IsField, HasFields, LeadsWith, HasNoSpace};
+ghost use Rattle.fixing_lines.specs.Requests.{IsField, HasFields, HasNumber, LeadsWith, HasNoSpace};
 
 use plain_values::read_number;
 
@@ -56,4 +56,13 @@ pub(crate) fn fields_after(line: &[u8], word: &[u8]) -> Option<Fields>
 {
     let fields = line.strip_prefix(word)?;
     three_fields(fields)
+}
+
+/// The number behind a word, which has the space between.
+pub(crate) fn number_after(line: &[u8], word: &[u8]) -> Option<u64>
+    ensures { MatchOption result ((n : ℕ) → HasNumber word.now line.now n → ⊥)
+        (HasNumber word.now line.now) }
+{
+    let field = line.strip_prefix(word)?;
+    number(field)
 }

@@ -1,10 +1,10 @@
 ghost use Rattle.std.specs.Prelude.{◌≡◌, ◌++◌, IfOk, OnOk, OnErr, codes, string_bytes};
 ghost use Rattle.std.specs.Fmt.{decimal};
 ghost use Rattle.plain_values.specs.Texts.{Adds};
-ghost use Rattle.fixing_lines.specs.Requests.{fixing_text};
+ghost use Rattle.fixing_lines.specs.Requests.{fixing_text, change_text};
 ghost use Rattle.fixing_lines.specs.Entries.{refusal_text, reply_text, unasked_text, mark_text, best_text, standing_text, verdict_text, line_text};
 
-use disp_model::{Fixing, Mark, Memory, Refusal, Reply, Standing, Unasked, Verdict};
+use disp_model::{Change, Fixing, Mark, Memory, Refusal, Reply, Standing, Unasked, Verdict};
 use plain_values::push_text;
 use std::alloc::Global;
 
@@ -17,7 +17,7 @@ pub(crate) fn push_line(text: &mut String, feed: u32, line: u64) -> Result<(), M
 }
 
 /// Adds the line that asks for a fixing.
-pub(crate) fn push_fixing(text: &mut String, fixing: Fixing) -> Result<(), Memory>
+fn push_fixing(text: &mut String, fixing: Fixing) -> Result<(), Memory>
     ensures { OnOk result (Adds (string_bytes text.old) (string_bytes text.new) (fixing_text fixing)) }
 {
     match fixing {
@@ -31,11 +31,28 @@ pub(crate) fn push_fixing(text: &mut String, fixing: Fixing) -> Result<(), Memor
             at_op,
             next,
         } => write!(text, "chosen {at_train} {at_op} {next}")?,
+        Fixing::NotBefore {
+            at_train,
+            at_op,
+            time,
+        } => write!(text, "notbefore {at_train} {at_op} {time}")?,
     }
     Ok(())
 }
 
-/// Why a fixing is refused.
+/// Adds the line that asks for a change.
+pub(crate) fn push_change(text: &mut String, change: Change) -> Result<(), Memory>
+    ensures { OnOk result (Adds (string_bytes text.old) (string_bytes text.new)
+        (change_text change)) }
+{
+    match change {
+        Change::Fix(fixing) => push_fixing(text, fixing)?,
+        Change::Withdraw { number } => write!(text, "withdraw {number}")?,
+    }
+    Ok(())
+}
+
+/// Why a change is refused.
 fn refusal_text(alloc: Global, refusal: Refusal) -> Result<String, Memory>
     ensures { IfOk result (λ text. string_bytes text ≡ refusal_text refusal) }
 {
@@ -46,14 +63,17 @@ fn refusal_text(alloc: Global, refusal: Refusal) -> Result<String, Memory>
         Refusal::TooLarge => Ok(String::from_str(alloc, "TooLarge")?),
         Refusal::BelowLower(lower) => Ok(format!(in alloc; "BelowLower {lower}")?),
         Refusal::AboveUpper(upper) => Ok(format!(in alloc; "AboveUpper {upper}")?),
+        Refusal::NoSuchChange => Ok(String::from_str(alloc, "NoSuchChange")?),
+        Refusal::Withdrawn(number) => Ok(format!(in alloc; "Withdrawn {number}")?),
         Refusal::StartedAt(time) => Ok(format!(in alloc; "StartedAt {time}")?),
         Refusal::ChosenIs(next) => Ok(format!(in alloc; "ChosenIs {next}")?),
+        Refusal::EarliestIs(time) => Ok(format!(in alloc; "EarliestIs {time}")?),
         Refusal::NoRoute => Ok(String::from_str(alloc, "NoRoute")?),
         Refusal::Full(most) => Ok(format!(in alloc; "Full {most}")?),
     }
 }
 
-/// Adds why a fixing is refused: the name of the variant and its number, as `BelowLower 5`.
+/// Adds why a change is refused: the name of the variant and its number, as `BelowLower 5`.
 ///
 /// # Errors
 ///
@@ -68,7 +88,7 @@ pub fn push_refusal(text: &mut String, refusal: Refusal) -> Result<(), Memory>
     Ok(())
 }
 
-/// Adds the reply to a fixing.
+/// Adds the reply to a change.
 pub(crate) fn push_reply(text: &mut String, reply: Reply) -> Result<(), Memory>
     ensures { OnOk result (Adds (string_bytes text.old) (string_bytes text.new) (reply_text reply)) }
 {

@@ -1,44 +1,55 @@
 ghost use Rattle.std.specs.Prelude.{◌≡◌, ◌↔◌, MatchOption};
-ghost use Rattle.disp_model.specs.declared.fixing.Fixing.{Fixing};
+ghost use Rattle.disp_model.specs.declared.fixing.Change.{Change};
 ghost use Rattle.fixing_lines.specs.Requests.{IsAsked, Reads};
 
-use crate::fields::fields_after;
-use disp_model::Fixing;
+use crate::fields::{fields_after, number_after};
+use disp_model::{Change, Fixing};
 
 /// What a line of a feed asks.
 #[derive(Clone, Copy, Debug, PartialEq, Eq)]
 pub enum Request {
-    /// For a fixing.
-    Ask(Fixing),
+    /// For a change.
+    Ask(Change),
     /// To be shown where the search stands.
     Show,
     /// Nothing: the line is no request.
     Unreadable,
 }
 
-/// The fixing that a line asks for.
-fn asked(line: &[u8]) -> Option<Fixing>
-    ensures { MatchOption result ((fixing : Fixing) → IsAsked line.now fixing → ⊥) (IsAsked line.now) }
+/// The change that a line asks for.
+fn asked(line: &[u8]) -> Option<Change>
+    ensures { MatchOption result ((change : Change) → IsAsked line.now change → ⊥)
+        (IsAsked line.now) }
 {
     if let Some(fields) = fields_after(line, b"started ") {
-        return Some(Fixing::Started {
+        return Some(Change::Fix(Fixing::Started {
             at_train: fields.at_train,
             at_op: fields.at_op,
             time: fields.last,
-        });
+        }));
     }
-    let fields = fields_after(line, b"chosen ")?;
-    Some(Fixing::Chosen {
-        at_train: fields.at_train,
-        at_op: fields.at_op,
-        next: fields.last,
-    })
+    if let Some(fields) = fields_after(line, b"chosen ") {
+        return Some(Change::Fix(Fixing::Chosen {
+            at_train: fields.at_train,
+            at_op: fields.at_op,
+            next: fields.last,
+        }));
+    }
+    if let Some(fields) = fields_after(line, b"notbefore ") {
+        return Some(Change::Fix(Fixing::NotBefore {
+            at_train: fields.at_train,
+            at_op: fields.at_op,
+            time: fields.last,
+        }));
+    }
+    let number = number_after(line, b"withdraw ")?;
+    Some(Change::Withdraw { number })
 }
 
-/// What a line, without its end, asks: `started TRAIN OP TIME`, `chosen TRAIN OP SUCC` or `show`, with
-/// one space between two fields and none before or behind. A number is decimal, without needless zeros,
-/// and at most 18446744073709551615. Every other line is unreadable, the empty line too. It takes no
-/// memory.
+/// What a line, without its end, asks: `started TRAIN OP TIME`, `chosen TRAIN OP SUCC`,
+/// `notbefore TRAIN OP TIME`, `withdraw N` or `show`, with one space between two fields and none before
+/// or behind. A number is decimal, without needless zeros, and at most 18446744073709551615. Every other
+/// line is unreadable, the empty line too. It takes no memory.
 pub fn read_request(line: &[u8]) -> Request
     ensures exact { (request : Request) → (result ≡ request) ↔ Reads line.now request }
 {
@@ -46,7 +57,7 @@ pub fn read_request(line: &[u8]) -> Request
         return Request::Show;
     }
     match asked(line) {
-        Some(fixing) => Request::Ask(fixing),
+        Some(change) => Request::Ask(change),
         None => Request::Unreadable,
     }
 }

@@ -33,7 +33,8 @@ fn started(time: u64) -> Fixing {
     }
 }
 
-/// What is answered to a file of these bytes, whose calls of these numbers break, and the fixings then.
+/// What is answered to a file of these bytes, whose calls of these numbers break, and the fixings that
+/// stand then.
 fn taken(
     alloc: Global,
     bytes: &[u8],
@@ -47,7 +48,7 @@ fn taken(
 }
 
 #[test]
-fn each_line_asks_for_a_fixing(rt: HostRuntime) -> Result<(), Fail> {
+fn each_line_asks_for_a_change(rt: HostRuntime) -> Result<(), Fail> {
     let alloc = rt.alloc();
     let (answer, fixings) = taken(alloc, b"", &[])?;
     assert_eq!(rt; answer, Ok(()));
@@ -55,6 +56,9 @@ fn each_line_asks_for_a_fixing(rt: HostRuntime) -> Result<(), Fail> {
     let (answer, fixings) = taken(alloc, b"started 0 0 7\r\nstarted 0 0 7", &[])?;
     assert_eq!(rt; answer, Ok(()));
     assert_eq!(rt; fixings.as_slice(), [started(7)].as_slice());
+    let (answer, fixings) = taken(alloc, b"started 0 0 7\nwithdraw 1\nstarted 0 0 8", &[])?;
+    assert_eq!(rt; answer, Ok(()));
+    assert_eq!(rt; fixings.as_slice(), [started(8)].as_slice());
     Ok(())
 }
 
@@ -66,6 +70,7 @@ fn the_first_other_line_is_named(rt: HostRuntime) -> Result<(), Fail> {
         ("\nstarted 0 0 7\n", 1, LineNo::Unreadable),
         ("started 0 0 7\nshow\nbogus\n", 2, LineNo::Unreadable),
         ("started 0 0 7\r", 1, LineNo::Unreadable),
+        ("withdraw 1\n", 1, LineNo::Refused(Refusal::NoSuchChange)),
         (
             "started 0 0 7\nstarted 0 0 7\nstarted 0 0 8\n\n",
             3,

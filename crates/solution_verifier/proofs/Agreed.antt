@@ -8,8 +8,8 @@ use Rattle.disp_model.specs.declared.problem.Problem.{Problem}
 use Rattle.disp_model.specs.Plan.{run_of, operations_of, first_of, ending, end_of, Ending}
 use Rattle.disp_model.specs.Train.{next_of, duration_of, IsRoute, GoesOn, IsSuccessor}
 use Rattle.disp_model.specs.Valid.{train_at}
-use Rattle.disp_model.proofs.Branching.{route_from, own_operations, operations_append}
-use Rattle.disp_model.proofs.Runs.{split_at}
+use Rattle.disp_laws.proofs.Branching.{route_from, own_operations, operations_append}
+use Rattle.disp_laws.proofs.Runs.{split_at}
 use Rattle.solution_verifier.specs.Held.{ended, ended_in, HasPassed}
 use Rattle.solution_verifier.proofs.Nexts.{IsIn, IsPast, in_or_past, found_or_none, behind_parts, between_length}
 

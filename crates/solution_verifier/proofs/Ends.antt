@@ -6,7 +6,7 @@ use Rattle.std.proofs.lemmas.List.{drop_all, length_push, same_from_push}
 use Rattle.std.proofs.lemmas.List.Elements.{filter-append}
 use Rattle.disp_model.specs.declared.plan.Event.{Event}
 use Rattle.disp_model.specs.Plan.{run_of}
-use Rattle.disp_model.proofs.Runs.{split_at}
+use Rattle.disp_laws.proofs.Runs.{split_at}
 use Rattle.solution_verifier.specs.Rules.{EndsWith}
 use Rattle.solution_verifier.specs.Judged.{IsLast}
 

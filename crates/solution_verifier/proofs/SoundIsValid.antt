@@ -14,7 +14,7 @@ use Rattle.disp_model.specs.Plan.{run_of, operations_of, end_of}
 use Rattle.disp_model.specs.Train.{duration_of, IsRoute, IsEntry, IsSuccessor}
 use Rattle.disp_model.specs.Valid.{train_at, operation_of, IsValid, MayStart, KeepApart}
 use Rattle.disp_model.specs.Fixing.{IsMet}
-use Rattle.disp_model.proofs.Runs.{Spaced, lasts_from_runs}
+use Rattle.disp_laws.proofs.Runs.{Spaced, lasts_from_runs}
 use Rattle.solution_verifier.specs.Rules.{EndsWith, Rule, Keeps, train_there, operation_there, time_rises, first_is_entry, next_is_successor, from_lower, until_upper, lasts_its_duration}
 use Rattle.solution_verifier.specs.Held.{IsSound, LetsBy, listings_at, HasPassed, ended_in}
 use Rattle.solution_verifier.specs.First.{IsComplete}

@@ -13,9 +13,9 @@ use Rattle.disp_model.specs.declared.problem.Problem.{Problem}
 use Rattle.disp_model.specs.Plan.{run_of, operations_of}
 use Rattle.disp_model.specs.Train.{duration_of, IsRoute, IsEntry, IsSuccessor, GoesOn}
 use Rattle.disp_model.specs.Valid.{train_at, operation_of, IsValid, MayStart, KeepApart}
-use Rattle.disp_model.proofs.Branching.{named_train, route_from}
-use Rattle.disp_model.proofs.Runs.{Spaced}
-use Rattle.disp_model.proofs.Positions.{named_at, valid_spaced}
+use Rattle.disp_laws.proofs.Branching.{named_train, route_from}
+use Rattle.disp_laws.proofs.Runs.{Spaced}
+use Rattle.disp_laws.proofs.Positions.{named_at, valid_spaced}
 use Rattle.solution_verifier.specs.Rules.{EndsWith, Rule, Keeps, train_there, operation_there, time_rises, first_is_entry, next_is_successor, from_lower, until_upper, lasts_its_duration}
 use Rattle.solution_verifier.specs.Held.{IsSound, LetsBy, listings_at}
 use Rattle.solution_verifier.specs.First.{IsComplete}

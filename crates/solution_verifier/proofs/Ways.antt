@@ -8,7 +8,7 @@ use Rattle.disp_model.specs.declared.plan.Event.{Event}
 use Rattle.disp_model.specs.declared.train.Operation.{Operation}
 use Rattle.disp_model.specs.Plan.{run_of}
 use Rattle.disp_model.specs.Train.{duration_of, IsEntry, IsExit, IsSuccessor, IsRoute, GoesOn}
-use Rattle.disp_model.proofs.Runs.{Spaced}
+use Rattle.disp_laws.proofs.Runs.{Spaced}
 use Rattle.solution_verifier.specs.Rules.{EndsWith}
 use Rattle.solution_verifier.proofs.Holding.{take_one_more, run_own, run_other}
 

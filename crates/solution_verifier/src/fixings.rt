@@ -52,6 +52,14 @@ fn is_met(events: &[Event], fixing: &Fixing) -> bool
             Some(operation) => u64::from(operation) == next,
             None => false,
         },
+        Fixing::NotBefore {
+            at_train,
+            at_op,
+            time,
+        } => match start_of(events, at_train, at_op) {
+            Some(start) => time <= start,
+            None => true,
+        },
     }
 }
 

@@ -296,6 +296,40 @@ fn a_valid_plan_has_its_cost(rt: HostRuntime) -> Result<(), Fail> {
     Ok(())
 }
 
+fn not_before(at_op: u64, time: u64) -> Fixing {
+    Fixing::NotBefore {
+        at_train: 0,
+        at_op,
+        time,
+    }
+}
+
+#[test]
+fn an_operation_starts_no_sooner_or_is_not_run(rt: HostRuntime) -> Result<(), Fail> {
+    let alloc = rt.alloc();
+    let two = two_trains(alloc, 0)?;
+    let events = [(0, 1, 0), (4, 1, 1), (4, 0, 0), (14, 0, 1)];
+    assert_eq!(rt;
+        answer(alloc, &two, &[not_before(0, 4)], &events, None)?,
+        Ok(18)
+    );
+    assert_eq!(rt;
+        answer(
+            alloc,
+            &two,
+            &[not_before(0, 4), not_before(0, 5)],
+            &events,
+            None
+        )?,
+        Err(Fault::FixingUnmet(2))
+    );
+    assert_eq!(rt;
+        answer(alloc, &two, &[not_before(7, 5)], &events, None)?,
+        Ok(18)
+    );
+    Ok(())
+}
+
 #[test]
 fn no_trains_cost_nothing(rt: HostRuntime) -> Result<(), Fail> {
     let alloc = rt.alloc();

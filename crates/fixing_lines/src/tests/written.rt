@@ -1,5 +1,7 @@
 use crate::{push_refusal, write_entry};
-use disp_model::{Entry, Event, Fixing, List, Mark, Refusal, Reply, Standing, Unasked, Verdict};
+use disp_model::{
+    Change, Entry, Event, Fixing, List, Mark, Refusal, Reply, Standing, Unasked, Verdict,
+};
 use std::alloc::Global;
 use std::process::Abort;
 use std::test::Fail;
@@ -11,17 +13,35 @@ fn expect(rt: &impl Abort, alloc: Global, entry: &Entry, wanted: &str) -> Result
     Ok(())
 }
 
-fn asked(reply: Reply) -> Entry {
+fn asked_for(change: Change, reply: Reply) -> Entry {
     Entry::Asked {
         feed: 0,
         line: 1,
-        fixing: Fixing::Started {
-            at_train: 0,
-            at_op: 0,
-            time: 0,
-        },
+        change,
         reply,
     }
+}
+
+fn asked(reply: Reply) -> Entry {
+    let fixing = Fixing::Started {
+        at_train: 0,
+        at_op: 0,
+        time: 0,
+    };
+    asked_for(Change::Fix(fixing), reply)
+}
+
+fn asked_not_before(reply: Reply) -> Entry {
+    let fixing = Fixing::NotBefore {
+        at_train: 1,
+        at_op: 0,
+        time: 20,
+    };
+    asked_for(Change::Fix(fixing), reply)
+}
+
+fn withdrawn(number: u64, reply: Reply) -> Entry {
+    asked_for(Change::Withdraw { number }, reply)
 }
 
 fn shown(best: Option<u64>, mark: Mark) -> Entry {
@@ -158,6 +178,42 @@ fn the_other_words_of_the_journal(rt: HostRuntime) -> Result<(), Fail> {
         splits: List::new(alloc),
     };
     expect(&rt, alloc, &grown, "")?;
+    Ok(())
+}
+
+#[test]
+fn changes_have_lines(rt: HostRuntime) -> Result<(), Fail> {
+    let alloc = rt.alloc();
+    expect(
+        &rt,
+        alloc,
+        &asked_not_before(Reply::Accepted(1)),
+        "feed 0 line 1 notbefore 1 0 20 accepted 1\n",
+    )?;
+    expect(
+        &rt,
+        alloc,
+        &asked(Reply::Refused(Refusal::EarliestIs(20))),
+        "feed 0 line 1 started 0 0 0 refused EarliestIs 20\n",
+    )?;
+    expect(
+        &rt,
+        alloc,
+        &withdrawn(1, Reply::Accepted(2)),
+        "feed 0 line 1 withdraw 1 accepted 2\n",
+    )?;
+    expect(
+        &rt,
+        alloc,
+        &withdrawn(2, Reply::Refused(Refusal::NoSuchChange)),
+        "feed 0 line 1 withdraw 2 refused NoSuchChange\n",
+    )?;
+    expect(
+        &rt,
+        alloc,
+        &withdrawn(1, Reply::Refused(Refusal::Withdrawn(2))),
+        "feed 0 line 1 withdraw 1 refused Withdrawn 2\n",
+    )?;
     Ok(())
 }
 

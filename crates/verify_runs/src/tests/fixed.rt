@@ -43,6 +43,44 @@ fn fixings_are_met_or_not(rt: HostRuntime) -> Result<(), Fail> {
 }
 
 #[test]
+fn an_operation_starts_no_sooner(rt: HostRuntime) -> Result<(), Fail> {
+    row(&rt, b"notbefore 0 0 4\n", 0, "valid 18\n")?;
+    row(&rt, b"notbefore 0 0 5\n", 1, "FixingUnmet 1\n")?;
+    let known = b"notbefore 1 0 20\nnotbefore 1 0 20\n";
+    row(&rt, known, 1, "FixingUnmet 1\n")?;
+    let sooner = b"notbefore 1 0 20\nstarted 1 0 5\n";
+    row(&rt, sooner, 2, "fixings line 2: refused EarliestIs 20\n")?;
+    let later = b"started 1 0 20\nnotbefore 1 0 30\n";
+    row(&rt, later, 2, "fixings line 2: refused StartedAt 20\n")?;
+    row(
+        &rt,
+        b"notbefore 0 0 2147483648\n",
+        2,
+        "fixings line 1: refused TooLarge\n",
+    )
+}
+
+#[test]
+fn a_fixing_is_taken_back(rt: HostRuntime) -> Result<(), Fail> {
+    row(&rt, b"started 0 0 0\nwithdraw 1\n", 0, "valid 18\n")?;
+    row(
+        &rt,
+        b"withdraw 1\n",
+        2,
+        "fixings line 1: refused NoSuchChange\n",
+    )?;
+    let twice = b"started 0 0 0\nwithdraw 1\nwithdraw 1\n";
+    row(&rt, twice, 2, "fixings line 3: refused Withdrawn 2\n")?;
+    let withdrawal = b"started 0 0 0\nwithdraw 1\nwithdraw 2\n";
+    row(
+        &rt,
+        withdrawal,
+        2,
+        "fixings line 3: refused NoSuchChange\n",
+    )
+}
+
+#[test]
 fn a_line_that_is_not_taken_is_told(rt: HostRuntime) -> Result<(), Fail> {
     let refused = b"started 0 0 0\nstarted 0 0 7\n";
     row(&rt, refused, 2, "fixings line 2: refused StartedAt 0\n")?;

@@ -1,5 +1,6 @@
-use Rattle.std.proofs.Common.{◌⊎◌, ℕ, List, Some, ap, sym, inl, inr}
+use Rattle.std.proofs.Common.{◌⊎◌, ℕ, List, Some, ap, refl, sym, inl, inr}
 use Rattle.std.proofs.lemmas.Result.{IfOk-weaker, IfErr-weaker}
+use Rattle.disp_model.specs.Changes.{standing_of}
 use Rattle.disp_model.specs.Replies.{IsEdition}
 use Rattle.dispatch_cli.specs.Outside.{Is, IsOfTwo}
 use Rattle.dispatch_cli.specs.Files.{IsFixingsTaken}
@@ -14,25 +15,25 @@ pub returns-in-Ok-clause-ok : goal.returns-in-Ok-clause-ok
 returns-in-Ok-clause-ok g c =
     let holds = g.S.Shelf.holds c.args.shelf.now in
     let mid = g.S.Shelf.holds c.fixings_file.new.shelf in
-    let taken : IsFixingsTaken holds c.args.problem.now c.args.name.now c.in-Ok.editions.problem c.in-Ok.editions.fixings = rw (← c.as_str.ensures) c.in-Ok.ensures.ok in
-    let edition : IsEdition c.args.problem.now c.in-Ok.editions.fixings = rw (← taken.same) c.fixings.ensures.edition in
+    let taken : IsFixingsTaken holds c.args.problem.now c.args.name.now c.in-Ok.editions.problem c.in-Ok.editions.changes = rw (← c.as_str.ensures) c.in-Ok.ensures.ok in
+    let edition : IsEdition c.args.problem.now c.in-Ok.editions.changes = rw (← taken.same) c.fixings.ensures.edition in
     IfOk-weaker c.judge_file.result _ _ (λ answer h. record {
-      fixings = c.in-Ok.editions.fixings;
-      fixings_file = record { told = taken.told; lines = taken.lines; taken = taken.taken; edition = edition };
-      judged = judged_file_before holds mid c.args.problem.now c.in-Ok.editions.fixings c.args.solution.now answer c.in-Ok.ensures.reads.held (rw (← c.fixings.ensures.all) h);
+      fixings = standing_of c.in-Ok.editions.changes;
+      fixings_file = record { told = taken.told; lines = taken.lines; changes = c.in-Ok.editions.changes; taken = taken.taken; edition = edition; standing = refl };
+      judged = judged_file_before holds mid c.args.problem.now (standing_of c.in-Ok.editions.changes) c.args.solution.now answer c.in-Ok.ensures.reads.held (rw (← c.fixings.ensures.all) h);
     }) c.judge_file.ensures.ok
 
 pub returns-in-Ok-clause-no : goal.returns-in-Ok-clause-no
 returns-in-Ok-clause-no g c =
     let holds = g.S.Shelf.holds c.args.shelf.now in
-    let taken : IsFixingsTaken holds c.args.problem.now c.args.name.now c.in-Ok.editions.problem c.in-Ok.editions.fixings = rw (← c.as_str.ensures) c.in-Ok.ensures.ok in
-    let edition : IsEdition c.args.problem.now c.in-Ok.editions.fixings = rw (← taken.same) c.fixings.ensures.edition in
+    let taken : IsFixingsTaken holds c.args.problem.now c.args.name.now c.in-Ok.editions.problem c.in-Ok.editions.changes = rw (← c.as_str.ensures) c.in-Ok.ensures.ok in
+    let edition : IsEdition c.args.problem.now c.in-Ok.editions.changes = rw (← taken.same) c.fixings.ensures.edition in
     let mid_holds = g.S.Shelf.holds c.fixings_file.new.shelf in
     let old = g.S.Shelf.reading_faults c.args.shelf.now in
     let mid = g.S.Shelf.reading_faults c.fixings_file.new.shelf in
     let new = g.S.Shelf.reading_faults c.judge_file.new.shelf in
     IfErr-weaker c.judge_file.result _ _ (λ cause h. stops_solution holds mid_holds old mid new c.args.problem.now (Some c.args.name.now) c.args.solution.now cause
-    (c.in-Ok.editions.fixings, record { told = taken.told; lines = taken.lines; taken = taken.taken; edition = edition }) c.in-Ok.ensures.reads.held
+    (standing_of c.in-Ok.editions.changes, record { told = taken.told; lines = taken.lines; changes = c.in-Ok.editions.changes; taken = taken.taken; edition = edition; standing = refl }) c.in-Ok.ensures.reads.held
     (never_falls c.as_str.result.now old mid c.in-Ok.ensures.reads.counted c.in-Ok.ensures.reads.others) h) c.judge_file.ensures.no
 
 pub returns-in-Ok-clause-reads : goal.returns-in-Ok-clause-reads

@@ -1,4 +1,5 @@
 use Rattle.std.proofs.Common.{◌≡◌, ◌<◌, ◌∙◌, List, ℕ, length, get_or, set, rules, sym, ap, subst, arith}
+use Rattle.std.proofs.lemmas.Bool.{false≢true}
 use Rattle.std.proofs.lemmas.List.{get_or_read}
 use Rattle.fixing_editions.specs.declared.wishes.Wish.{Wish}
 use Rattle.fixing_editions.specs.declared.wishes.Wish.TheVariants.{Free}
@@ -9,7 +10,8 @@ use Rattle.fixing_editions.proofs.wishes.add.Goals as goal
 pub returns-then-at-len-clause-none : goal.returns-then-at-len-clause-none
 returns-then-at-len-clause-none c is =
     let len : length c.args.wishes.now.items ≡ c.len.result = search rules in
-    clashes_past c.args.wishes.now.items c.args.fixing.now (omega (arith, len, c.op_of-at.ensures, c.if-at-len.true))
+    clashes_past c.args.wishes.now.items c.args.fixing.now
+    (λ asks. false≢true (sym c.if-asks_nothing.false ∙ c.asks_nothing.ensures.1 asks)) (omega (arith, len, c.op_of-at.ensures, c.if-at-len.true))
 
 pub returns-in-Some-clause-added : goal.returns-in-Some-clause-added
 returns-in-Some-clause-added c is =

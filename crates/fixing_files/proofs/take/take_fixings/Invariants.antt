@@ -10,5 +10,5 @@ invariant-loop-number g l = record {
   open_ : g.F.Feed.has_ended l.feed ≡ false;
   faults : g.F.Feed.faults l.feed ≡ g.F.Feed.faults l.fn.feed;
   named : g.F.Feed.name l.feed ≡ g.F.Feed.name l.fn.feed;
-  lines : IsAt l.fn.editions.problem (g.F.Feed.lines l.fn.feed) (g.F.Feed.lines l.feed) (l.number - 1) l.editions.fixings;
+  lines : IsAt l.fn.editions.problem (g.F.Feed.lines l.fn.feed) (g.F.Feed.lines l.feed) (l.number - 1) l.editions.changes;
 }

@@ -1,5 +1,8 @@
-use Rattle.fixing_lines.proofs.Words.{no_fixing}
+use Rattle.fixing_lines.proofs.Words.{no_change}
 use Rattle.fixing_lines.proofs.request.asked.Goals as goal
 
-pub returns-in_err-fields : goal.returns-in_err-fields
-returns-in_err-fields c = rw c.from_residual.ensures (no_fixing c.args.line.now c.in_default.ensures c.in_err-fields.ensures)
+pub returns-in_err-number : goal.returns-in_err-number
+returns-in_err-number c =
+    rw c.from_residual.ensures
+    (no_change c.args.line.now c.in_default.ensures c.in_default-fields_after.ensures
+    c.in_default-fields_after-2.ensures c.in_err-number.ensures)
