@@ -1,19 +1,21 @@
 -- The two routes of the forked train, and what is left of them.
 use Rattle.std.proofs.Common.{◌≡◌, ◌⊎◌, inl, inr, ℕ, zero, suc, ◌<◌, ◌≤◌, List, [], ◌∷◌, Some, refl, subst, ap, ◌∙◌, arith, rules}
-use Rattle.std.specs.Prelude.{Contains, sum_by}
+use Rattle.std.specs.Prelude.{All, Contains, sum_by}
 use Rattle.std.proofs.lemmas.Option.{same_Some}
 use Rattle.disp_model.specs.declared.fixing.Change.TheVariants.{Fix}
 use Rattle.disp_model.specs.Node.{root_of, node_at}
 use Rattle.disp_model.specs.declared.fixing.Fixing.TheVariants.{Chosen, Started}
 use Rattle.disp_model.specs.declared.decision.Decision.{Decision}
-use Rattle.disp_model.specs.declared.decision.Decision.TheVariants.{Go}
+use Rattle.disp_model.specs.declared.decision.Decision.TheVariants.{Go, Run, Skip}
+use Rattle.disp_model.specs.declared.decision.Choice.TheVariants.{Run as RunIt}
 use Rattle.disp_model.specs.declared.problem.Problem.{Problem}
 use Rattle.disp_model.specs.declared.reply.Refusal.TheVariants.{NoRoute}
 use Rattle.disp_model.specs.declared.reply.Reply.TheVariants.{Refused}
 use Rattle.disp_model.specs.WellFormed.{IsWellFormed}
 use Rattle.disp_model.specs.Train.{GoesOn, IsRoute, IsSuccessor, duration_of}
 use Rattle.disp_model.specs.Fixing.{after}
-use Rattle.disp_model.specs.Routes.{IsAllowed, IsForced, HasOneRoute, HasRoute}
+use Rattle.disp_model.specs.Routes.{IsAllowed, IsForced, HasOneRoute, HasRoute, AgreesWithDecision}
+use Rattle.disp_model.specs.Choices.{IsOpen}
 use Rattle.disp_model.specs.Arcs.{IsTrainArc, Passes}
 use Rattle.disp_model.specs.Replies.{IsReply}
 use Rattle.definition_examples.specs.Trains.{HasForkedTrain, forked, op_named}
@@ -197,3 +199,27 @@ pub no_route : (problem : Problem) → HasForkedTrain problem → IsReply proble
 no_route problem has =
     of_made (λ p. IsReply p (Fix (Chosen 0 0 2) ∷ []) (Fix (Started 0 1 4)) (Refused NoRoute)) (forked ∷ []) []
     (λ names w. inr ((λ less. omega arith), inr ((λ less. omega arith), inr ((λ less. omega arith), inl (none_left names w, refl))))) problem has.trains has.components
+
+-- ---- run or skip
+
+pub run_is_forced : (problem : Problem) → HasForkedTrain problem → IsForced (node_at problem [] (Run (op_named 0 1) ∷ [])) (op_named 0 1)
+run_is_forced problem has =
+    of_made (λ p. IsForced (node_at p [] (Run (op_named 0 1) ∷ [])) (op_named 0 1)) (forked ∷ []) []
+    (λ names w. record {
+      train = omega arith;
+      allowed = (by_1, record { is_route = by_1_there; fixings_agree = search rules; decisions_agree = all_of_one (λ same. (1, omega arith, refl)) });
+      each_has = λ route allowed. allowed.decisions_agree 0 (Run (op_named 0 1)) (omega arith) refl;
+    })
+    problem has.trains has.components
+  where
+    all_of_one : AgreesWithDecision 0 by_1 (Run (op_named 0 1)) → All (AgreesWithDecision 0 by_1) (Run (op_named 0 1) ∷ [])
+    all_of_one here zero d lt = here
+    all_of_one here (suc k) d lt = absurd (omega (arith, lt))
+
+pub skipped_is_not_allowed : (problem : Problem) → HasForkedTrain problem → IsAllowed (node_at problem [] (Skip (op_named 0 1) ∷ [])) 0 by_1 → ⊥
+skipped_is_not_allowed problem has allowed = allowed.decisions_agree 0 (Skip (op_named 0 1)) (omega arith) refl (1, omega arith, refl)
+
+pub run_is_open : (problem : Problem) → HasForkedTrain problem → IsOpen (root_of problem []) (RunIt (op_named 0 1))
+run_is_open problem has =
+    of_made (λ p. IsOpen (root_of p []) (RunIt (op_named 0 1))) (forked ∷ []) []
+    (λ names w. record { one = by_1; other = by_2; one_allowed = free_by_1 names w; other_allowed = free_by_2 names w; has = (1, omega arith, refl); has_not = none_behind_1 }) problem has.trains has.components

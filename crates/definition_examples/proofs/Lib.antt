@@ -17,3 +17,4 @@ pub mod Picks
 pub mod PicksNothing
 pub mod SettledHistory
 pub mod StoppedHistory
+pub mod Touching

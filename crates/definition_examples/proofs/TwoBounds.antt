@@ -64,7 +64,7 @@ rises w x y z a b zero lt = a
 rises w x y z a b (suc zero) lt = b
 rises w x y z a b (suc (suc t)) lt = absurd (omega (arith, lt))
 
-own_rises : (h : Op → ℕ) → Rises h → (u v : Op) (arc_length : ℕ) → IsOwn u v arc_length → h u + arc_length ≤ h v
+pub own_rises : (h : Op → ℕ) → Rises h → (u v : Op) (arc_length : ℕ) → IsOwn u v arc_length → h u + arc_length ≤ h v
 own_rises h up u v arc_length own = rw own.from_is (rw own.to_is (rw own.length_is (up own.train own.within)))
 
 pub free_height : (release : ℕ) (names : List (List ℕ)) (w : IsWellFormed (two_trains release) two_costs names) (fixings : List Fixing) → IsFromZero (two release names w) fixings

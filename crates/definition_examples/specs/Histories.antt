@@ -52,3 +52,7 @@ settled plan cost =
 -- the same edition is settled again, with whatever tree
 abbrev pub settled_again : List TreeNode → List Entry
 settled_again tree = settled first_first 24 ++ Settled 1 (Optimal 24) tree ∷ []
+
+-- a searcher splits the tree by the order of the two trains, before a fixing is accepted
+abbrev pub grown_before : List Entry
+grown_before = Grown 0 0 0 0 (record { node = 0; choice = Order a0 b0 } ∷ []) ∷ Asked 0 1 (Fix a0_at_0) (Accepted 1) ∷ []

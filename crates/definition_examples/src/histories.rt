@@ -1,10 +1,13 @@
-ghost use Rattle.std.specs.Prelude.{◌≡◌, ℕ, ◌<◌, ◌≤◌, List};
+ghost use Rattle.std.specs.Prelude.{◌≡◌, ℕ, ◌<◌, ◌≤◌, List, [], ◌∷◌};
 ghost use Rattle.disp_model.specs.declared.problem.Problem.{Problem};
 ghost use Rattle.disp_model.specs.declared.tree.TreeNode.{TreeNode};
+ghost use Rattle.disp_model.specs.Replay.{branch, leaf, grown_by};
+ghost use Rattle.disp_model.specs.declared.decision.Choice.TheVariants.{Order};
+ghost use Rattle.disp_model.specs.declared.decision.Decision.TheVariants.{First};
 ghost use Rattle.disp_model.specs.Legal.{IsLegal};
-ghost use Rattle.definition_examples.specs.Histories.{asked, fixed_rule, outdated, published, settled, settled_again, stopped};
+ghost use Rattle.definition_examples.specs.Histories.{asked, fixed_rule, grown_before, outdated, published, settled, settled_again, stopped};
 ghost use Rattle.definition_examples.specs.Plans.{first_first, second_first};
-ghost use Rattle.definition_examples.specs.Trains.{HasTwoTrains};
+ghost use Rattle.definition_examples.specs.Trains.{HasTwoTrains, a0, b0};
 
 /// The first train is fixed to start at 0: the plan that starts it then is published, and the plan that
 /// starts it at 4 is not, though it was the best before.
@@ -38,4 +41,10 @@ pub fn an_edition_is_settled_once()
 pub fn an_edition_is_stopped_with_its_bound()
     ensures legal { (problem : Problem) → HasTwoTrains 0 problem → IsLegal problem (fixed_rule 0) (stopped 0 14) }
     ensures only { (problem : Problem) (bound : ℕ) → HasTwoTrains 0 problem → IsLegal problem (fixed_rule 0) (stopped 0 bound) → bound ≡ 14 }
+{}
+
+/// There is one tree over all editions: an accepted change leaves the grown tree as it is.
+pub fn a_tree_goes_on_over_editions()
+    ensures { (problem : Problem) → (grown_by problem grown_before).places
+        ≡ branch (Order a0 b0) ∷ leaf 1 (First a0 b0 ∷ []) ∷ leaf 2 (First b0 a0 ∷ []) ∷ [] }
 {}

@@ -1,14 +1,16 @@
 ghost use Rattle.std.specs.Prelude.{[], ◌∷◌};
 ghost use Rattle.disp_model.specs.Node.{root_of, node_at};
-ghost use Rattle.disp_model.specs.declared.decision.Decision.TheVariants.{Go};
+ghost use Rattle.disp_model.specs.declared.decision.Decision.TheVariants.{Go, Run, Skip};
+ghost use Rattle.disp_model.specs.declared.decision.Choice.TheVariants.{Run as RunIt};
 ghost use Rattle.disp_model.specs.declared.fixing.Change.TheVariants.{Fix};
 ghost use Rattle.disp_model.specs.declared.fixing.Fixing.TheVariants.{Chosen, Started};
 ghost use Rattle.disp_model.specs.declared.problem.Problem.{Problem};
 ghost use Rattle.disp_model.specs.declared.reply.Refusal.TheVariants.{NoRoute};
 ghost use Rattle.disp_model.specs.declared.reply.Reply.TheVariants.{Refused};
 ghost use Rattle.disp_model.specs.Arcs.{IsTrainArc};
+ghost use Rattle.disp_model.specs.Choices.{IsOpen};
 ghost use Rattle.disp_model.specs.Replies.{IsReply};
-ghost use Rattle.disp_model.specs.Routes.{HasOneRoute, IsForced};
+ghost use Rattle.disp_model.specs.Routes.{HasOneRoute, IsAllowed, IsForced};
 ghost use Rattle.definition_examples.specs.Trains.{HasForkedTrain, op_named};
 
 /// Before a decision no branch of the fork is forced, and the least sum of durations is that by 2.
@@ -27,4 +29,11 @@ pub fn a_decision_forces_its_branch()
 pub fn a_choice_leaves_one_route()
     ensures one { (problem : Problem) → HasForkedTrain problem → HasOneRoute (root_of problem (Chosen 0 0 2 ∷ [])) 0 (0 ∷ 2 ∷ 3 ∷ []) }
     ensures refused { (problem : Problem) → HasForkedTrain problem → IsReply problem (Fix (Chosen 0 0 2) ∷ []) (Fix (Started 0 1 4)) (Refused NoRoute) }
+{}
+
+/// Decided to run 1, the train is forced through it; decided to skip it, the route by 1 is not allowed.
+pub fn a_run_or_skip_leaves_one_route()
+    ensures run { (problem : Problem) → HasForkedTrain problem → IsForced (node_at problem [] (Run (op_named 0 1) ∷ [])) (op_named 0 1) }
+    ensures skipped { (problem : Problem) → HasForkedTrain problem → IsAllowed (node_at problem [] (Skip (op_named 0 1) ∷ [])) 0 (0 ∷ 1 ∷ 3 ∷ []) → ⊥ }
+    ensures free { (problem : Problem) → HasForkedTrain problem → IsOpen (root_of problem []) (RunIt (op_named 0 1)) }
 {}
