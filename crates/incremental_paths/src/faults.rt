@@ -2,37 +2,10 @@ ghost use Rattle.std.specs.Prelude.{◌≡◌};
 ghost use Rattle.incremental_paths.specs.declared.faults.AddNo.{AddNo};
 ghost use Rattle.incremental_paths.specs.declared.faults.AddNo.TheVariants.{Memory as OutOfMemory};
 
+use plain_values::Memory;
 use std::alloc::{AllocError, AllocFailed};
 use std::error::Error;
 use std::fmt;
-
-/// There is no memory left.
-#[derive(Clone, Copy, Debug, PartialEq, Eq)]
-pub struct Memory;
-
-impl fmt::Display for Memory {
-    fn fmt<W: fmt::Write>(&self, f: &mut fmt::Formatter<W>) -> fmt::Result {
-        f.write_str("no memory is left")
-    }
-}
-
-impl Error for Memory {}
-
-impl From<AllocError> for Memory {
-    ghost from_gives = { λ _ fault. fault ≡ record {} };
-
-    fn from(_fault: AllocError) -> Memory {
-        Memory
-    }
-}
-
-impl<T: Drop> From<AllocFailed<T>> for Memory {
-    ghost from_gives = { λ _ fault. fault ≡ record {} };
-
-    fn from(_fault: AllocFailed<T>) -> Memory {
-        Memory
-    }
-}
 
 /// Why an arc was not added.
 #[derive(Clone, Copy, Debug, PartialEq, Eq)]

@@ -16,9 +16,10 @@ mod trace;
 mod way;
 
 pub use arc::Arc;
-pub use faults::{AddNo, Memory};
+pub use faults::AddNo;
 pub use laws::walks_are_bounded;
 pub use paths::Paths;
+pub use plain_values::Memory;
 
 #[cfg(test)]
 mod tests;

@@ -3,12 +3,13 @@ ghost use Rattle.incremental_paths.specs.Walks.{IsWalkTo, walk_length, HasNoNode
 ghost use Rattle.incremental_paths.specs.Network.{IsNode, IsShort, with_arc, without_last, raised};
 
 use crate::arc::Arc;
-use crate::faults::{AddNo, Memory};
+use crate::faults::AddNo;
 use crate::lengths::compute_lengths;
 use crate::marks::mark_from;
 use crate::ranked::{RankedArc, keep_below, rank_with};
 use crate::trace::trace_walk;
 use crate::way::trace_way;
+use plain_values::Memory;
 use std::alloc::Global;
 use std::marker::Model;
 
