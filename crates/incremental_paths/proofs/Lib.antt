@@ -9,3 +9,9 @@ pub mod KeptFields
 pub mod TracedWays
 pub mod Bounds
 pub mod WaysBack
+pub mod Linking
+pub mod Stamps
+pub mod Pairs
+pub mod Lifting
+pub mod Threading
+pub mod Marking

@@ -6,12 +6,20 @@
 #![tactic(auto)]
 
 mod arc;
+mod changes;
 mod faults;
 mod laws;
 mod lengths;
 mod marks;
+mod marks2;
+mod order;
 mod paths;
 mod ranked;
+mod search;
+mod shifts;
+
+mod spread;
+mod threads;
 mod trace;
 mod way;
 
