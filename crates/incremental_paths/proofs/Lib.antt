@@ -15,3 +15,5 @@ pub mod Pairs
 pub mod Lifting
 pub mod Threading
 pub mod Marking
+pub mod Telling
+pub mod Spreading

@@ -45,3 +45,15 @@ pub record TellsMore (old new : Told) (before after : List ℕ) : Type 0 where
 abbrev pub SpreadsOne : Arc → List ℕ → List ℕ → Type 0
 SpreadsOne arc before after = ((slice_index before arc.from + arc.length ≤ slice_index before arc.to) × (after ≡ before))
   ⊎ ((slice_index before arc.to < slice_index before arc.from + arc.length) × (after ≡ slice_set before arc.to (slice_index before arc.from + arc.length)))
+
+-- some arc leads from the node to v
+abbrev pub IsEnd : List Arc → ℕ → ℕ → Type 0
+IsEnd arcs node v = (k : ℕ) × (k < length arcs) × ((d : Arc) → ((slice_index_or arcs k d).from ≡ node) × ((slice_index_or arcs k d).to ≡ v))
+
+-- lengths grew at ends of arcs of the node alone, and along each of these, or each that was spread along, they are spread, where its beginning has not grown
+pub record Spreads (arcs : List Arc) (node : ℕ) (before after : List ℕ) : Type 0 where
+  pub sized : length after ≡ length before
+  pub grows : (v : ℕ) → slice_index before v ≤ slice_index after v
+  pub only : (v : ℕ) → slice_index before v ≢ slice_index after v → IsEnd arcs node v
+  pub spread : (k : ℕ) (d : Arc) → k < length arcs → ((slice_index_or arcs k d).from ≡ node) ⊎ IsSpread before (slice_index_or arcs k d)
+      → slice_index before (slice_index_or arcs k d).from ≡ slice_index after (slice_index_or arcs k d).from → IsSpread after (slice_index_or arcs k d)

@@ -1,7 +1,7 @@
-ghost use Rattle.std.specs.Prelude.{ℕ, ◌≡◌, ◌<◌, ◌≤◌, ◌+◌, ◌^◌, ◌⊎◌, [], true, false, length, slice_index, slice_index_or, slice_set};
+ghost use Rattle.std.specs.Prelude.{ℕ, ◌≡◌, ◌≢◌, ◌<◌, ◌≤◌, ◌+◌, ◌^◌, List, [], true, false, All, length, slice_index};
 ghost use Rattle.incremental_paths.specs.declared.arc.Arc.{Arc};
 ghost use Rattle.incremental_paths.specs.Marked.{begins, AreWithin, AreRising};
-ghost use Rattle.incremental_paths.specs.Spread.{AreLengths, AreReached, IsSpread, WalksFit, TellsMore, SpreadsOne};
+ghost use Rattle.incremental_paths.specs.Spread.{AreLengths, AreReached, Spreads, SpreadsOne, WalksFit, TellsMore};
 
 use crate::arc::Arc;
 use crate::changes::Changes;
@@ -21,5 +21,30 @@ pub fn raise_end(arc: Arc, lengths: &mut [u64], changes: &mut Changes)
     if before < reached {
         changes.tell(arc.to, before);
         lengths[arc.to as usize] = reached;
+    }
+}
+
+/// Raises the ends of the arcs that begin at the node, where they are shorter than what these lead to.
+pub fn raise_ends(
+    arcs: &[Arc],
+    begun: &Threads,
+    lengths: &mut [u64],
+    changes: &mut Changes,
+    node: u32,
+)
+    requires begun { begun.now ≡ record { size = length lengths.old; keys = begins arcs.now } }
+    requires within { AreWithin (length lengths.old) arcs.now }
+    requires apart { All (λ a. a.from ≢ a.to) arcs.now }
+    requires node { node < length lengths.old }
+    requires reached { (lowers : List ℕ) × AreReached lowers arcs.now lengths.old × WalksFit lowers arcs.now }
+    ensures reached { (lowers : List ℕ) → AreReached lowers arcs.now lengths.old → AreReached lowers arcs.now lengths.new }
+    ensures spreads { Spreads arcs.now node lengths.old lengths.new }
+    ensures tells { TellsMore changes.old changes.new lengths.old lengths.new }
+{
+    let mut front = begun.last(node);
+    while front > 0 {
+        let at = front - 1;
+        raise_end(arcs[at], lengths, changes);
+        front = begun.before(at);
     }
 }
