@@ -17,3 +17,4 @@ pub mod Threading
 pub mod Marking
 pub mod Telling
 pub mod Spreading
+pub mod Pushing

@@ -33,12 +33,27 @@ pub record Told : Type 0 where
   pub entries : List Change
   pub lost : Bool
 
+-- the nodes of the changes that are told
+abbrev pub told_nodes : Told → List ℕ
+told_nodes told = map (λ c. c.node) told.entries
+
+-- along each arc the lengths are spread, or its beginning stands among the changes from a place on, where none are lost
+abbrev pub AreWaiting : List Arc → List ℕ → Told → ℕ → Type 0
+AreWaiting arcs lengths told from = told.lost ≡ false → (k : ℕ) (d : Arc) → k < length arcs
+    → IsSpread lengths (slice_index_or arcs k d) ⊎ ((i : ℕ) × (from ≤ i) × (i < length told.entries) × (slice_index (told_nodes told) i ≡ (slice_index_or arcs k d).from))
+
+-- along each arc the lengths are spread
+abbrev pub AreSpread : List Arc → List ℕ → Type 0
+AreSpread arcs lengths = (k : ℕ) (d : Arc) → k < length arcs → IsSpread lengths (slice_index_or arcs k d)
+
 -- more changes have been told, from the one state to the other
 pub record TellsMore (old new : Told) (before after : List ℕ) : Type 0 where
   pub still : new.lost ≡ false → old.lost ≡ false
   pub more : List Change
   pub all : new.lost ≡ false → new.entries ≡ old.entries ++ more
   pub undone : new.lost ≡ false → restored after more ≡ before
+  pub sized : length after ≡ length before
+  pub within : (i : ℕ) → i < length more → slice_index (map (λ c. c.node) more) i < length before
   pub each : (v : ℕ) → new.lost ≡ false → slice_index before v ≢ slice_index after v → (i : ℕ) × (i < length more) × (slice_index (map (λ c. c.node) more) i ≡ v)
 
 -- the arc has been spread along, if need be by raising the length of its end

@@ -37,9 +37,10 @@ impl Order {
         })
     }
 
-    /// How many nodes there are.
+    /// How many nodes there are, which is more than any place.
     pub fn size(&self) -> usize
-        ensures { result ≡ length self.now }
+        ensures is { result ≡ length self.now }
+        ensures above { (v : ℕ) → v < length self.now → slice_index self.now v < length self.now }
     {
         self.nodes.len()
     }

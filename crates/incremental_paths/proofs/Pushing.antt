@@ -1,0 +1,54 @@
+-- Lengths are pushed on from one node after the other.
+use Rattle.std.proofs.Common.{◌≡◌, ◌≢◌, ℕ, ◌+◌, ◌-◌, ◌<◌, ◌≤◌, ◌⊎◌, inl, inr, Bool, false, List, [], ◌∷◌, ◌++◌, length, get_or, map, refl, sym, ap, ◌∙◌, subst, arith}
+use Rattle.std.proofs.lemmas.Bool.{cases_eq, cases_lt}
+use Rattle.std.proofs.lemmas.List.{length-append}
+use Rattle.incremental_paths.specs.declared.arc.Arc.{Arc}
+use Rattle.incremental_paths.specs.declared.changes.Change.{Change}
+use Rattle.incremental_paths.specs.Marked.{AreRising, AreWithin}
+use Rattle.incremental_paths.specs.Spread.{AreSpread, AreWaiting, IsSpread, Spreads, Told, TellsMore, told_nodes}
+use Rattle.incremental_paths.proofs.Telling.{node_first, node_behind}
+
+pub waiting_next : (arcs : List Arc) (old new : List ℕ) (told more : Told) (next node : ℕ) → AreWaiting arcs old told next → next < length told.entries → get_or (told_nodes told) next 0 ≡ node
+    → Spreads arcs node old new → TellsMore told more old new → AreWaiting arcs new more (next + 1)
+waiting_next arcs old new told more next node waiting lt is spreads tells kept k d below =
+    let from = (get_or arcs k d).from in
+    let all = tells.all kept in
+    let long = ap length all in
+    let all_nodes = ap (λ (l : List Change). map (λ (c : Change). c.node) l) all in
+    elim (cases_eq (get_or old from 0) (get_or new from 0)) [
+      | inl same ↦ elim (waiting (tells.still kept) k d below) [
+        | inl spread ↦ inl (spreads.spread k d below (inr spread) same)
+        | inr w ↦ elim (cases_eq w.0 next) [
+          | inl here ↦ inl (spreads.spread k d below (inl (sym w.3 ∙ ap (λ i. get_or (told_nodes told) i 0) here ∙ is)) same)
+          | inr later ↦ inr (w.0, omega (arith, w.1, later), omega (arith, w.2, long, length-append told.entries tells.more), ap (λ l. get_or l w.0 0) all_nodes ∙ node_first told.entries tells.more w.0 w.2 ∙ w.3)
+        ]
+      ]
+      | inr differ ↦
+          let h = tells.each from kept differ in
+          inr (length told.entries + h.0, omega (arith, lt), omega (arith, h.1, long, length-append told.entries tells.more), ap (λ l. get_or l (length told.entries + h.0) 0) all_nodes ∙ node_behind told.entries tells.more h.0 ∙ h.2)
+    ]
+
+pub waiting_none : (arcs : List Arc) (lengths : List ℕ) (told : Told) (next : ℕ) → AreWaiting arcs lengths told next → length told.entries ≤ next → told.lost ≡ false → AreSpread arcs lengths
+waiting_none arcs lengths told next waiting le kept k d lt = elim (waiting kept k d lt) [
+  | inl spread ↦ spread
+  | inr w ↦ absurd (omega (arith, w.1, w.2, le))
+]
+
+-- the arcs that begin below the next place, after the node of this one
+pub swept_next : (arcs : List Arc) (places old new : List ℕ) (node place : ℕ) → AreRising arcs places → AreWithin (length places) arcs → get_or places node 0 ≡ place
+    → ((v : ℕ) → v < length places → get_or places v 0 ≡ place → v ≡ node) → Spreads arcs node old new
+    → ((k : ℕ) (d : Arc) → k < length arcs → get_or places (get_or arcs k d).from 0 < place → IsSpread old (get_or arcs k d))
+    → (k : ℕ) (d : Arc) → k < length arcs → get_or places (get_or arcs k d).from 0 < place + 1 → IsSpread new (get_or arcs k d)
+swept_next arcs places old new node place rising within at only spreads before k d lt low =
+    let from = (get_or arcs k d).from in
+    elim (cases_eq (get_or old from 0) (get_or new from 0)) [
+      | inl same ↦ elim (cases_lt (get_or places from 0) place) [
+        | inl less ↦ spreads.spread k d lt (inr (before k d lt less)) same
+        | inr le ↦ spreads.spread k d lt (inl (only from (within k d lt).0 (omega (arith, low, le)))) same
+      ]
+      | inr differ ↦
+          let h = spreads.only from differ in
+          let r = rising h.0 d h.1 in
+          let e = h.2 d in
+          absurd (omega (arith, r, ap (λ z. get_or places z 0) e.0, ap (λ z. get_or places z 0) e.1, at, low))
+    ]
