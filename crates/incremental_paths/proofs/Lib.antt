@@ -18,3 +18,4 @@ pub mod Marking
 pub mod Telling
 pub mod Spreading
 pub mod Pushing
+pub mod Tracing

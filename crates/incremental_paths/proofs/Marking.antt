@@ -1,22 +1,13 @@
 -- Marks spread along arcs, from the nodes of one place after the other.
 use Rattle.std.proofs.Common.{◌≡◌, ◌≢◌, ℕ, ◌+◌, ◌-◌, ◌<◌, ◌≤◌, ◌⊎◌, inl, inr, Bool, true, false, List, [], ◌∷◌, ◌++◌, length, get_or, set, map, refl, sym, ap, ◌∙◌, subst, arith, Contains, get_or-set_other, get_or-set_same}
 use Rattle.std.proofs.lemmas.Bool.{cases_eq, cases_lt, false≢true}
-use Rattle.std.proofs.lemmas.List.{get_or-map, length-map, get_or_default}
 use Rattle.incremental_paths.specs.declared.arc.Arc.{Arc}
 use Rattle.incremental_paths.specs.Walks.{Follows, last_from, IsJoined}
-use Rattle.incremental_paths.specs.Threaded.{IsFront}
 use Rattle.incremental_paths.specs.Ordered.{is_marked}
 use Rattle.incremental_paths.specs.Marked.{begins, AreWithin, AreRising, AreMarks}
 use Rattle.incremental_paths.proofs.Members.{joined}
 use Rattle.incremental_paths.proofs.Steps.{Follows_push, last_push}
 use Rattle.incremental_paths.proofs.Pairs.{contains_at}
-use Rattle.incremental_paths.proofs.Threading.{IsAt, NoneFrom, none_next}
-
-pub begins_at : (arcs : List Arc) (k : ℕ) (d : Arc) → k < length arcs → get_or (begins arcs) k 0 ≡ (get_or arcs k d).from
-begins_at arcs k d lt = get_or-map (λ (a : Arc). a.from) arcs k d 0 lt
-
-pub begins_long : (arcs : List Arc) → length (begins arcs) ≡ length arcs
-begins_long arcs = length-map arcs (λ (a : Arc). a.from)
 
 pub set_still : (M : List Bool) (t v : ℕ) → is_marked M v ≡ true → t < length M → is_marked (set M t true) v ≡ true
 set_still M t v m lt = elim (cases_eq v t) [
@@ -33,31 +24,6 @@ set_only M t v m = elim (cases_eq v t) [
 -- one arc of the node
 abbrev pub IsEnd : List Arc → ℕ → ℕ → Type 0
 IsEnd arcs node v = (k : ℕ) × (k < length arcs) × ((d : Arc) → ((get_or arcs k d).from ≡ node) × ((get_or arcs k d).to ≡ v))
-
-module _ (arcs : List Arc) (keys : List ℕ) (is : keys ≡ begins arcs) (node front : ℕ) where
-  pub none_first : IsFront keys (length keys) node front → (k : ℕ) (d : Arc) → front ≤ k → k < length arcs → (get_or arcs k d).from ≢ node
-  none_first f k d le lt e =
-      let long : length keys ≡ length arcs = ap length is ∙ begins_long arcs in
-      f.none_behind k le (omega (arith, long, lt)) (ap (λ z. get_or z k 0) is ∙ begins_at arcs k d lt ∙ e)
-
-  module _ (at : IsAt keys node front) (some : 0 < front) where
-    pub in_arcs : front - 1 < length arcs
-    in_arcs = omega (arith, at.within, some, ap length is, begins_long arcs)
-
-    pub begins_here : (d : Arc) → (get_or arcs (front - 1) d).from ≡ node
-    begins_here d = sym (begins_at arcs (front - 1) d in_arcs) ∙ sym (ap (λ z. get_or z (front - 1) 0) is) ∙ at.last some
-
-    -- what holds of the arcs behind the front, and of the last of it, holds of those behind the next front
-    pub ends_next : (P : Arc → Type 0) (next : ℕ) → IsFront keys (front - 1) (get_or keys (front - 1) 0) next
-        → ((k : ℕ) (d : Arc) → front ≤ k → k < length arcs → (get_or arcs k d).from ≡ node → P (get_or arcs k d))
-        → ((d : Arc) → P (get_or arcs (front - 1) d)) → (k : ℕ) (d : Arc) → next ≤ k → k < length arcs → (get_or arcs k d).from ≡ node → P (get_or arcs k d)
-    ends_next P next f behind here k d le lt e = elim (cases_lt k (front - 1)) [
-      | inl less ↦ absurd (none_next keys node front at some next f k le less (ap (λ z. get_or z k 0) is ∙ begins_at arcs k d lt ∙ e))
-      | inr more ↦ elim (cases_eq k (front - 1)) [
-        | inl same ↦ subst (λ z. P (get_or arcs z d)) (sym same) (here d)
-        | inr other ↦ behind k d (omega (arith, more, other)) lt e
-      ]
-    ]
 
 module _ (arcs : List Arc) (places : List ℕ) (rising : AreRising arcs places) (start node : ℕ) (M new : List Bool) (marks : AreMarks arcs places start (get_or places node 0) M)
     (only_here : (v : ℕ) → v < length places → get_or places v 0 ≡ get_or places node 0 → v ≡ node) (within : AreWithin (length places) arcs) where

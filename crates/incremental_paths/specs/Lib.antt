@@ -5,4 +5,5 @@ pub mod Linked
 pub mod Ordered
 pub mod Marked
 pub mod Spread
+pub mod Back
 pub mod Kept

@@ -6,6 +6,7 @@
 #![tactic(auto)]
 
 mod arc;
+mod back;
 mod changes;
 mod faults;
 mod laws;
