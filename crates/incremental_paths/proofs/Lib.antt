@@ -19,3 +19,4 @@ pub mod Telling
 pub mod Spreading
 pub mod Pushing
 pub mod Tracing
+pub mod Reordering

@@ -3,6 +3,7 @@ use Rattle.std.proofs.Common.{◌≡◌, ◌≢◌, ℕ, ◌+◌, ◌-◌, ◌<�
 use Rattle.std.specs.Prelude.{All}
 use Rattle.std.proofs.lemmas.Bool.{cases_eq, cases_lt}
 use Rattle.std.proofs.lemmas.List.{get_or_default, length-set}
+use Rattle.std.proofs.lemmas.List.Elements.{Contains-push}
 use Rattle.incremental_paths.specs.declared.arc.Arc.{Arc}
 use Rattle.incremental_paths.specs.Walks.{IsWalkTo, walk_length}
 use Rattle.incremental_paths.specs.Spread.{AreReached, IsSpread, Spreads, SpreadsOne, WalksFit, IsEnd}
@@ -71,3 +72,19 @@ one_spread a lengths new to apart one =
 
 pub still_spread : (b : Arc) (lengths new : List ℕ) → ((v : ℕ) → get_or lengths v 0 ≤ get_or new v 0) → IsSpread lengths b → get_or lengths b.from 0 ≡ get_or new b.from 0 → IsSpread new b
 still_spread b lengths new grows spread same = omega (arith, spread, same, grows b.to)
+
+pub reached_lowers : (lowers : List ℕ) (arcs : List Arc) → AreReached lowers arcs lowers
+reached_lowers lowers arcs = record {
+  sized = refl;
+  lowest = λ v. omega arith;
+  attained = λ v lt. (v ∷ [], (lt, tt, refl), omega arith);
+}
+
+pub last_in : (arcs front : List Arc) (a : Arc) → arcs ≡ front ++ a ∷ [] → Contains arcs a
+last_in arcs front a is = subst (λ z. Contains z a) (sym is) (Contains-push front a)
+
+pub set_grows : (xs : List ℕ) (i x : ℕ) → i < length xs → get_or xs i 0 < x → (v : ℕ) → get_or xs v 0 ≤ get_or (set xs i x) v 0
+set_grows xs i x lt above v = elim (cases_eq v i) [
+  | inl same ↦ rw same (omega (arith, above, get_or-set_same xs i x 0 lt))
+  | inr other ↦ omega (arith, get_or-set_other xs i v x 0 other)
+]

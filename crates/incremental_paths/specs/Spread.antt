@@ -37,6 +37,10 @@ pub record Told : Type 0 where
 abbrev pub told_nodes : Told → List ℕ
 told_nodes told = map (λ c. c.node) told.entries
 
+-- where no changes are lost, they are of the first n nodes
+abbrev pub AreNodes : Told → ℕ → Type 0
+AreNodes told n = told.lost ≡ false → (i : ℕ) → i < length told.entries → slice_index (told_nodes told) i < n
+
 -- along each arc the lengths are spread, or its beginning stands among the changes from a place on, where none are lost
 abbrev pub AreWaiting : List Arc → List ℕ → Told → ℕ → Type 0
 AreWaiting arcs lengths told from = told.lost ≡ false → (k : ℕ) (d : Arc) → k < length arcs

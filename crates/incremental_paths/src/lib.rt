@@ -14,6 +14,7 @@ mod lengths;
 mod marks;
 mod marks2;
 mod order;
+mod ordering;
 mod paths;
 mod ranked;
 mod search;
@@ -22,6 +23,7 @@ mod shifts;
 mod spread;
 mod threads;
 mod trace;
+mod trail;
 mod way;
 
 pub use arc::Arc;

@@ -1,7 +1,7 @@
-ghost use Rattle.std.specs.Prelude.{ℕ, ◌≡◌, ◌≢◌, ◌<◌, ◌≤◌, ◌+◌, ◌^◌, List, [], true, false, All, length, slice_index};
+ghost use Rattle.std.specs.Prelude.{ℕ, ◌≡◌, ◌≢◌, ◌<◌, ◌≤◌, ◌+◌, ◌^◌, ◌∷◌, ◌++◌, List, [], true, false, All, length, slice_index, slice_set};
 ghost use Rattle.incremental_paths.specs.declared.arc.Arc.{Arc};
 ghost use Rattle.incremental_paths.specs.Marked.{begins, AreWithin, AreRising};
-ghost use Rattle.incremental_paths.specs.Spread.{AreLengths, AreReached, AreSpread, AreWaiting, told_nodes, Spreads, SpreadsOne, WalksFit, TellsMore};
+ghost use Rattle.incremental_paths.specs.Spread.{AreLengths, AreReached, AreSpread, AreWaiting, AreNodes, Spreads, SpreadsOne, WalksFit, TellsMore};
 
 use crate::arc::Arc;
 use crate::changes::Changes;
@@ -55,7 +55,7 @@ fn push_on(arcs: &[Arc], begun: &Threads, lengths: &mut [u64], changes: &mut Cha
     requires within { AreWithin (length lengths.old) arcs.now }
     requires apart { All (λ a. a.from ≢ a.to) arcs.now }
     requires reached { (lowers : List ℕ) × AreReached lowers arcs.now lengths.old × WalksFit lowers arcs.now }
-    requires told { (i : ℕ) → i < length changes.old.entries → slice_index (told_nodes changes.old) i < length lengths.old }
+    requires told { AreNodes changes.old (length lengths.old) }
     requires waiting { AreWaiting arcs.now lengths.old changes.old 0 }
     ensures reached { (lowers : List ℕ) → AreReached lowers arcs.now lengths.old → AreReached lowers arcs.now lengths.new }
     ensures spread { changes.new.lost ≡ false → AreSpread arcs.now lengths.new }
@@ -108,7 +108,7 @@ pub fn settle(
     requires within { AreWithin (length lengths.old) arcs.now }
     requires rising { AreRising arcs.now order.now }
     requires reached { (lowers : List ℕ) × AreReached lowers arcs.now lengths.old × WalksFit lowers arcs.now }
-    requires told { (i : ℕ) → i < length changes.old.entries → slice_index (told_nodes changes.old) i < length lengths.old }
+    requires told { AreNodes changes.old (length lengths.old) }
     requires waiting { AreWaiting arcs.now lengths.old changes.old 0 }
     ensures reached { (lowers : List ℕ) → AreReached lowers arcs.now lengths.old → AreReached lowers arcs.now lengths.new }
     ensures spread { AreSpread arcs.now lengths.new }
@@ -118,4 +118,89 @@ pub fn settle(
     if changes.is_lost() {
         sweep(arcs, begun, order, lengths, changes);
     }
+}
+
+/// Spreads lengths along the last arc, which is new, and on from its end.
+pub fn spread_last(
+    arcs: &[Arc],
+    begun: &Threads,
+    order: &Order,
+    lengths: &mut [u64],
+    changes: &mut Changes,
+    arc: Arc,
+)
+    requires begun { begun.now ≡ record { size = length lengths.old; keys = begins arcs.now } }
+    requires sizes { length order.now ≡ length lengths.old }
+    requires within { AreWithin (length lengths.old) arcs.now }
+    requires rising { AreRising arcs.now order.now }
+    requires reached { (lowers : List ℕ) × AreReached lowers arcs.now lengths.old × WalksFit lowers arcs.now }
+    requires cleared { changes.old ≡ record { entries = []; lost = false } }
+    requires last { (front : List Arc) × (arcs.now ≡ front ++ arc ∷ []) × AreSpread front lengths.old }
+    ensures reached { (lowers : List ℕ) → AreReached lowers arcs.now lengths.old → AreReached lowers arcs.now lengths.new }
+    ensures spread { AreSpread arcs.now lengths.new }
+    ensures tells { TellsMore changes.old changes.new lengths.old lengths.new }
+{
+    raise_end(arc, lengths, changes);
+    settle(arcs, begun, order, lengths, changes);
+}
+
+/// Raises the length of a node, and spreads lengths on from there.
+pub fn spread_node(
+    arcs: &[Arc],
+    begun: &Threads,
+    order: &Order,
+    lengths: &mut [u64],
+    changes: &mut Changes,
+    node: u32,
+    raised: u64,
+)
+    requires begun { begun.now ≡ record { size = length lengths.old; keys = begins arcs.now } }
+    requires sizes { length order.now ≡ length lengths.old }
+    requires within { AreWithin (length lengths.old) arcs.now }
+    requires rising { AreRising arcs.now order.now }
+    requires node { node < length lengths.old }
+    requires above { slice_index lengths.old node < raised }
+    requires reached { (lowers : List ℕ) × AreReached lowers arcs.now (slice_set lengths.old node raised) × WalksFit lowers arcs.now }
+    requires cleared { changes.old ≡ record { entries = []; lost = false } }
+    requires spread { AreSpread arcs.now lengths.old }
+    ensures reached { (lowers : List ℕ) → AreReached lowers arcs.now (slice_set lengths.old node raised) → AreReached lowers arcs.now lengths.new }
+    ensures spread { AreSpread arcs.now lengths.new }
+    ensures tells { TellsMore changes.old changes.new lengths.old lengths.new }
+{
+    raise_one(lengths, changes, node, raised);
+    settle(arcs, begun, order, lengths, changes);
+}
+
+// Raises one length.
+fn raise_one(lengths: &mut [u64], changes: &mut Changes, node: u32, raised: u64)
+    requires node { node < length lengths.old }
+    requires above { slice_index lengths.old node < raised }
+    ensures lengths { lengths.new ≡ slice_set lengths.old node raised }
+    ensures tells { TellsMore changes.old changes.new lengths.old lengths.new }
+{
+    changes.tell(node, lengths[node as usize]);
+    lengths[node as usize] = raised;
+}
+
+/// Computes each node's length anew.
+pub fn spread_anew(
+    arcs: &[Arc],
+    begun: &Threads,
+    order: &Order,
+    lowers: &[u64],
+    lengths: &mut [u64],
+    changes: &mut Changes,
+)
+    requires sized { length lengths.old ≡ length lowers.now }
+    requires begun { begun.now ≡ record { size = length lowers.now; keys = begins arcs.now } }
+    requires sizes { length order.now ≡ length lowers.now }
+    requires within { AreWithin (length lowers.now) arcs.now }
+    requires rising { AreRising arcs.now order.now }
+    requires fit { WalksFit lowers.now arcs.now }
+    ensures reached { AreReached lowers.now arcs.now lengths.new }
+    ensures spread { AreSpread arcs.now lengths.new }
+{
+    lengths.copy_from_slice(lowers);
+    changes.lose();
+    sweep(arcs, begun, order, lengths, changes);
 }
