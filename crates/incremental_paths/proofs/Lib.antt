@@ -1,12 +1,5 @@
 pub mod Members
 pub mod Steps
-pub mod Ranks
-pub mod Adds
-pub mod SweptLengths
-pub mod SweptMarks
-pub mod Traced
-pub mod KeptFields
-pub mod TracedWays
 pub mod Bounds
 pub mod WaysBack
 pub mod Linking
@@ -20,3 +13,5 @@ pub mod Spreading
 pub mod Pushing
 pub mod Tracing
 pub mod Reordering
+pub mod Undoing
+pub mod KeptFields

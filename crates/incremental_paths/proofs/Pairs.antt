@@ -37,9 +37,9 @@ module _ {X : Type 0} (R : X → X → Type 0) where
             let j_lt : j - length xs < length ys = omega (arith, jy, below, all) in
             elim (cases_lt i (length xs)) [
               | inl ix ↦ rw (get_or_append_left xs ys d i ix, get_or-append_right xs ys (length xs) j d refl jy)
-                (cross (get_or xs i d) (get_or ys (j - length xs) d) (contains_at xs i d ix) (contains_at ys (j - length xs) d j_lt))
+                  (cross (get_or xs i d) (get_or ys (j - length xs) d) (contains_at xs i d ix) (contains_at ys (j - length xs) d j_lt))
               | inr iy ↦ rw (get_or-append_right xs ys (length xs) i d refl iy, get_or-append_right xs ys (length xs) j d refl jy)
-                (py (i - length xs) (j - length xs) d (omega (arith, iy, jy, lt)) j_lt)
+                  (py (i - length xs) (j - length xs) d (omega (arith, iy, jy, lt)) j_lt)
             ]
       ]
 

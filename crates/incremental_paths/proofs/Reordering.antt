@@ -37,6 +37,6 @@ module _ (arcs : List Arc) (places : List ℕ) (rising : AreRising arcs places) 
       → IsLifted marks (get_or places a.to 0) (get_or places a.from 0) places new → AreRising (arcs ++ a ∷ []) new
   rising_lifted new within from to free low lifted =
       rising_more arcs new a (λ k d lt.
-          let up = rising k d lt in
-          lifted.kept (get_or arcs k d).from (get_or arcs k d).to (within k d lt).0 (within k d lt).1 up (λ l h m. are.closed k d lt m (omega (arith, up, h))))
+      let up = rising k d lt in
+      lifted.kept (get_or arcs k d).from (get_or arcs k d).to (within k d lt).0 (within k d lt).1 up (λ l h m. are.closed k d lt m (omega (arith, up, h))))
       (lifted.lifted a.from a.to from to free are.started low (omega arith) (omega arith) low)

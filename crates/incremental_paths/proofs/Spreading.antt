@@ -88,3 +88,50 @@ set_grows xs i x lt above v = elim (cases_eq v i) [
   | inl same ↦ rw same (omega (arith, above, get_or-set_same xs i x 0 lt))
   | inr other ↦ omega (arith, get_or-set_other xs i v x 0 other)
 ]
+
+-- with a greater lower of one node, walks are no shorter
+raised_walk : (lowers : List ℕ) (node lower : ℕ) → node < length lowers → lower ≤ get_or lowers node 0 → (arcs : List Arc) (v : ℕ) (nodes : List ℕ) → IsWalkTo (set lowers node lower) arcs v nodes
+    → IsWalkTo lowers arcs v nodes × (walk_length (set lowers node lower) arcs nodes ≤ walk_length lowers arcs nodes)
+raised_walk lowers node lower lt le arcs v [] walk = absurd walk
+raised_walk lowers node lower lt le arcs v (u ∷ rest) walk =
+    let below : get_or (set lowers node lower) u 0 ≤ get_or lowers u 0 = elim (cases_eq u node) [
+      | inl same ↦ rw same (omega (arith, le, get_or-set_same lowers node lower 0 lt))
+      | inr other ↦ omega (arith, get_or-set_other lowers node u lower 0 other)
+    ] in
+    ((omega (arith, walk.0, length-set lowers node lower), walk.1, walk.2), omega (arith, below))
+
+module _ (lowers : List ℕ) (node lower : ℕ) (lt : node < length lowers) (le : lower ≤ get_or lowers node 0) (arcs : List Arc) (lengths : List ℕ) (reached : AreReached (set lowers node lower) arcs lengths) where
+  as_long : length lengths ≡ length lowers
+  as_long = reached.sized ∙ length-set lowers node lower
+
+  old_walk : (v : ℕ) → v < length lowers → (nodes : List ℕ) × IsWalkTo lowers arcs v nodes × (get_or lengths v 0 ≤ walk_length lowers arcs nodes)
+  old_walk v below =
+      let h = reached.attained v (omega (arith, below, length-set lowers node lower)) in
+      let w = raised_walk lowers node lower lt le arcs v h.0 h.1 in
+      (h.0, w.0, omega (arith, w.1, h.2))
+
+  pub reached_still : get_or lowers node 0 ≤ get_or lengths node 0 → AreReached lowers arcs lengths
+  reached_still enough = record {
+    sized = as_long;
+    lowest = λ v. elim (cases_eq v node) [
+      | inl same ↦ rw same enough
+      | inr other ↦ omega (arith, reached.lowest v, get_or-set_other lowers node v lower 0 other)
+    ];
+    attained = old_walk;
+  }
+
+  pub reached_raised : get_or lengths node 0 < get_or lowers node 0 → AreReached lowers arcs (set lengths node (get_or lowers node 0))
+  reached_raised less =
+      let value = get_or lowers node 0 in
+      let here = get_or-set_same lengths node value 0 (omega (arith, as_long, lt)) in
+      record {
+        sized = length-set lengths node value ∙ as_long;
+        lowest = λ v. elim (cases_eq v node) [
+          | inl same ↦ rw same (omega (arith, here))
+          | inr other ↦ omega (arith, reached.lowest v, get_or-set_other lowers node v lower 0 other, get_or-set_other lengths node v value 0 other)
+        ];
+        attained = λ v below. elim (cases_eq v node) [
+          | inl same ↦ rw same (node ∷ [], (lt, tt, refl), omega (arith, here))
+          | inr other ↦ let h = old_walk v below in (h.0, h.1, omega (arith, h.2, get_or-set_other lengths node v value 0 other))
+        ];
+      }

@@ -51,4 +51,3 @@ module _ (key : Arc → ℕ) (arcs : List Arc) (keys : List ℕ) (is : keys ≡ 
         | inr other ↦ behind k d (omega (arith, more, other)) lt e
       ]
     ]
-

@@ -63,7 +63,7 @@ pub record TellsMore (old new : Told) (before after : List ℕ) : Type 0 where
 -- the arc has been spread along, if need be by raising the length of its end
 abbrev pub SpreadsOne : Arc → List ℕ → List ℕ → Type 0
 SpreadsOne arc before after = ((slice_index before arc.from + arc.length ≤ slice_index before arc.to) × (after ≡ before))
-  ⊎ ((slice_index before arc.to < slice_index before arc.from + arc.length) × (after ≡ slice_set before arc.to (slice_index before arc.from + arc.length)))
+    ⊎ ((slice_index before arc.to < slice_index before arc.from + arc.length) × (after ≡ slice_set before arc.to (slice_index before arc.from + arc.length)))
 
 -- some arc leads from the node to v
 abbrev pub IsEnd : List Arc → ℕ → ℕ → Type 0

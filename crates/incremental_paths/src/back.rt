@@ -7,8 +7,9 @@ ghost use Rattle.incremental_paths.specs.Spread.{AreLengths, WalksFit};
 ghost use Rattle.incremental_paths.specs.Back.{Gives, ComesFromMarked};
 
 use crate::arc::Arc;
-use crate::marks2::Marks;
+use crate::marks::Marks;
 use crate::order::Order;
+use crate::search::mark_from;
 use crate::threads::Threads;
 use std::alloc::{AllocError, Global};
 
@@ -46,13 +47,7 @@ pub fn walk_back(
 }
 
 // A node from which an arc gives this one its length, and `None` where its lower does.
-fn giver(
-    arcs: &[Arc],
-    ended: &Threads,
-    lowers: &[u64],
-    lengths: &[u64],
-    node: u32,
-) -> Option<u32>
+fn giver(arcs: &[Arc], ended: &Threads, lowers: &[u64], lengths: &[u64], node: u32) -> Option<u32>
     requires ended { ended.now ≡ record { size = length lowers.now; keys = ends arcs.now } }
     requires sizes { length lengths.now ≡ length lowers.now }
     requires within { AreWithin (length lowers.now) arcs.now }
@@ -78,8 +73,8 @@ fn giver(
     None
 }
 
-/// A way to a marked node, traced back along arcs from marked nodes.
-pub fn way_back(
+// A way to a marked node, traced back along arcs from marked nodes.
+fn way_back(
     alloc: Global,
     arcs: &[Arc],
     ended: &Threads,
@@ -126,4 +121,38 @@ fn marked_before(arcs: &[Arc], ended: &Threads, marks: &Marks, node: u32) -> u32
         front = ended.before(front - 1);
     }
     unreachable!()
+}
+
+/// The nodes of a way from one node to another, where there is one.
+pub fn find_way(
+    alloc: Global,
+    arcs: &[Arc],
+    begun: &Threads,
+    ended: &Threads,
+    order: &Order,
+    from: u32,
+    to: u32,
+) -> Result<Option<Vec<u32>>, AllocError>
+    requires begun { begun.now ≡ record { size = length order.now; keys = begins arcs.now } }
+    requires ended { ended.now ≡ record { size = length order.now; keys = ends arcs.now } }
+    requires within { AreWithin (length order.now) arcs.now }
+    requires rising { AreRising arcs.now order.now }
+    requires from { from < length order.now }
+    requires to { to < length order.now }
+    ensures way { IfOk result (λ found. IfSome found (λ way. Leads arcs.now from to way.items)) }
+    ensures none { IfOk result (λ found. IfNone found ((way : List ℕ) → ¬ Leads arcs.now from to way)) }
+{
+    let mut marks = Marks::new(alloc, order.size())?;
+    mark_from(
+        arcs,
+        begun,
+        order,
+        &mut marks,
+        from,
+        order.place(to) as usize,
+    );
+    if !marks.has(to) {
+        return Ok(None);
+    }
+    Ok(Some(way_back(alloc, arcs, ended, order, &marks, from, to)?))
 }

@@ -1,7 +1,7 @@
 ghost use Rattle.std.specs.Prelude.{ℕ, ◌≡◌, ◌<◌, ◌≤◌, ◌^◌, List, Bool, length, slice_index, IfOk, OnErr};
 ghost use Rattle.incremental_paths.specs.Ordered.{IsLifted};
 
-use crate::marks2::Marks;
+use crate::marks::Marks;
 use crate::shifts::{count_up, lift_marked};
 use std::alloc::{AllocError, Global};
 use std::marker::Model;
@@ -26,7 +26,7 @@ impl Model for Order {
 
 impl Order {
     /// This many nodes, in the order of their numbers.
-    pub fn new(alloc: Global, nodes: usize) -> Result<Self, AllocError>
+    pub(crate) fn new(alloc: Global, nodes: usize) -> Result<Self, AllocError>
         requires { nodes < 2 ^ 32 }
         ensures { IfOk result (λ order. length order ≡ nodes) }
     {
@@ -38,7 +38,7 @@ impl Order {
     }
 
     /// How many nodes there are, which is more than any place.
-    pub fn size(&self) -> usize
+    pub(crate) fn size(&self) -> usize
         ensures is { result ≡ length self.now }
         ensures above { (v : ℕ) → v < length self.now → slice_index self.now v < length self.now }
     {
@@ -55,7 +55,7 @@ impl Order {
     }
 
     /// The node at this place.
-    pub fn node(&self, place: usize) -> u32
+    pub(crate) fn node(&self, place: usize) -> u32
         requires { place < length self.now }
         ensures within { result < length self.now }
         ensures is { slice_index self.now result ≡ place }
@@ -65,7 +65,7 @@ impl Order {
     }
 
     /// Moves the marked nodes between two places behind the others that are there.
-    pub fn lift(
+    pub(crate) fn lift(
         &mut self,
         alloc: Global,
         marks: &Marks,

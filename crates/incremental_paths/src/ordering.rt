@@ -4,7 +4,7 @@ ghost use Rattle.incremental_paths.specs.Marked.{begins, AreWithin, AreRising};
 
 use crate::arc::Arc;
 use crate::faults::AddNo;
-use crate::marks2::Marks;
+use crate::marks::Marks;
 use crate::order::Order;
 use crate::search::mark_from;
 use crate::threads::Threads;

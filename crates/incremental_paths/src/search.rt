@@ -4,7 +4,7 @@ ghost use Rattle.incremental_paths.specs.Ordered.{is_marked};
 ghost use Rattle.incremental_paths.specs.Marked.{begins, AreWithin, AreRising, AreMarks};
 
 use crate::arc::Arc;
-use crate::marks2::Marks;
+use crate::marks::Marks;
 use crate::order::Order;
 use crate::threads::Threads;
 

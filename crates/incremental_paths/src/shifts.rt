@@ -1,7 +1,7 @@
 ghost use Rattle.std.specs.Prelude.{ℕ, ◌≡◌, ◌≢◌, ◌<◌, ◌≤◌, ◌+◌, ◌^◌, ◌++◌, true, false, length, slice_index, IfOk, OnOk, OnErr, All, AllPairs, filter, take, drop};
 ghost use Rattle.incremental_paths.specs.Ordered.{is_as, AreOrdered, IsLifted};
 
-use crate::marks2::Marks;
+use crate::marks::Marks;
 use std::alloc::{AllocError, Global};
 
 /// The numbers below `nodes`, in their order.
@@ -35,11 +35,7 @@ fn push_marked(
 }
 
 // The nodes, with those that are marked behind the others.
-fn marked_last(
-    alloc: Global,
-    nodes: &[u32],
-    marks: &Marks,
-) -> Result<Vec<u32>, AllocError>
+fn marked_last(alloc: Global, nodes: &[u32], marks: &Marks) -> Result<Vec<u32>, AllocError>
     requires { All (λ v. v < length marks.now) nodes.now }
     ensures { IfOk result (λ all. all.items ≡ filter (is_as marks.now false) nodes.now ++ filter (is_as marks.now true) nodes.now) }
 {

@@ -74,13 +74,7 @@ fn push_on(arcs: &[Arc], begun: &Threads, lengths: &mut [u64], changes: &mut Cha
 }
 
 /// Spreads lengths along all arcs, in the order of where they begin.
-fn sweep(
-    arcs: &[Arc],
-    begun: &Threads,
-    order: &Order,
-    lengths: &mut [u64],
-    changes: &mut Changes,
-)
+fn sweep(arcs: &[Arc], begun: &Threads, order: &Order, lengths: &mut [u64], changes: &mut Changes)
     requires begun { begun.now ≡ record { size = length lengths.old; keys = begins arcs.now } }
     requires sizes { length order.now ≡ length lengths.old }
     requires within { AreWithin (length lengths.old) arcs.now }
@@ -144,8 +138,8 @@ pub fn spread_last(
     settle(arcs, begun, order, lengths, changes);
 }
 
-/// Raises the length of a node, and spreads lengths on from there.
-pub fn spread_node(
+// Raises the length of a node, and spreads lengths on from there.
+fn spread_node(
     arcs: &[Arc],
     begun: &Threads,
     order: &Order,
@@ -203,4 +197,34 @@ pub fn spread_anew(
     lengths.copy_from_slice(lowers);
     changes.lose();
     sweep(arcs, begun, order, lengths, changes);
+}
+
+/// Raises the length of a node to its lower, which is new, and spreads lengths on from there.
+pub fn raise_length(
+    arcs: &[Arc],
+    begun: &Threads,
+    order: &Order,
+    lowers: &[u64],
+    lengths: &mut [u64],
+    changes: &mut Changes,
+    node: u32,
+)
+    requires sized { length lengths.old ≡ length lowers.now }
+    requires begun { begun.now ≡ record { size = length lowers.now; keys = begins arcs.now } }
+    requires sizes { length order.now ≡ length lowers.now }
+    requires within { AreWithin (length lowers.now) arcs.now }
+    requires rising { AreRising arcs.now order.now }
+    requires node { node < length lowers.now }
+    requires fit { WalksFit lowers.now arcs.now }
+    requires cleared { changes.old ≡ record { entries = []; lost = false } }
+    requires before { (lower : ℕ) × (lower ≤ slice_index lowers.now node) × AreReached (slice_set lowers.now node lower) arcs.now lengths.old }
+    requires spread { AreSpread arcs.now lengths.old }
+    ensures reached { AreReached lowers.now arcs.now lengths.new }
+    ensures spread { AreSpread arcs.now lengths.new }
+    ensures tells { TellsMore changes.old changes.new lengths.old lengths.new }
+{
+    let lower = lowers[node as usize];
+    if lengths[node as usize] < lower {
+        spread_node(arcs, begun, order, lengths, changes, node, lower);
+    }
 }

@@ -1,4 +1,4 @@
-ghost use Rattle.std.specs.Prelude.{◌≡◌, ◌<◌, ◌^◌, length, All, IfOk};
+ghost use Rattle.std.specs.Prelude.{◌≡◌, ◌<◌, ◌≤◌, ◌^◌, length, All, IfOk};
 
 use crate::{AddNo, Paths};
 use std::alloc::Global;
@@ -168,5 +168,45 @@ fn walks_and_ways_are_given_from_their_beginning(rt: HostRuntime) -> Result<(), 
     let way = paths.between(2, 2)?.ok_or("no way")?;
     assert_eq!(rt; way.as_slice(), [2].as_slice());
     assert!(rt; paths.between(0, 3)?.is_none());
+    Ok(())
+}
+
+#[test]
+fn a_raise_stays_where_arcs_are_withdrawn_together(rt: HostRuntime) -> Result<(), Fail> {
+    let rows: [(Step, &[u64]); 6] = [
+        (Step::Add(0, 1, 10), &[0, 10, 0]),
+        (Step::Raise(2, 7), &[0, 10, 7]),
+        (Step::Add(1, 2, 10), &[0, 10, 20]),
+        (Step::Add(0, 2, 30), &[0, 10, 30]),
+        (Step::Withdraw(2), &[0, 10, 7]),
+        (Step::Withdraw(1), &[0, 0, 7]),
+    ];
+    run(&rt, rt.alloc(), &[0, 0, 0], &rows)?;
+    Ok(())
+}
+
+// A chain of nodes, whose arcs are made from its end to its beginning, against the order of the numbers.
+fn chain(rt: &impl Abort, alloc: Global, nodes: u32) -> Result<Paths, Fail>
+    requires { nodes ≤ 1000 }
+    ensures nodes { IfOk result (λ paths. length paths.lowers ≡ nodes) }
+    ensures lowers { IfOk result (λ paths. All (λ lower. lower < 2 ^ 32) paths.lowers) }
+    ensures lengths { IfOk result (λ paths. All (λ arc. arc.length < 2 ^ 32) paths.arcs) }
+{
+    let lowers = vec![in alloc; 0u64; nodes as usize]?;
+    let mut paths = Paths::new(alloc, &lowers)?;
+    for end in 1..nodes {
+        add(rt, &mut paths, nodes as usize, end, end - 1, 1)?;
+    }
+    Ok(paths)
+}
+
+#[test]
+fn a_long_chain_and_the_arc_that_closes_it(rt: HostRuntime) -> Result<(), Fail> {
+    let mut paths = chain(&rt, rt.alloc(), 1000)?;
+    assert_eq!(rt; paths.length(0), 999);
+    assert!(rt; paths.place(999) < paths.place(0));
+    let closed = add(&rt, &mut paths, 1000, 0, 999, 0);
+    assert_eq!(rt; closed, Err(AddNo::Closes { from: 0, to: 999 }));
+    assert_eq!(rt; paths.walk(0)?.len(), 1000);
     Ok(())
 }

@@ -1,9 +1,9 @@
-ghost use Rattle.std.specs.Prelude.{ℕ, ◌≡◌, ◌<◌, ◌≤◌, ◌-◌, ◌∷◌, ◌++◌, [], All, length, take, drop, OnOk, OnErr};
+ghost use Rattle.std.specs.Prelude.{ℕ, ◌≡◌, ◌<◌, ◌≤◌, ◌-◌, ◌∷◌, ◌++◌, ◌⊎◌, [], All, true, false, length, take, drop, OnOk, OnErr};
 ghost use Rattle.incremental_paths.specs.Threaded.{threaded_with};
 ghost use Rattle.incremental_paths.specs.Spread.{restored};
 
 use crate::arc::Arc;
-use crate::changes::Change;
+use crate::changes::{Change, Changes};
 use crate::threads::Threads;
 use std::alloc::AllocError;
 
@@ -82,4 +82,17 @@ fn link(begun: &mut Threads, ended: &mut Threads, arc: Arc) -> Result<(), AllocE
             Err(fault)
         }
     }
+}
+
+/// Puts the changes behind the others, if all are told and there is room, and else forgets all. Gives
+/// how many of the first arcs are stale then: `stale` as before, or all of them.
+pub fn keep_changes(changes: &Changes, trail: &mut Vec<Change>, stale: usize, arcs: usize) -> usize
+    ensures { ((result ≡ stale) × (changes.now.lost ≡ false) × (trail.new.items ≡ trail.old.items ++ changes.now.entries))
+        ⊎ ((result ≡ arcs) × (trail.new.items ≡ [])) }
+{
+    if !changes.is_lost() && trail.extend_from_slice(changes.entries()).is_ok() {
+        return stale;
+    }
+    trail.clear();
+    arcs
 }

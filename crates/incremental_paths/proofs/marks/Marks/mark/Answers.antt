@@ -1,7 +1,7 @@
 use Rattle.std.proofs.Common.{◌≡◌, true, map, set, refl, sym, ap, ◌∙◌, arith, eqb}
 use Rattle.std.proofs.lemmas.List.{map-set}
 use Rattle.std.proofs.lemmas.Bool.Decides.{nat_tests}
-use Rattle.incremental_paths.proofs.marks2.Marks.mark.Goals as goal
+use Rattle.incremental_paths.proofs.marks.Marks.mark.Goals as goal
 
 pub returns : goal.returns
 returns c =

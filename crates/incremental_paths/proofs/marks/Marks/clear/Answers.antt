@@ -1,8 +1,8 @@
 use Rattle.std.proofs.Common.{◌≡◌, length, arith}
 use Rattle.std.proofs.lemmas.List.{length-map}
 use Rattle.incremental_paths.proofs.Stamps.{none_stamped, zeros_low}
-use Rattle.incremental_paths.proofs.marks2.Marks.clear.Goals as goal
-use Rattle.incremental_paths.proofs.marks2.Marks.clear.Goals.{then-self, else-self}
+use Rattle.incremental_paths.proofs.marks.Marks.clear.Goals as goal
+use Rattle.incremental_paths.proofs.marks.Marks.clear.Goals.{then-self, else-self}
 
 pub returns-clause-size : goal.returns-clause-size
 returns-clause-size c =
