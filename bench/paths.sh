@@ -1,57 +1,50 @@
 #!/usr/bin/env bash
-# Seconds for adds on some nodes, and for as many withdrawals as arcs were kept, in one run:
-#     bench/paths.sh [NODES [ADDS]]        10 000 and 20 000, where they are left out
-# The program is proved, and built as the shipped one is, in a scratch folder that goes away. The
-# proofs take a minute or two, and less where crates/incremental_paths has been checked.
+# Microseconds for an add and for a withdrawal on random acyclic graphs, by the body that computes all
+# lengths anew and by the one that pushes them on, in one run:
+#     bench/paths.sh [NODES ARCS]..        1000 3000 10000 20000, where they are left out
+# The arcs follow an order of the nodes that the bodies are not told. The body that computes anew is that
+# of the commit 5a9fe69. Both are proved, and built as the shipped one is, in a scratch folder that goes
+# away. The proofs take a few minutes, and less where the crate has been checked.
 set -eu
-nodes=${1:-10000}
-adds=${2:-20000}
+sizes=("$@")
+if [ ${#sizes[@]} = 0 ]; then sizes=(1000 3000 10000 20000); fi
 top=$(cd "$(dirname "$0")/.." && pwd)
 scratch=$(mktemp -d)
 trap 'rm -rf "$scratch"' EXIT
 cd "$scratch"
-printf 'incremental_paths:\npaths_bench: incremental_paths\n' > crates.txt
-mkdir -p crates/incremental_paths crates/paths_bench/src crates/paths_bench/proofs/{add_all,withdraw_all}
+printf 'incremental_paths:\nplain_paths:\npaths_bench: incremental_paths plain_paths\n' > crates.txt
+mkdir -p crates/incremental_paths crates/paths_bench/src
 cp -r "$top"/crates/incremental_paths/{src,specs,proofs} crates/incremental_paths/
+git -C "$top" archive 5a9fe69 crates/incremental_paths/{src,specs,proofs} | tar -x --transform 's:incremental_paths:plain_paths:'
+grep -rl incremental_paths crates/plain_paths | xargs sed -i 's/incremental_paths/plain_paths/g'
 cd crates/paths_bench
-cat > src/main.rt <<PROGRAM
-//! Times adds and withdrawals.
-#![tactic(auto)]
-
+cat > src/body.rt <<'PROGRAM'
 ghost use Rattle.std.specs.Prelude.{◌≡◌, ◌<◌, ◌≤◌, [], length, All};
 
+use crate::next;
 use incremental_paths::Paths;
 use std::io;
 use std::rt::Clock;
 use std::time::Instant;
 
-// The pseudo-random number after this one.
-fn next(seed: u64) -> u64
-    requires { seed < 2147483647 }
-    ensures { result < 2147483647 }
-{
-    (seed * 48271) % 2147483647
-}
-
-// Adds arcs to nodes that have none, and counts those that are refused.
-fn add_all(paths: &mut Paths, nodes: u32, arcs: u32) -> u32
+// Adds arcs that follow one order of the nodes.
+fn add_all(paths: &mut Paths, nodes: u32, arcs: u32)
     requires some { 0 < nodes }
     requires nodes { length paths.old.lowers ≡ nodes }
     requires lowers { All (λ lower. lower ≤ 0) paths.old.lowers }
     requires arcs { paths.old.arcs ≡ [] }
 {
     let mut seed = 1;
-    let mut refused = 0;
     for _ in 0..arcs {
         seed = next(seed);
-        let from = (seed % u64::from(nodes)) as u32;
+        let one = (seed % u64::from(nodes)) as u32;
         seed = next(seed);
-        let to = ((u64::from(from) + 1 + seed % 100) % u64::from(nodes)) as u32;
-        if paths.add(from, to, seed % 1000).is_err() {
-            refused += 1;
-        }
+        let other = (seed % u64::from(nodes)) as u32;
+        let ordered = u64::from(one) * 7919 % u64::from(nodes) < u64::from(other) * 7919 % u64::from(nodes);
+        let from = if ordered { one } else { other };
+        let to = if ordered { other } else { one };
+        let _ = paths.add(from, to, seed % 1000);
     }
-    refused
 }
 
 // Withdraws the arcs one by one.
@@ -62,7 +55,7 @@ fn withdraw_all(paths: &mut Paths) {
     }
 }
 
-fn measure(rt: &(impl Clock + Print + AllocGlobal), nodes: u32, arcs: u32) -> io::Result<()>
+pub fn measure(rt: &(impl Clock + Print + AllocGlobal), nodes: u32, arcs: u32) -> io::Result<()>
     requires { 0 < nodes }
 {
     let lowers = vec![in rt.alloc(); 0u64; nodes as usize]?;
@@ -70,42 +63,70 @@ fn measure(rt: &(impl Clock + Print + AllocGlobal), nodes: u32, arcs: u32) -> io
         return println!(rt; "no memory is left");
     };
     let start = Instant::now(rt)?;
-    let refused = add_all(&mut paths, nodes, arcs);
-    let added = start.elapsed(rt)?.as_secs_f64();
+    add_all(&mut paths, nodes, arcs);
+    let added = start.elapsed(rt)?.as_secs_f64() * 1e6;
     let kept = paths.arcs().len();
     let start = Instant::now(rt)?;
     withdraw_all(&mut paths);
-    let withdrawn = start.elapsed(rt)?.as_secs_f64();
-    println!(rt; "{arcs} adds on {nodes} nodes, {refused} refused: {added:.3} s")?;
-    println!(rt; "{kept} withdrawals: {withdrawn:.3} s")
+    let withdrawn = start.elapsed(rt)?.as_secs_f64() * 1e6;
+    println!(rt; "{nodes} nodes, BODY: {:.2} an add, {:.2} a withdrawal, {kept} arcs kept of {arcs}", added / f64::from(arcs), withdrawn / f64::from(arcs))
+}
+PROGRAM
+sed 's/BODY/pushed on/' src/body.rt > src/pushed.rt
+sed 's/BODY/computed anew/; s/incremental_paths/plain_paths/' src/body.rt > src/anew.rt
+rm src/body.rt
+{
+    cat <<'PROGRAM'
+//! Times adds and withdrawals.
+#![tactic(auto)]
+
+ghost use Rattle.std.specs.Prelude.{◌<◌};
+
+mod anew;
+mod pushed;
+
+use std::io;
+
+// The pseudo-random number after this one.
+fn next(seed: u64) -> u64
+    requires { seed < 2147483647 }
+    ensures { result < 2147483647 }
+{
+    (seed * 48271) % 2147483647
 }
 
 fn main(rt: HostRuntime) -> io::Result<()> {
-    measure(&rt, $nodes, $adds)
-}
 PROGRAM
-cat > proofs/add_all/Invariants.antt <<'PROOF'
+    for ((i = 0; i < ${#sizes[@]}; i += 2)); do
+        echo "    anew::measure(&rt, ${sizes[i]}, ${sizes[i + 1]})?;"
+        echo "    pushed::measure(&rt, ${sizes[i]}, ${sizes[i + 1]})?;"
+    done
+    echo '    Ok(())'
+    echo '}'
+} > src/main.rt
+for body in pushed anew; do
+    mkdir -p proofs/$body/{add_all,withdraw_all}
+    cat > proofs/$body/add_all/Invariants.antt <<'PROOF'
 use Rattle.std.proofs.Common.{◌≡◌, ◌*◌, ◌<◌, ◌≤◌, length, All}
 use Rattle.std.specs.Prelude.{sum_by}
-use Rattle.paths_bench.proofs.add_all.Given as goal
+use Rattle.paths_bench.proofs.BODY.add_all.Given as goal
 
 abbrev pub invariant-loop : goal.invariant-loop
 invariant-loop l = record {
   seed : l.seed < 2147483647;
-  refused : l.refused ≤ l.counter;
   nodes : length l.paths.lowers ≡ l.nodes;
   lowers : All (λ lower. lower ≤ 0) l.paths.lowers;
   lengths : sum_by (λ arc. arc.length) l.paths.arcs ≤ 999 * l.counter;
 }
 PROOF
-cat > proofs/add_all/Answers.antt <<'PROOF'
+    cat > proofs/$body/add_all/Answers.antt <<'PROOF'
 use Rattle.std.proofs.Common.{◌+◌, ◌<◌, ◌≤◌, ◌^◌, ◌∷◌, ◌++◌, [], ℕ, List, arith}
 use Rattle.std.specs.Prelude.{All, sum_by}
 use Rattle.std.proofs.lemmas.List.Sums.{sum_by_push}
 use Rattle.incremental_paths.specs.declared.arc.Arc.{Arc}
 use Rattle.incremental_paths.specs.Walks.{HasCycle, WalksAreShort}
 use Rattle.incremental_paths.proofs.Bounds.{walks_bounded}
-use Rattle.paths_bench.proofs.add_all.Goals as goal
+use Rattle.paths_bench.proofs.BODY.add_all.Goals as goal
 
 short_with : (lowers : List ℕ) (arcs : List Arc) (new : Arc) → All (λ lower. lower ≤ 0) lowers → sum_by (λ arc. arc.length) arcs + new.length < 2 ^ 63
     → (HasCycle (arcs ++ new ∷ []) → ⊥) → WalksAreShort lowers (arcs ++ new ∷ [])
@@ -115,11 +136,14 @@ short_with lowers arcs new low few none v nodes walk =
 pub add-requires-clause-short : goal.add-requires-clause-short
 add-requires-clause-short c = short_with c.loop.paths.lowers c.loop.paths.arcs _ c.loop.invariant.lowers (omega arith)
 PROOF
-cat > proofs/withdraw_all/Invariants.antt <<'PROOF'
+    cat > proofs/$body/withdraw_all/Invariants.antt <<'PROOF'
 use Rattle.std.proofs.Common.{◌≡◌, ◌+◌, length}
-use Rattle.paths_bench.proofs.withdraw_all.Given as goal
+use Rattle.paths_bench.proofs.BODY.withdraw_all.Given as goal
 
 abbrev pub invariant-loop : goal.invariant-loop
 invariant-loop l = length l.paths.arcs + l.counter ≡ l.kept
 PROOF
+    sed -i "s/BODY/$body/" proofs/$body/*/*.antt
+done
+sed -i 's/incremental_paths/plain_paths/' proofs/anew/*/*.antt
 rt run 2> log || { cat log; exit 1; }

@@ -1,10 +1,16 @@
 -- Walks where there is no cycle: no node twice, and no longer than all arcs together.
-use Rattle.std.proofs.Common.{◌≡◌, ◌≢◌, ℕ, zero, suc, ◌+◌, ◌*◌, ◌^◌, ◌<◌, ◌≤◌, List, [], ◌∷◌, inl, inr, length, get_or, refl, sym, ◌∙◌, subst, arith}
+use Rattle.std.proofs.Common.{◌≡◌, ◌≢◌, ℕ, zero, suc, ◌+◌, ◌-◌, ◌*◌, ◌^◌, ◌<◌, ◌≤◌, List, [], ◌∷◌, inl, inr, length, get_or, refl, sym, ◌∙◌, subst, arith, Contains, eqb}
 use Rattle.std.specs.Prelude.{All, sum_by}
-use Rattle.std.proofs.lemmas.Bool.{cases_eq}
+use Rattle.std.proofs.lemmas.Bool.{cases_eq, eqb-true}
 use Rattle.std.proofs.lemmas.Bool.Decides.{nat_tests}
 use Rattle.std.proofs.lemmas.List.Sums.{sum_by-cons, sum_by-le}
-use Rattle.std.proofs.lemmas.List.Elements.{All-head, All-tail, All-from_get_or, All-get_or, All-weaker}
+use Rattle.std.proofs.lemmas.List.Elements.{All-head, All-tail, All-from_get_or, All-get_or, All-weaker, All-cons, All-nil, All-contains}
+use Rattle.std.proofs.lemmas.Map.Steps.{length-le_from_distinct_below}
+use Rattle.std.proofs.lemmas.Map.Made.{IsDistinct-from_AllPairs}
+use Rattle.std.proofs.lemmas.Bool.Decides.{Decides-eqb}
+use Rattle.std.proofs.Math.Nat.{mul-le-mul_right}
+use Rattle.std.proofs.lemmas.Map.Views.{Contains-from_any}
+use Rattle.incremental_paths.proofs.Members.{joining, longest_le}
 use Rattle.incremental_paths.specs.declared.arc.Arc.{Arc}
 use Rattle.incremental_paths.specs.Walks.{IsJoined, longest_arc, Follows, last_from, IsWalkTo, steps_length, walk_length, HasNoNodeTwice, HasCycle, WalksAreShort}
 use Rattle.incremental_paths.proofs.Steps.{apart_cons}
@@ -79,3 +85,30 @@ pub few_short : (lowers : List ℕ) (arcs : List Arc) → All (λ lower. lower <
 few_short lowers arcs low short few none v nodes walk =
     let sum : sum_by (λ arc. arc.length) arcs ≤ length arcs * 2 ^ 32 = sum_by-le (λ arc. arc.length) (2 ^ 32) arcs (All-weaker (λ arc. arc.length < 2 ^ 32) (λ arc. arc.length ≤ 2 ^ 32) (λ arc h. omega (arith, h)) arcs short) in
     omega (arith, sum, few, walks_bounded lowers arcs (2 ^ 32) (All-weaker (λ lower. lower < 2 ^ 32) (λ lower. lower ≤ 2 ^ 32) (λ lower h. omega (arith, h)) lowers low) none v nodes walk)
+
+-- a walk has no more nodes than there are, where none stands in it twice
+nodes_within : (lowers : List ℕ) (arcs : List Arc) → All (λ arc. arc.to < length lowers) arcs → (u : ℕ) (rest : List ℕ) → u < length lowers → Follows arcs u rest → All (λ w. w < length lowers) (u ∷ rest)
+nodes_within lowers arcs ends u [] lt f = All-cons (λ w. w < length lowers) u [] lt (All-nil (λ w. w < length lowers))
+nodes_within lowers arcs ends u (v ∷ rest) lt f =
+    let a = joining arcs u v f.0 in
+    let below : v < length lowers = rw a.3 at (All-contains (λ (z : Arc). z.to < length lowers) arcs a.0 ends a.1) in
+    All-cons (λ w. w < length lowers) u (v ∷ rest) lt (nodes_within lowers arcs ends v rest below f.1)
+
+few_nodes : (n : ℕ) (nodes : List ℕ) → HasNoNodeTwice nodes → All (λ w. w < n) nodes → length nodes ≤ n
+few_nodes n nodes once all = length-le_from_distinct_below nodes n (IsDistinct-from_AllPairs {eq = eqb} Decides-eqb nodes once) (λ q there.
+    let c = Contains-from_any {eq = eqb} eqb-true q nodes there in All-contains (λ w. w < n) nodes q all c)
+
+steps_long : (arcs : List Arc) (longest : ℕ) → All (λ arc. arc.length ≤ longest) arcs → (u : ℕ) (rest : List ℕ) → steps_length arcs u rest ≤ length rest * longest
+steps_long arcs longest all u [] = omega arith
+steps_long arcs longest all u (v ∷ rest) =
+    let one : longest_arc arcs u v ≤ longest = longest_le arcs u v longest (λ a c f t. All-contains (λ (z : Arc). z.length ≤ longest) arcs a all c) in
+    omega (arith, one, steps_long arcs longest all v rest)
+
+pub walks_bounded_by_nodes : (lowers : List ℕ) (arcs : List Arc) (most longest : ℕ) → All (λ lower. lower ≤ most) lowers → All (λ arc. arc.length ≤ longest) arcs → All (λ arc. arc.to < length lowers) arcs
+    → (v : ℕ) (nodes : List ℕ) → IsWalkTo lowers arcs v nodes → HasNoNodeTwice nodes → walk_length lowers arcs nodes ≤ most + (length lowers - 1) * longest
+walks_bounded_by_nodes lowers arcs most longest low all ends v [] walk once = absurd walk
+walks_bounded_by_nodes lowers arcs most longest low all ends v (u ∷ rest) walk once =
+    let few = few_nodes (length lowers) (u ∷ rest) once (nodes_within lowers arcs ends u rest walk.0 walk.1) in
+    let le : length rest ≤ length lowers - 1 = omega (arith, few) in
+    let more : length rest * longest ≤ (length lowers - 1) * longest = mul-le-mul_right longest le in
+    omega (arith, All-get_or (λ lower. lower ≤ most) lowers u 0 walk.0 low, steps_long arcs longest all u rest, more)

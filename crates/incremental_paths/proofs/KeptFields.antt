@@ -1,29 +1,70 @@
 -- What the fields of `Paths` say of its walks, and how each call keeps it.
-use Rattle.std.proofs.Common.{◌≡◌, ℕ, ◌<◌, ◌^◌, Bool, true, false, List, [], ◌∷◌, ◌++◌, length, get_or, take, drop, filter, replicate, refl, sym, subst, arith, Contains, nat_lt, Option, None, Some, Vec, Global}
-use Rattle.std.specs.Prelude.{All, IfSome, IfNone}
-use Rattle.std.proofs.lemmas.Option.{IfSome_then}
-use Rattle.std.proofs.lemmas.List.{take_at, length-replicate}
-use Rattle.std.proofs.lemmas.List.Elements.{All-nil, All-filter, All-contains, Contains-append_left, Contains-push}
+use Rattle.std.proofs.Common.{◌≡◌, ℕ, ◌<◌, ◌≤◌, ◌^◌, Bool, true, false, List, [], ◌∷◌, ◌++◌, length, get_or, set, take, drop, map, refl, sym, ap, ◌∙◌, subst, inl, inr, ◌⊎◌, ◌+◌, get_or-set_same, arith, Contains, Option, None, Some, Vec, Global}
+use Rattle.std.specs.Prelude.{All, IfNone}
+use Rattle.std.proofs.lemmas.List.{take_at, length-append, get_or_past, get_or-map, length-take-le, get_or-take, length-set, set-get_or, map-append, take-map}
+use Rattle.std.proofs.lemmas.List.{set-set}
+use Rattle.std.proofs.lemmas.Bool.{cases_lt}
+use Rattle.std.proofs.lemmas.List.Elements.{All-contains, All-take, All-push, All-nil, Contains-append_left}
 use Rattle.incremental_paths.specs.declared.arc.Arc.{Arc}
-use Rattle.incremental_paths.specs.declared.ranked.RankedArc.{RankedArc}
+use Rattle.incremental_paths.specs.declared.changes.Change.{Change}
+use Rattle.incremental_paths.specs.Threaded.{Threaded, threaded_with}
 use Rattle.incremental_paths.specs.Walks.{IsWalkTo, walk_length, HasNoNodeTwice, IsLongest, HasCycle, WalksAreShort, last_from, Leads}
-use Rattle.incremental_paths.specs.Kept.{AreKept, AreRanked, AreWithin, AreLengths, AreMarks, WalksFit, arcs_of, is_marked, rank_with_lem}
-use Rattle.incremental_paths.proofs.Members.{IsPart, Contains-nil, Contains-map, Contains-map_from, joined, joining}
-use Rattle.incremental_paths.proofs.Steps.{Follows_part, leads_part, walk_part, walk_length_part, walk_no_node_twice, no_cycle}
-use Rattle.incremental_paths.proofs.Ranks.{rank, arcs_rise, to_arcs, from_arcs, from_filter, ranked_none, ranked_take, All-from_contains}
-use Rattle.incremental_paths.proofs.Adds.{ranked_with}
+use Rattle.incremental_paths.specs.Marked.{begins, ends, AreWithin, AreRising}
+use Rattle.incremental_paths.specs.Spread.{AreLengths, AreReached, AreSpread, WalksFit, Told, TellsMore, restored}
+use Rattle.incremental_paths.specs.Kept.{AreKept, AreUndone}
+use Rattle.incremental_paths.proofs.Members.{IsPart, Contains-nil, joining}
+use Rattle.incremental_paths.proofs.Steps.{walk_part, walk_length_part, walk_no_node_twice}
+use Rattle.incremental_paths.proofs.Reordering.{rising_free}
 use Rattle.incremental_paths.proofs.WaysBack.{way_back}
-use Rattle.incremental_paths.proofs.SweptLengths.{swept_all, swept_none, lengths_part}
+use Rattle.incremental_paths.proofs.Pairs.{contains_at}
+use Rattle.incremental_paths.proofs.Tracing.{arc_bound, spread_lengths}
+use Rattle.incremental_paths.proofs.Undoing.{undone_stale, undone_add, undone_withdraw}
 
-fits_part : (lowers : List ℕ) (xs ys : List Arc) → IsPart xs ys → WalksFit lowers ys → WalksFit lowers xs
+pub fits_part : (lowers : List ℕ) (xs ys : List Arc) → IsPart xs ys → WalksFit lowers ys → WalksFit lowers xs
 fits_part lowers xs ys part fit v nodes walk = omega (arith, walk_length_part lowers xs ys part nodes, fit v nodes (walk_part lowers xs ys part v nodes walk))
 
-module _ (lowers : List ℕ) (arcs : List Arc) (ranked : List RankedArc) (lengths : List ℕ) (marks : List Bool) (kept : AreKept lowers arcs ranked lengths marks) where
+-- walks that are short fit
+pub fits_from_short : (lowers : List ℕ) (arcs : List Arc) → WalksAreShort lowers arcs → WalksFit lowers arcs
+fits_from_short lowers arcs short v nodes walk = omega (arith, short v nodes walk)
+
+pub front_part : (arcs : List Arc) (n : ℕ) → n ≤ length arcs → IsPart (take n arcs) arcs
+front_part arcs n le a c =
+    let long = length-take-le n arcs le in
+    (c.0, omega (arith, c.1, long, le), sym (get_or-take n arcs c.0 a (omega (arith, c.1, long))) ∙ c.2)
+
+-- the lengths of the longest walks are reached, and spread
+pub longest_reached : (lowers : List ℕ) (arcs : List Arc) (lengths : List ℕ) → length lengths ≡ length lowers → AreLengths lowers arcs lengths → AreReached lowers arcs lengths
+longest_reached lowers arcs lengths long are = record {
+  sized = long;
+  lowest = λ v. elim (cases_lt v (length lowers)) [
+    | inl lt ↦ omega (arith, are.greatest v (v ∷ []) (lt, tt, refl))
+    | inr le ↦ omega (arith, get_or_past lowers v 0 le)
+  ];
+  attained = λ v lt. let h = are.reached v lt in (h.0, h.1, omega (arith, h.2));
+}
+
+pub longest_spread : (lowers : List ℕ) (arcs : List Arc) (lengths : List ℕ) → AreWithin (length lowers) arcs → AreLengths lowers arcs lengths → AreSpread arcs lengths
+longest_spread lowers arcs lengths within are k d lt = arc_bound lowers arcs within lengths are (get_or arcs k d) (contains_at arcs k d lt)
+
+-- lengths that are reached still are with one arc more
+pub reached_more : (lowers : List ℕ) (arcs : List Arc) (a : Arc) (lengths : List ℕ) → AreReached lowers arcs lengths → AreReached lowers (arcs ++ a ∷ []) lengths
+reached_more lowers arcs a lengths reached =
+    let part : IsPart arcs (arcs ++ a ∷ []) = λ b c. Contains-append_left arcs (a ∷ []) b c in
+    record {
+      sized = reached.sized;
+      lowest = reached.lowest;
+      attained = λ v lt.
+          let h = reached.attained v lt in
+          (h.0, walk_part lowers arcs (arcs ++ a ∷ []) part v h.0 h.1, omega (arith, h.2, walk_length_part lowers arcs (arcs ++ a ∷ []) part h.0));
+    }
+
+module _ (lowers : List ℕ) (arcs : List Arc) (begun ended : Threaded) (places : List ℕ) (marks : List Bool) (lengths : List ℕ) (trail : List Change) (starts : List ℕ) (stale : ℕ)
+    (kept : AreKept lowers arcs begun ended places marks lengths trail starts stale) where
   pub kept_no_cycle : HasCycle arcs → ⊥
-  kept_no_cycle = no_cycle arcs (rank ranked) (arcs_rise arcs ranked kept.ranked_arcs)
+  kept_no_cycle = rising_free arcs places kept.rising
 
   pub kept_no_node_twice : (v : ℕ) (nodes : List ℕ) → IsWalkTo lowers arcs v nodes → HasNoNodeTwice nodes
-  kept_no_node_twice v nodes walk = walk_no_node_twice lowers arcs (rank ranked) (arcs_rise arcs ranked kept.ranked_arcs) v nodes walk
+  kept_no_node_twice v nodes walk = walk_no_node_twice lowers arcs (λ u. get_or places u 0) (λ a c. All-contains (λ (z : Arc). get_or places z.from 0 < get_or places z.to 0) arcs a kept.rising c) v nodes walk
 
   pub kept_longest : (v : ℕ) → v < length lowers → IsLongest lowers arcs v (get_or lengths v 0)
   kept_longest v lt =
@@ -33,122 +74,141 @@ module _ (lowers : List ℕ) (arcs : List Arc) (ranked : List RankedArc) (length
         greatest = λ nodes walk once. kept.longest.greatest v nodes walk;
       }
 
-  pub kept_nodes : All (λ arc. (arc.from < length lowers) × (arc.to < length lowers)) arcs
-  kept_nodes = All-from_contains arcs (λ arc. (arc.from < length lowers) × (arc.to < length lowers)) (λ a c.
-      let h = Contains-map_from (λ (s : RankedArc). s.arc) ranked a (from_arcs arcs ranked kept.ranked_arcs a c) in
-      subst (λ z. (z.from < length lowers) × (z.to < length lowers)) h.2 (All-contains (λ r. (r.arc.from < length lowers) × (r.arc.to < length lowers)) ranked h.0 kept.within h.1))
-
-  -- the ranked arcs have the lengths too
-  pub kept_ranked_lengths : AreLengths lowers (arcs_of ranked) lengths
-  kept_ranked_lengths = lengths_part lowers arcs (arcs_of ranked) lengths (from_arcs arcs ranked kept.ranked_arcs) (to_arcs arcs ranked kept.ranked_arcs) kept.longest
-
-  -- a walk over the ranked arcs that is as long as the node's length is one over the arcs
-  pub kept_walk : (v : ℕ) (nodes : List ℕ) → IsWalkTo lowers (arcs_of ranked) v nodes → IsWalkTo lowers arcs v nodes
-  kept_walk v nodes walk = walk_part lowers (arcs_of ranked) arcs (to_arcs arcs ranked kept.ranked_arcs) v nodes walk
-
-  pub kept_walk_longest : (v : ℕ) (nodes : List ℕ) → v < length lowers → IsWalkTo lowers (arcs_of ranked) v nodes → walk_length lowers (arcs_of ranked) nodes ≡ get_or lengths v 0 → IsLongest lowers arcs v (walk_length lowers arcs nodes)
-  kept_walk_longest v nodes lt walk is_long =
-      let le = walk_length_part lowers (arcs_of ranked) arcs (to_arcs arcs ranked kept.ranked_arcs) nodes in
-      let ge = kept.longest.greatest v nodes (kept_walk v nodes walk) in
-      let same : walk_length lowers arcs nodes ≡ get_or lengths v 0 = omega (arith, le, ge, is_long) in
-      rw same (kept_longest v lt)
-
-  -- a way along the ranked arcs is one along the arcs, and there is none where there is none along those
-  pub kept_way : (u v : ℕ) (found : Option (Vec ℕ Global)) → IfSome found (λ way. Leads (arcs_of ranked) u v way.items) → IfSome found (λ way. Leads arcs u v way.items)
-  kept_way u v found way = IfSome_then found way (λ x leads. leads_part (arcs_of ranked) arcs (to_arcs arcs ranked kept.ranked_arcs) u v x.items leads)
-
-  pub kept_no_way : (u v : ℕ) (found : Option (Vec ℕ Global)) → IfNone found ((way : List ℕ) → Leads (arcs_of ranked) u v way → ⊥) → IfNone found ((way : List ℕ) → Leads arcs u v way → ⊥)
-  kept_no_way u v None none = λ way leads. none way (leads_part arcs (arcs_of ranked) (from_arcs arcs ranked kept.ranked_arcs) u v way leads)
-  kept_no_way u v (Some x) none = tt
-
-  pub kept_no_cycle_back : (u v : ℕ) (found : Option (Vec ℕ Global)) → IfNone found ((way : List ℕ) → Leads (arcs_of ranked) u v way → ⊥)
+  pub kept_no_cycle_back : (u v : ℕ) (found : Option (Vec ℕ Global)) → IfNone found ((way : List ℕ) → Leads arcs u v way → ⊥)
       → IfNone found ((by : ℕ) → HasCycle (arcs ++ record { from = v; to = u; length = by } ∷ []) → ⊥)
-  kept_no_cycle_back u v None none = λ by c. way_back arcs (record { from = v; to = u; length = by }) kept_no_cycle c (kept_no_way u v None none)
+  kept_no_cycle_back u v None none = λ by c. way_back arcs (record { from = v; to = u; length = by }) kept_no_cycle c none
   kept_no_cycle_back u v (Some x) none = tt
 
-  -- the first n arcs fit where all of them do
-  pub kept_fits_take : (n : ℕ) → WalksFit lowers (arcs_of (filter (λ r. nat_lt r.place n) ranked))
-  kept_fits_take n v nodes walk =
-      let part : IsPart (arcs_of (filter (λ r. nat_lt r.place n) ranked)) arcs = λ a c.
-      let h = Contains-map_from (λ (s : RankedArc). s.arc) (filter (λ r. nat_lt r.place n) ranked) a c in
-      to_arcs arcs ranked kept.ranked_arcs a (subst (λ z. Contains (arcs_of ranked) z) h.2 (Contains-map (λ (s : RankedArc). s.arc) ranked h.0 (from_filter (λ r. nat_lt r.place n) ranked h.0 h.1).0)) in
-      omega (arith, walk_length_part lowers (arcs_of (filter (λ r. nat_lt r.place n) ranked)) arcs part nodes, kept.fit v nodes (walk_part lowers (arcs_of (filter (λ r. nat_lt r.place n) ranked)) arcs part v nodes walk))
+pub raised_before : (lowers : List ℕ) (arcs : List Arc) (lengths : List ℕ) (node lower : ℕ) → node < length lowers → get_or lowers node 0 < lower → AreReached lowers arcs lengths
+    → (before : ℕ) × (before ≤ get_or (set lowers node lower) node 0) × AreReached (set (set lowers node lower) node before) arcs lengths
+raised_before lowers arcs lengths node lower lt above reached =
+    let here = get_or-set_same lowers node lower 0 lt in
+    let back : set (set lowers node lower) node (get_or lowers node 0) ≡ lowers = set-set lowers node lower (get_or lowers node 0) ∙ set-get_or lowers node 0 in
+    (get_or lowers node 0, omega (arith, above, here), subst (λ z. AreReached z arcs lengths) (sym back) reached)
 
-  pub kept_take : (n : ℕ) (new : List ℕ) → length new ≡ length lowers → AreLengths lowers (arcs_of (filter (λ r. nat_lt r.place n) ranked)) new → AreKept lowers (take n arcs) (filter (λ r. nat_lt r.place n) ranked) new marks
-  kept_take n new long are =
-      let left = ranked_take n arcs ranked kept.ranked_arcs in
-      let S = filter (λ r. nat_lt r.place n) ranked in
+module _ (lowers : List ℕ) (arcs : List Arc) (begun ended : Threaded) (places : List ℕ) (marks : List Bool) (lengths : List ℕ) (trail : List Change) (starts : List ℕ) (stale : ℕ)
+    (kept : AreKept lowers arcs begun ended places marks lengths trail starts stale) where
+  -- with the lower of a node raised
+  pub kept_raised : (node lower : ℕ) (new : List ℕ) (cleared : List Change) (count : ℕ) → WalksFit (set lowers node lower) arcs → AreReached (set lowers node lower) arcs new → AreSpread arcs new → cleared ≡ [] → count ≡ length arcs
+      → AreKept (set lowers node lower) arcs begun ended places marks new cleared starts count
+  kept_raised node lower new cleared count fit reached spread none all =
+      let long = length-set lowers node lower in
       record {
-        few = kept.few;
-        a_length_each = long;
-        a_mark_each = kept.a_mark_each;
-        within = All-filter (λ r. nat_lt r.place n) (λ r. (r.arc.from < length lowers) × (r.arc.to < length lowers)) ranked kept.within;
-        ranked_arcs = left;
-        longest = lengths_part lowers (arcs_of S) (take n arcs) new (to_arcs (take n arcs) S left) (from_arcs (take n arcs) S left) are;
-        fit = fits_part lowers (take n arcs) (arcs_of S) (from_arcs (take n arcs) S left) (kept_fits_take n);
+        few = omega (arith, long, kept.few);
+        a_place_each = omega (arith, long, kept.a_place_each);
+        a_mark_each = omega (arith, long, kept.a_mark_each);
+        a_length_each = reached.sized;
+        within = rw long kept.within;
+        rising = kept.rising;
+        begun_is = rw long kept.begun_is;
+        ended_is = rw long kept.ended_is;
+        longest = spread_lengths (set lowers node lower) arcs new reached spread;
+        fit = fit;
+        undone = undone_stale (set lowers node lower) arcs new starts cleared count kept.undone.sized none (omega (arith, all));
       }
 
-  -- where a node that the new arc begins at is marked, the arc closes a cycle
-  pub closes : (new : Arc) (to_marks : List Bool) → AreMarks ranked new.to to_marks → is_marked to_marks new.from ≡ true → HasCycle (arcs ++ new ∷ [])
-  closes new to_marks marked m =
-      let h = marked.sound new.from m in
-      let part : IsPart (arcs_of ranked) (arcs ++ new ∷ []) = λ a c. Contains-append_left arcs (new ∷ []) a (to_arcs arcs ranked kept.ranked_arcs a c) in (
-        new.to ∷ h.0,
-        (
-          Follows_part (arcs_of ranked) (arcs ++ new ∷ []) part new.to h.0 h.1,
-          joined (arcs ++ new ∷ []) new (last_from new.to h.0) new.to (Contains-push arcs new) (sym h.2) refl,
-        ),
-      )
+  -- with an arc more
+  pub kept_more : (a : Arc) (new_places : List ℕ) (new_marks : List Bool) (new : List ℕ) (told : Told) (new_trail : List Change) (new_stale count : ℕ) (tells : TellsMore (record { entries = []; lost = false }) told lengths new)
+      → a.from < length lowers → a.to < length lowers → length new_places ≡ length lowers → length new_marks ≡ length lowers → AreRising (arcs ++ a ∷ []) new_places → WalksFit lowers (arcs ++ a ∷ [])
+      → AreReached lowers (arcs ++ a ∷ []) new → AreSpread (arcs ++ a ∷ []) new → count ≡ length arcs + 1
+      → ((new_stale ≡ stale) × (told.lost ≡ false) × (new_trail ≡ trail ++ told.entries)) ⊎ ((new_stale ≡ count) × (new_trail ≡ []))
+      → AreKept lowers (arcs ++ a ∷ []) (threaded_with begun a.from) (threaded_with ended a.to) new_places new_marks new new_trail (starts ++ length trail ∷ []) new_stale
+  kept_more a new_places new_marks new told new_trail new_stale count tells from to a_place a_mark rising fit reached spread is_count choice =
+      let all = length-append arcs (a ∷ []) in
+      record {
+        few = kept.few;
+        a_place_each = a_place;
+        a_mark_each = a_mark;
+        a_length_each = reached.sized;
+        within = All-push (λ (z : Arc). (z.from < length lowers) × (z.to < length lowers)) arcs a kept.within (from, to);
+        rising = rising;
+        begun_is = rw (kept.begun_is, map-append (λ (z : Arc). z.from) arcs (a ∷ [])) refl;
+        ended_is = rw (kept.ended_is, map-append (λ (z : Arc). z.to) arcs (a ∷ [])) refl;
+        longest = spread_lengths lowers (arcs ++ a ∷ []) new reached spread;
+        fit = fit;
+        undone = elim choice [
+          | inl h ↦
+              let same : told.entries ≡ tells.more = tells.all h.1 in
+              let nodes : All (λ c. c.node < length lowers) told.entries = λ k d lt. omega (arith, tells.within k (omega (arith, lt, ap length same)), kept.a_length_each, get_or-map (λ (c : Change). c.node) told.entries k d 0 lt, ap (λ (l : List Change). get_or (map (λ (c : Change). c.node) l) k 0) same) in
+              rw (h.0, h.2) (undone_add lowers arcs lengths trail starts stale kept.undone a kept.longest new told.entries (ap (restored new) same ∙ tells.undone h.1) nodes)
+          | inr h ↦ undone_stale lowers (arcs ++ a ∷ []) new (starts ++ length trail ∷ []) new_trail new_stale (omega (arith, all, length-append starts (length trail ∷ []), kept.undone.sized)) h.1 (omega (arith, all, h.0, is_count))
+        ];
+      }
 
-module _ (lowers : List ℕ) (arcs : List Arc) (ranked : List RankedArc) (lengths : List ℕ) (marks : List Bool) (kept : AreKept lowers arcs ranked lengths marks) (new : Arc) (to_marks : List Bool) (marked : AreMarks ranked new.to to_marks) (free : is_marked to_marks new.from ≡ false) where
-  pub added_ranked : AreRanked (arcs ++ new ∷ []) (rank_with_lem to_marks ranked (record { place = length arcs; arc = new }))
-  added_ranked = ranked_with arcs ranked kept.ranked_arcs to_marks new marked free
+  -- with the last arcs taken away
+  module _ (left : ℕ) (less : left < length arcs) (old_begun old_ended : Threaded) (is_begun : old_begun ≡ record { size = begun.size; keys = take left begun.keys }) (is_ended : old_ended ≡ record { size = ended.size; keys = take left ended.keys }) where
+    pub front_begun : old_begun ≡ record { size = length lowers; keys = begins (take left arcs) }
+    front_begun = is_begun ∙ rw (kept.begun_is, take-map (λ (z : Arc). z.from) left arcs) refl
 
-  pub added_no_cycle : HasCycle (arcs ++ new ∷ []) → ⊥
-  added_no_cycle =
-      let all = rank_with_lem to_marks ranked (record { place = length arcs; arc = new }) in
-      no_cycle (arcs ++ new ∷ []) (rank all) (arcs_rise (arcs ++ new ∷ []) all added_ranked)
+    front_ended : old_ended ≡ record { size = length lowers; keys = ends (take left arcs) }
+    front_ended = is_ended ∙ rw (kept.ended_is, take-map (λ (z : Arc). z.to) left arcs) refl
 
-  pub added_fit : ((HasCycle (arcs ++ new ∷ []) → ⊥) → WalksAreShort lowers (arcs ++ new ∷ [])) → WalksFit lowers (arcs ++ new ∷ [])
-  added_fit short v nodes walk = omega (arith, short added_no_cycle v nodes walk)
+    pub front_fits : WalksFit lowers (take left arcs)
+    front_fits = fits_part lowers (take left arcs) arcs (front_part arcs left (omega (arith, less))) kept.fit
+
+    kept_front : (new : List ℕ) (new_trail : List Change) (new_stale : ℕ) → length new ≡ length lowers → AreLengths lowers (take left arcs) new → AreUndone lowers (take left arcs) new new_trail (take left starts) new_stale
+        → AreKept lowers (take left arcs) old_begun old_ended places marks new new_trail (take left starts) new_stale
+    kept_front new new_trail new_stale long longest undone = record {
+      few = kept.few;
+      a_place_each = kept.a_place_each;
+      a_mark_each = kept.a_mark_each;
+      a_length_each = long;
+      within = All-take (λ (z : Arc). (z.from < length lowers) × (z.to < length lowers)) left arcs kept.within;
+      rising = All-take (λ (z : Arc). get_or places z.from 0 < get_or places z.to 0) left arcs kept.rising;
+      begun_is = front_begun;
+      ended_is = front_ended;
+      longest = longest;
+      fit = front_fits;
+      undone = undone;
+    }
+
+    pub kept_undone : (new : List ℕ) (new_trail : List Change) → stale ≤ left → length new ≡ length lowers → new ≡ restored lengths (drop (get_or starts left 0) trail) → new_trail ≡ take (get_or starts left 0) trail
+        → AreKept lowers (take left arcs) old_begun old_ended places marks new new_trail (take left starts) stale
+    kept_undone new new_trail le long is_new is_trail =
+        kept_front new new_trail stale long (rw is_new (kept.undone.each left le less)) (rw (is_new, is_trail) (undone_withdraw lowers arcs lengths trail starts stale kept.undone left le less))
+
+    pub kept_anew : (new : List ℕ) (new_trail : List Change) → AreReached lowers (take left arcs) new → AreSpread (take left arcs) new → new_trail ≡ []
+        → AreKept lowers (take left arcs) old_begun old_ended places marks new new_trail (take left starts) left
+    kept_anew new new_trail reached spread none =
+        let kept_arcs = length-take-le left arcs (omega (arith, less)) in
+        let kept_starts = length-take-le left starts (omega (arith, less, kept.undone.sized)) in
+        kept_front new new_trail left reached.sized (spread_lengths lowers (take left arcs) new reached spread) (undone_stale lowers (take left arcs) new (take left starts) new_trail left (omega (arith, kept_arcs, kept_starts)) none (omega (arith, kept_arcs)))
 
 lone_fits : (lowers : List ℕ) → ((v : ℕ) → get_or lowers v 0 < 2 ^ 64) → WalksFit lowers []
 lone_fits lowers each v [] walk = absurd walk
 lone_fits lowers each v (u ∷ []) walk = omega (arith, each u)
 lone_fits lowers each v (u ∷ w ∷ rest) walk = let a = joining [] u w walk.1.0 in absurd (Contains-nil a.0 a.1)
 
-pub kept_new : (lowers : List ℕ) → length lowers < 2 ^ 32 → ((v : ℕ) → get_or lowers v 0 < 2 ^ 64) → AreKept lowers [] [] lowers (replicate (length lowers) false)
-kept_new lowers few each = record {
-  few = few;
-  a_length_each = refl;
-  a_mark_each = length-replicate (length lowers) false;
-  within = All-nil (λ r. (r.arc.from < length lowers) × (r.arc.to < length lowers));
-  ranked_arcs = ranked_none;
-  longest = swept_all lowers [] lowers (swept_none lowers []);
-  fit = lone_fits lowers each;
+lone_bound : (lowers : List ℕ) (v : ℕ) (nodes : List ℕ) → IsWalkTo lowers [] v nodes → walk_length lowers [] nodes ≤ get_or lowers v 0
+lone_bound lowers v [] walk = absurd walk
+lone_bound lowers v (u ∷ []) walk = omega (arith, ap (λ z. get_or lowers z 0) walk.2)
+lone_bound lowers v (u ∷ w ∷ rest) walk = let a = joining [] u w walk.1.0 in absurd (Contains-nil a.0 a.1)
+
+lone_longest : (lowers : List ℕ) → AreLengths lowers [] lowers
+lone_longest lowers = record {
+  reached = λ v lt. (v ∷ [], (lt, tt, refl), omega arith);
+  greatest = λ v nodes walk. lone_bound lowers v nodes walk;
 }
 
--- walks that are short fit
-pub fits_from_short : (lowers : List ℕ) (arcs : List Arc) → WalksAreShort lowers arcs → WalksFit lowers arcs
-fits_from_short lowers arcs short v nodes walk = omega (arith, short v nodes walk)
-
--- and in the order of the ranked arcs
-pub fits_ranked : (lowers : List ℕ) (arcs : List Arc) (ranked : List RankedArc) → AreRanked arcs ranked → WalksFit lowers arcs → WalksFit lowers (arcs_of ranked)
-fits_ranked lowers arcs ranked are fit = fits_part lowers (arcs_of ranked) arcs (to_arcs arcs ranked are) fit
-
--- new lengths for arcs that are ranked
-pub kept_with : (lowers : List ℕ) (arcs : List Arc) (ranked : List RankedArc) (lengths : List ℕ) (marks : List Bool)
-    → length lowers < 2 ^ 32 → length lengths ≡ length lowers → length marks ≡ length lowers → AreWithin (length lowers) ranked → AreRanked arcs ranked → AreLengths lowers (arcs_of ranked) lengths → WalksFit lowers arcs → AreKept lowers arcs ranked lengths marks
-kept_with lowers arcs ranked lengths marks few long marked within are longest fit = record {
+pub kept_new : (lowers : List ℕ) (places : List ℕ) (marks : List Bool) (begun ended : Threaded) → length lowers < 2 ^ 32 → ((v : ℕ) → get_or lowers v 0 < 2 ^ 64) → length places ≡ length lowers → length marks ≡ length lowers
+    → begun ≡ record { size = length lowers; keys = [] } → ended ≡ record { size = length lowers; keys = [] } → AreKept lowers [] begun ended places marks lowers [] [] 0
+kept_new lowers places marks begun ended few each a_place a_mark is_begun is_ended = record {
   few = few;
-  a_length_each = long;
-  a_mark_each = marked;
-  within = within;
-  ranked_arcs = are;
-  longest = lengths_part lowers (arcs_of ranked) arcs lengths (to_arcs arcs ranked are) (from_arcs arcs ranked are) longest;
-  fit = fit;
+  a_place_each = a_place;
+  a_mark_each = a_mark;
+  a_length_each = refl;
+  within = All-nil (λ (a : Arc). (a.from < length lowers) × (a.to < length lowers));
+  rising = All-nil (λ (a : Arc). get_or places a.from 0 < get_or places a.to 0);
+  begun_is = is_begun;
+  ended_is = is_ended;
+  longest = lone_longest lowers;
+  fit = lone_fits lowers each;
+  undone = undone_stale lowers [] lowers [] [] 0 refl refl (omega arith);
 }
 
 -- what a write through a lent slice leaves in its `Vec`
 pub written_back : {X : Type 0} (old new : List X) (n : ℕ) → length new ≡ n → take n (new ++ drop (length new) old) ≡ new
 written_back old new n e = take_at new (drop (length new) old) n e
+
+pub threads_are : (threads : Threaded) (n : ℕ) (keys : List ℕ) → threads.size ≡ n → threads.keys ≡ keys → threads ≡ record { size = n; keys = keys }
+threads_are threads n keys e f = subst (λ z. threads ≡ record { size = z; keys = keys }) e (subst (λ w. threads ≡ record { size = threads.size; keys = w }) f refl)

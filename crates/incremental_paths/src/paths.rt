@@ -1,14 +1,18 @@
-ghost use Rattle.std.specs.Prelude.{ℕ, ◌≡◌, ◌<◌, ◌≤◌, ◌↔◌, ◌^◌, List, [], length, All, IfOk, IfErr, IfSome, IfNone, OnOk, OnErr, IsErrOf, ◌≢◌};
+ghost use Rattle.std.specs.Prelude.{ℕ, ◌≡◌, ◌<◌, ◌≤◌, ◌↔◌, ◌^◌, List, [], length, All, IfOk, IfErr, IfSome, IfNone, OnOk, OnErr, IsErrOf, ◌≢◌, slice_index};
 ghost use Rattle.incremental_paths.specs.Walks.{IsWalkTo, walk_length, HasNoNodeTwice, Leads, IsLongest, HasCycle};
+ghost use Rattle.incremental_paths.specs.Marked.{AreRising};
 ghost use Rattle.incremental_paths.specs.Network.{IsNode, IsShort, with_arc, without_last, raised};
 
 use crate::arc::Arc;
+use crate::back::{find_way, walk_back};
+use crate::changes::{Change, Changes};
 use crate::faults::AddNo;
-use crate::lengths::compute_lengths;
-use crate::marks::mark_from;
-use crate::ranked::{RankedArc, keep_below, rank_with};
-use crate::trace::trace_walk;
-use crate::way::trace_way;
+use crate::marks::Marks;
+use crate::order::Order;
+use crate::ordering::order_with;
+use crate::spread::{raise_length, spread_anew, spread_last};
+use crate::threads::Threads;
+use crate::trail::{keep_arc, keep_changes, put_back, shorten};
 use plain_values::Memory;
 use std::alloc::Global;
 use std::marker::Model;
@@ -18,12 +22,19 @@ use std::marker::Model;
 pub struct Paths {
     lowers: Vec<u64>,
     arcs: Vec<Arc>,
-    ranked: Vec<RankedArc>,
+    begun: Threads,
+    ended: Threads,
+    order: Order,
+    marks: Marks,
     lengths: Vec<u64>,
-    marks: Vec<bool>,
+    changes: Changes,
+    trail: Vec<Change>,
+    starts: Vec<usize>,
+    stale: usize,
 }
 
 impl Model for Paths {
+    ghost use Rattle.incremental_paths.specs.Marked.{AreRising};
     ghost use Rattle.incremental_paths.specs.Network.{Network};
     ghost use Rattle.incremental_paths.specs.Kept.{AreKept};
 
@@ -31,7 +42,7 @@ impl Model for Paths {
 
     ghost view = { λ p. record { lowers = p.lowers.items; arcs = p.arcs.items } };
 
-    ghost invariant = { λ p. AreKept p.lowers.items p.arcs.items p.ranked.items p.lengths.items p.marks.items };
+    ghost invariant = { λ p. AreKept p.lowers.items p.arcs.items p.begun p.ended p.order p.marks p.lengths.items p.trail.items p.starts.items p.stale };
 }
 
 impl Paths {
@@ -40,12 +51,19 @@ impl Paths {
         requires { length lowers.now < 2 ^ 32 }
         ensures { IfOk result (λ paths. paths ≡ record { lowers = lowers.now; arcs = [] }) }
     {
+        let nodes = lowers.len();
         Ok(Paths {
             lowers: Vec::from_slice(alloc, lowers)?,
             arcs: Vec::new(alloc),
-            ranked: Vec::new(alloc),
+            begun: Threads::new(alloc, nodes)?,
+            ended: Threads::new(alloc, nodes)?,
+            order: Order::new(alloc, nodes)?,
+            marks: Marks::new(alloc, nodes)?,
             lengths: Vec::from_slice(alloc, lowers)?,
-            marks: vec![in alloc; false; lowers.len()]?,
+            changes: Changes::new(alloc, nodes)?,
+            trail: Vec::new(alloc),
+            starts: Vec::new(alloc),
+            stale: 0,
         })
     }
 
@@ -61,17 +79,40 @@ impl Paths {
         ensures faults { IfErr result (λ no. no ≢ AddNo.Memory → no ≡ AddNo.Closes from to) }
         ensures err { OnErr result (self.new ≡ self.old) }
     {
-        mark_from(&self.ranked, to, &mut self.marks);
-        if self.marks[from as usize] {
-            return Err(AddNo::Closes { from, to });
-        }
-        let arc = Arc { from, to, length };
-        let place = self.arcs.len();
         let alloc = *self.arcs.allocator();
-        let ranked = rank_with(alloc, &self.ranked, &self.marks, RankedArc { place, arc })?;
-        self.arcs.push(arc)?;
-        self.ranked = ranked;
-        compute_lengths(&self.ranked, &self.lowers, &mut self.lengths);
+        let arc = Arc { from, to, length };
+        self.changes.clear();
+        if let Err(no) = order_with(
+            alloc,
+            &self.arcs,
+            &self.begun,
+            &mut self.order,
+            &mut self.marks,
+            from,
+            to,
+        ) {
+            return Err(no);
+        }
+        self.trail.reserve(self.lowers.len())?;
+        let start = self.trail.len();
+        keep_arc(
+            &mut self.arcs,
+            &mut self.starts,
+            &mut self.begun,
+            &mut self.ended,
+            arc,
+            start,
+        )?;
+        spread_last(
+            &self.arcs,
+            &self.begun,
+            &self.order,
+            &mut self.lengths,
+            &mut self.changes,
+            arc,
+        );
+        let count = self.arcs.len();
+        self.stale = keep_changes(&self.changes, &mut self.trail, self.stale, count);
         Ok(())
     }
 
@@ -80,10 +121,30 @@ impl Paths {
         requires { let kept = self.old.arcs in k ≤ length kept }
         ensures { self.new ≡ without_last self.old k }
     {
-        let left = self.arcs.len() - k as usize;
+        if k == 0 {
+            return;
+        }
+        let count = self.arcs.len();
+        let left = count - k as usize;
+        let start = self.starts[left];
         self.arcs.truncate(left);
-        keep_below(&mut self.ranked, left);
-        compute_lengths(&self.ranked, &self.lowers, &mut self.lengths);
+        self.starts.truncate(left);
+        shorten(&mut self.begun, count, left);
+        shorten(&mut self.ended, count, left);
+        if self.stale <= left {
+            put_back(&mut self.lengths, &mut self.trail, start);
+        } else {
+            self.stale = left;
+            self.trail.clear();
+            spread_anew(
+                &self.arcs,
+                &self.begun,
+                &self.order,
+                &self.lowers,
+                &mut self.lengths,
+                &mut self.changes,
+            );
+        }
     }
 
     /// Raises a node's lower to `lower`, unless it is greater.
@@ -92,10 +153,21 @@ impl Paths {
         requires short { IsShort (raised self.old node lower) }
         ensures { self.new ≡ raised self.old node lower }
     {
+        self.changes.clear();
         let at = node as usize;
         if self.lowers[at] < lower {
             self.lowers[at] = lower;
-            compute_lengths(&self.ranked, &self.lowers, &mut self.lengths);
+            self.stale = self.arcs.len();
+            self.trail.clear();
+            raise_length(
+                &self.arcs,
+                &self.begun,
+                &self.order,
+                &self.lowers,
+                &mut self.lengths,
+                &mut self.changes,
+                node,
+            );
         }
     }
 
@@ -107,6 +179,24 @@ impl Paths {
             → walk_length self.now.lowers self.now.arcs nodes ≤ result }
     {
         self.lengths[node as usize]
+    }
+
+    /// An order of the nodes in which each kept arc leads from a lower place to a higher. Only `add`
+    /// changes it.
+    pub fn order(&self) -> &Order
+        ensures size { length result.now ≡ length self.now.lowers }
+        ensures rising { AreRising self.now.arcs result.now }
+    {
+        &self.order
+    }
+
+    /// The node's place in that order.
+    pub fn place(&self, node: u32) -> u32
+        requires { IsNode self.now node }
+        ensures within { result < length self.now.lowers }
+        ensures rising { (places : List ℕ) × AreRising self.now.arcs places × (result ≡ slice_index places node) }
+    {
+        self.order.place(node)
     }
 
     /// The arcs that are kept, in the order in which they were added.
@@ -127,7 +217,15 @@ impl Paths {
             IsLongest self.now.lowers self.now.arcs node (walk_length self.now.lowers self.now.arcs nodes.items)) }
     {
         let alloc = *self.arcs.allocator();
-        Ok(trace_walk(alloc, &self.ranked, &self.lowers, &self.lengths, node)?)
+        Ok(walk_back(
+            alloc,
+            &self.arcs,
+            &self.ended,
+            &self.order,
+            &self.lowers,
+            &self.lengths,
+            node,
+        )?)
     }
 
     /// The nodes of a way along kept arcs from one node to another, both among them, and `None`
@@ -143,6 +241,14 @@ impl Paths {
             → ¬ HasCycle (with_arc self.now to from length).arcs)) }
     {
         let alloc = *self.arcs.allocator();
-        Ok(trace_way(alloc, &self.ranked, self.marks.len(), from, to)?)
+        Ok(find_way(
+            alloc,
+            &self.arcs,
+            &self.begun,
+            &self.ended,
+            &self.order,
+            from,
+            to,
+        )?)
     }
 }

@@ -1,120 +1,97 @@
-use Rattle.std.proofs.Common.{◌≡◌, ◌<◌, ◌∷◌, ◌++◌, [], length, get_or, false, refl, sym, ◌∙◌, arith}
-use Rattle.std.proofs.lemmas.List.{get_or_read}
+use Rattle.std.proofs.Common.{◌≡◌, ◌+◌, ◌<◌, ◌∷◌, ◌++◌, [], length, get_or, false, refl, sym, ap, ◌∙◌, subst, arith}
 use Rattle.std.proofs.lemmas.Result.{err_from_is_err_and}
+use Rattle.std.proofs.lemmas.List.{length-append}
+use Rattle.std.proofs.lemmas.List.Elements.{All-push}
 use Rattle.incremental_paths.specs.declared.arc.Arc.{Arc}
 use Rattle.incremental_paths.specs.Walks.{HasCycle}
-use Rattle.incremental_paths.specs.Kept.{AreMarks, AreRanked, AreWithin, WalksFit, rank_with_lem}
-use Rattle.incremental_paths.proofs.Adds.{within_with}
-use Rattle.incremental_paths.proofs.KeptFields.{closes, added_ranked, added_no_cycle, added_fit, kept_with, fits_ranked, written_back}
+use Rattle.incremental_paths.specs.Marked.{AreRising}
+use Rattle.incremental_paths.specs.Spread.{WalksFit, TellsMore}
+use Rattle.incremental_paths.proofs.Reordering.{rising_free}
+use Rattle.incremental_paths.proofs.KeptFields.{longest_spread, longest_reached, reached_more, fits_from_short, kept_more, written_back}
 use Rattle.incremental_paths.proofs.paths.Paths.add.Goals as goal
-use Rattle.incremental_paths.proofs.paths.Paths.add.Goals.{After-index, In_ok-ranked, After-deref_mut-2}
+use Rattle.incremental_paths.proofs.paths.Paths.add.Goals.{In_default}
 
--- the new arc
-arc : (c : After-index) → Arc
+arc : (c : In_default) → Arc
 arc c = record { from = c.args.from; to = c.args.to; length = c.args.length }
 
-marked : (c : After-index) → AreMarks c.self.inside.ranked.items c.args.to c.mark_from.new.marks
-marked c = rw c.deref.ensures.value at c.mark_from.ensures
-
--- the mark that was read is that of the node where the new arc begins
-read : (c : After-index) → c.index.result.now ≡ get_or c.mark_from.new.marks c.args.from false
-read c =
-    let f = c.self.inside in
-    let lt : c.args.from < length f.lowers.items = rw (← c.self.view_is) at c.requires.from in
-    let same : length c.mark_from.new.marks ≡ f.marks.len = omega (arith, c.mark_from.auto.marks, c.deref_mut.ensures.len) in
-    let item = rw (written_back f.marks.items c.mark_from.new.marks f.marks.len same) at c.index.ensures in
-    get_or_read c.mark_from.new.marks c.args.from c.index.result.now (omega (arith, lt, same, f.marks.ok.0, c.self.invariant.a_mark_each)) item false
-
--- with the new arc there is no cycle, where that node has no mark
-no_cycle_with : (c : After-index) → c.index.result.now ≡ false → HasCycle (c.args.self.now.arcs ++ arc c ∷ []) → ⊥
+rising : (c : In_default) → AreRising (c.self.inside.arcs.items ++ arc c ∷ []) c.order_with.new.order
 unfolding arc
-no_cycle_with c free =
-    let f = c.self.inside in
-    rw (← c.self.view_is) (added_no_cycle f.lowers.items f.arcs.items f.ranked.items f.lengths.items f.marks.items c.self.invariant (arc c) c.mark_from.new.marks (marked c) (sym (read c) ∙ free))
+rising c = rw c.deref.ensures.value at (c.in_default.ensures.ok c.args.length)
 
-pub returns-then-index-clause-closes : goal.returns-then-index-clause-closes
+no_cycle : (c : In_default) → HasCycle (c.args.self.now.arcs ++ arc c ∷ []) → ⊥
 unfolding arc
-returns-then-index-clause-closes c =
-    let f = c.self.inside in
-    let d = (goal.at.returns-then-index-clause-closes c).After-index in
-    (λ _. rw (← c.self.view_is) (closes f.lowers.items f.arcs.items f.ranked.items f.lengths.items f.marks.items c.self.invariant (arc d) c.mark_from.new.marks (marked d) (sym (read d) ∙ c.if-index.true)), λ _. refl)
+no_cycle c = rw (← c.self.view_is) (rising_free (c.self.inside.arcs.items ++ arc c ∷ []) c.order_with.new.order (rising c))
 
-pub returns-in_err-ranked-clause-closes : goal.returns-in_err-ranked-clause-closes
-unfolding arc
-returns-in_err-ranked-clause-closes c =
-    let d = (goal.at.returns-in_err-ranked-clause-closes c).After-index in
-    let p = err_from_is_err_and c.from_residual.result c.from_residual.ensures.1 in
-    rw (p.1, p.2) (λ e. absurd (cc), λ h. absurd (no_cycle_with d c.if-index.false h))
-
-pub returns-in_err-push-clause-closes : goal.returns-in_err-push-clause-closes
-unfolding arc
-returns-in_err-push-clause-closes c =
-    let d = (goal.at.returns-in_err-push-clause-closes c).After-index in
-    let p = err_from_is_err_and c.from_residual-in_err-push.result c.from_residual-in_err-push.ensures.1 in
-    rw (p.1, p.2) (λ e. absurd (cc), λ h. absurd (no_cycle_with d c.if-index.false h))
-
--- the order of the arcs with the new one
-ranked_is : (c : In_ok-ranked) → c.in_ok-ranked.ranked.items ≡ rank_with_lem c.mark_from.new.marks c.self.inside.ranked.items (record { place = length c.self.inside.arcs.items; arc = record { from = c.args.from; to = c.args.to; length = c.args.length } })
-ranked_is c =
-    let f = c.self.inside in
-    let same : length c.mark_from.new.marks ≡ f.marks.len = omega (arith, c.mark_from.auto.marks, c.deref_mut.ensures.len) in
-    let place : c.len-place.result ≡ length f.arcs.items = omega (arith, c.len-place.ensures, f.arcs.ok.0) in
-    rw (c.deref-2.ensures.value, c.deref-3.ensures.value, written_back f.marks.items c.mark_from.new.marks f.marks.len same, place) at c.in_ok-ranked.ensures
-
-added : (c : After-deref_mut-2) → AreRanked (c.self.inside.arcs.items ++ record { from = c.args.from; to = c.args.to; length = c.args.length } ∷ []) c.in_ok-ranked.ranked.items
-unfolding arc
-added c =
-    let f = c.self.inside in
-    let at = goal.at.compute_lengths-requires-clause-fit c in
-    let d = at.After-index in
-    rw (ranked_is at.In_ok-ranked) (added_ranked f.lowers.items f.arcs.items f.ranked.items f.lengths.items f.marks.items c.self.invariant (arc d) c.mark_from.new.marks (marked d) (sym (read d) ∙ c.if-index.false))
-
-within : (c : In_ok-ranked) → AreWithin (length c.self.inside.lowers.items) c.in_ok-ranked.ranked.items
-within c =
-    let f = c.self.inside in
-    let from : c.args.from < length f.lowers.items = rw (← c.self.view_is) at c.requires.from in
-    let to : c.args.to < length f.lowers.items = rw (← c.self.view_is) at c.requires.to in
-    rw (ranked_is c) (within_with (length f.lowers.items) c.mark_from.new.marks f.ranked.items (record { place = length f.arcs.items; arc = record { from = c.args.from; to = c.args.to; length = c.args.length } }) c.self.invariant.within from to)
-
-fit : (c : After-deref_mut-2) → WalksFit c.self.inside.lowers.items (c.self.inside.arcs.items ++ record { from = c.args.from; to = c.args.to; length = c.args.length } ∷ [])
+fit : (c : In_default) → WalksFit c.self.inside.lowers.items (c.self.inside.arcs.items ++ arc c ∷ [])
 unfolding arc
 fit c =
     let f = c.self.inside in
-    let d = (goal.at.compute_lengths-requires-clause-fit c).After-index in
     let short = rw (← c.self.view_is) at c.requires.short in
-    added_fit f.lowers.items f.arcs.items f.ranked.items f.lengths.items f.marks.items c.self.invariant (arc d) c.mark_from.new.marks (marked d) (sym (read d) ∙ c.if-index.false) short
+    fits_from_short f.lowers.items (f.arcs.items ++ arc c ∷ []) (short (rising_free (f.arcs.items ++ arc c ∷ []) c.order_with.new.order (rising c)))
 
-pub compute_lengths-requires-clause-within : goal.compute_lengths-requires-clause-within
-compute_lengths-requires-clause-within c =
-    let d = (goal.at.compute_lengths-requires-clause-within c).In_ok-ranked in
-    rw (c.deref-4.ensures.value, c.deref-5.ensures.value) (within d)
+pub returns-in-Err-clause-closes : goal.returns-in-Err-clause-closes
+returns-in-Err-clause-closes c = rw (← c.self.view_is) (rw c.deref.ensures.value at (c.in-Err.ensures.closes c.args.length))
 
-pub compute_lengths-requires-clause-in_order : goal.compute_lengths-requires-clause-in_order
-compute_lengths-requires-clause-in_order c =
-    let are = added c in
-    rw c.deref-4.ensures.value are.in_order
+pub returns-in_err-reserve-clause-closes : goal.returns-in_err-reserve-clause-closes
+unfolding arc
+returns-in_err-reserve-clause-closes c =
+    let d = (goal.at.returns-in_err-reserve-clause-closes c).In_default in
+    let p = err_from_is_err_and c.from_residual.result c.from_residual.ensures.1 in
+    rw (p.1, p.2) (λ e. absurd (cc), λ h. absurd (no_cycle d h))
 
-pub compute_lengths-requires-clause-fit : goal.compute_lengths-requires-clause-fit
-compute_lengths-requires-clause-fit c =
-    let f = c.self.inside in
-    rw (c.deref-4.ensures.value, c.deref-5.ensures.value)
-    (fits_ranked f.lowers.items (f.arcs.items ++ record { from = c.args.from; to = c.args.to; length = c.args.length } ∷ []) c.in_ok-ranked.ranked.items (added c) (fit c))
-
-pub invariant_of-self-2 : goal.invariant_of-self-2
-invariant_of-self-2 c =
-    let at = goal.at.invariant_of-self-2 c in
-    let d = at.After-deref_mut-2 in
-    let f = c.self.inside in
-    let k = c.self.invariant in
-    let a_mark_each : length c.mark_from.new.marks ≡ f.marks.len = omega (arith, c.mark_from.auto.marks, c.deref_mut.ensures.len) in
-    let a_length_each : length c.compute_lengths.new.lengths ≡ f.lengths.len = omega (arith, c.compute_lengths.auto.lengths, c.deref_mut-2.ensures.len) in
-    let longest = rw (c.deref-4.ensures.value, c.deref-5.ensures.value) at c.compute_lengths.ensures in
-    rw (c.in_ok-push.ensures.items, written_back f.lengths.items c.compute_lengths.new.lengths f.lengths.len a_length_each, written_back f.marks.items c.mark_from.new.marks f.marks.len a_mark_each)
-    (kept_with f.lowers.items (f.arcs.items ++ record { from = c.args.from; to = c.args.to; length = c.args.length } ∷ []) c.in_ok-ranked.ranked.items c.compute_lengths.new.lengths c.mark_from.new.marks
-    k.few (omega (arith, a_length_each, f.lengths.ok.0, k.a_length_each)) (omega (arith, a_mark_each, f.marks.ok.0, k.a_mark_each)) (within at.In_ok-ranked) (added d) longest (fit d))
+pub returns-in_err-keep_arc-clause-closes : goal.returns-in_err-keep_arc-clause-closes
+unfolding arc
+returns-in_err-keep_arc-clause-closes c =
+    let d = (goal.at.returns-in_err-keep_arc-clause-closes c).In_default in
+    let p = err_from_is_err_and c.from_residual-in_err-keep_arc.result c.from_residual-in_err-keep_arc.ensures.1 in
+    rw (p.1, p.2) (λ e. absurd (cc), λ h. absurd (no_cycle d h))
 
 pub returns-clause-closes : goal.returns-clause-closes
 unfolding arc
 returns-clause-closes c =
-    let d = (goal.at.returns-clause-closes c).After-index in
-    (λ e. absurd (cc), λ h. absurd (no_cycle_with d c.if-index.false h))
+    let d = (goal.at.returns-clause-closes c).In_default in
+    (λ e. absurd (cc), λ h. absurd (no_cycle d h))
+
+pub spread_last-requires-clause-within : goal.spread_last-requires-clause-within
+spread_last-requires-clause-within c =
+    let f = c.self.inside in
+    let k = c.self.invariant in
+    let from : c.args.from < length f.lowers.items = rw (← c.self.view_is) at c.requires.from in
+    let to : c.args.to < length f.lowers.items = rw (← c.self.view_is) at c.requires.to in
+    let arc : Arc = record { from = c.args.from; to = c.args.to; length = c.args.length } in
+    rw (c.deref-2.ensures.value, c.deref_mut.ensures.value, c.in_ok-keep_arc.ensures.arcs, k.a_length_each) (All-push (λ (z : Arc). (z.from < length f.lowers.items) × (z.to < length f.lowers.items)) f.arcs.items arc k.within (from, to))
+
+pub spread_last-requires-clause-reached : goal.spread_last-requires-clause-reached
+unfolding arc
+spread_last-requires-clause-reached c =
+    let f = c.self.inside in
+    let k = c.self.invariant in
+    let d = (goal.at.spread_last-requires-clause-reached c).In_default in
+    rw (c.deref-2.ensures.value, c.deref_mut.ensures.value, c.in_ok-keep_arc.ensures.arcs)
+    (f.lowers.items, reached_more f.lowers.items f.arcs.items (arc d) f.lengths.items (longest_reached f.lowers.items f.arcs.items f.lengths.items k.a_length_each k.longest), fit d)
+
+pub spread_last-requires-clause-last : goal.spread_last-requires-clause-last
+spread_last-requires-clause-last c =
+    let f = c.self.inside in
+    let k = c.self.invariant in
+    rw (c.deref-2.ensures.value, c.deref_mut.ensures.value, c.in_ok-keep_arc.ensures.arcs) (f.arcs.items, refl, longest_spread f.lowers.items f.arcs.items f.lengths.items k.within k.longest)
+
+pub invariant_of-self-2 : goal.invariant_of-self-2
+unfolding arc
+invariant_of-self-2 c =
+    let f = c.self.inside in
+    let k = c.self.invariant in
+    let d = (goal.at.invariant_of-self-2 c).In_default in
+    let from : c.args.from < length f.lowers.items = rw (← c.self.view_is) at c.requires.from in
+    let to : c.args.to < length f.lowers.items = rw (← c.self.view_is) at c.requires.to in
+    let same : length c.spread_last.new.lengths ≡ f.lengths.len = omega (arith, c.spread_last.auto.lengths, c.deref_mut.ensures.len) in
+    let before = reached_more f.lowers.items f.arcs.items (arc d) f.lengths.items (longest_reached f.lowers.items f.arcs.items f.lengths.items k.a_length_each k.longest) in
+    let reached = rw (c.deref-2.ensures.value, c.deref_mut.ensures.value, c.in_ok-keep_arc.ensures.arcs) at c.spread_last.ensures.reached in
+    let spread = rw (c.deref-2.ensures.value, c.in_ok-keep_arc.ensures.arcs) at c.spread_last.ensures.spread in
+    let tells = rw (c.clear.ensures, c.deref_mut.ensures.value) at c.spread_last.ensures.tells in
+    let choice = rw (c.in_ok-reserve.ensures.items) at c.keep_changes-self-inside.ensures in
+    let start : c.len-start.result ≡ length f.trail.items = omega (arith, c.len-start.ensures, c.in_ok-reserve.ensures.len, f.trail.ok.0) in
+    let count : c.len-count.result ≡ length f.arcs.items + 1 = omega (arith, c.len-count.ensures, c.keep_arc.new.arcs.ok.0, ap length c.in_ok-keep_arc.ensures.arcs, length-append f.arcs.items (arc d ∷ [])) in
+    rw (c.in_ok-keep_arc.ensures.arcs, c.in_ok-keep_arc.ensures.starts, c.in_ok-keep_arc.ensures.begun, c.in_ok-keep_arc.ensures.ended, start, written_back f.lengths.items c.spread_last.new.lengths f.lengths.len same)
+    (kept_more f.lowers.items f.arcs.items f.begun f.ended f.order f.marks f.lengths.items f.trail.items f.starts.items f.stale c.self.invariant (arc d) c.order_with.new.order c.order_with.new.marks c.spread_last.new.lengths c.spread_last.new.changes c.keep_changes-self-inside.new.trail.items c.keep_changes-self-inside.result c.len-count.result tells
+    from to (c.order_with.ensures.size ∙ k.a_place_each) (c.order_with.ensures.marks ∙ k.a_mark_each) (rising d) (fit d) (reached f.lowers.items before) spread count choice)

@@ -4,5 +4,5 @@ use Rattle.incremental_paths.proofs.paths.Paths.new.Goals as goal
 
 pub invariant_of-result : goal.invariant_of-result
 invariant_of-result c =
-    rw (c.in_ok-from_slice.ensures.items, c.new.ensures.items, c.new-2.ensures.items, c.in_ok-from_slice-2.ensures.items, c.in_ok-vec.ensures.items_if_clones_equal (λ y e. e))
-    (kept_new c.args.lowers.now c.requires (λ v. omega (arith, c.type_inv.lowers v)))
+    rw (c.in_ok-from_slice.ensures.items, c.new.ensures.items, c.in_ok-from_slice-2.ensures.items, c.new-7.ensures.items, c.new-8.ensures.items)
+    (kept_new c.args.lowers.now c.in_ok-new-3.field-0 c.in_ok-new-4.field-0 c.in_ok-new.field-0 c.in_ok-new-2.field-0 c.requires (λ v. omega (arith, c.type_inv.lowers v)) c.in_ok-new-3.ensures c.in_ok-new-4.ensures c.in_ok-new.ensures c.in_ok-new-2.ensures)
