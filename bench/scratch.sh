@@ -13,7 +13,9 @@ open_scratch() {
   printf '%s\n' "$lines" > crates.txt
   for crate in "$@"; do
     mkdir -p "crates/$crate"
-    cp -r "$top/crates/$crate"/{src,specs,proofs} "crates/$crate/"
+    for part in src specs proofs; do
+      if [ -d "$top/crates/$crate/$part" ]; then cp -r "$top/crates/$crate/$part" "crates/$crate/"; fi
+    done
   done
   mkdir -p "crates/$name"/{src,specs,proofs}
   cd "crates/$name"

@@ -72,12 +72,7 @@ fn a_fixing_is_taken_back(rt: HostRuntime) -> Result<(), Fail> {
     let twice = b"started 0 0 0\nwithdraw 1\nwithdraw 1\n";
     row(&rt, twice, 2, "fixings line 3: refused Withdrawn 2\n")?;
     let withdrawal = b"started 0 0 0\nwithdraw 1\nwithdraw 2\n";
-    row(
-        &rt,
-        withdrawal,
-        2,
-        "fixings line 3: refused NoSuchChange\n",
-    )
+    row(&rt, withdrawal, 2, "fixings line 3: refused NoSuchChange\n")
 }
 
 #[test]
