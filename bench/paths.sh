@@ -1,5 +1,5 @@
 #!/usr/bin/env bash
-# Microseconds for an add and for a withdrawal on random acyclic graphs, by the body that computes all
+# Seconds for all adds and for all withdrawals on random acyclic graphs, by the body that computes all
 # lengths anew and by the one that pushes them on, in one run:
 #     bench/paths.sh [NODES ARCS]..        1000 3000 10000 20000, where they are left out
 # The arcs follow an order of the nodes that the bodies are not told. The body that computes anew is that
@@ -21,7 +21,7 @@ cd crates/paths_bench
 cat > src/body.rt <<'PROGRAM'
 ghost use Rattle.std.specs.Prelude.{◌≡◌, ◌<◌, ◌≤◌, [], length, All};
 
-use crate::next;
+use crate::{first_of, last_of, next, node_of};
 use incremental_paths::Paths;
 use std::io;
 use std::rt::Clock;
@@ -37,12 +37,10 @@ fn add_all(paths: &mut Paths, nodes: u32, arcs: u32)
     let mut seed = 1;
     for _ in 0..arcs {
         seed = next(seed);
-        let one = (seed % u64::from(nodes)) as u32;
+        let one = node_of(seed, nodes);
         seed = next(seed);
-        let other = (seed % u64::from(nodes)) as u32;
-        let ordered = u64::from(one) * 7919 % u64::from(nodes) < u64::from(other) * 7919 % u64::from(nodes);
-        let from = if ordered { one } else { other };
-        let to = if ordered { other } else { one };
+        let from = first_of(one, node_of(seed, nodes), nodes);
+        let to = last_of(one, node_of(seed, nodes), nodes);
         let _ = paths.add(from, to, seed % 1000);
     }
 }
@@ -64,12 +62,12 @@ pub fn measure(rt: &(impl Clock + Print + AllocGlobal), nodes: u32, arcs: u32) -
     };
     let start = Instant::now(rt)?;
     add_all(&mut paths, nodes, arcs);
-    let added = start.elapsed(rt)?.as_secs_f64() * 1e6;
+    let added = start.elapsed(rt)?.as_secs_f64();
     let kept = paths.arcs().len();
     let start = Instant::now(rt)?;
     withdraw_all(&mut paths);
-    let withdrawn = start.elapsed(rt)?.as_secs_f64() * 1e6;
-    println!(rt; "{nodes} nodes, BODY: {:.2} an add, {:.2} a withdrawal, {kept} arcs kept of {arcs}", added / f64::from(arcs), withdrawn / f64::from(arcs))
+    let withdrawn = start.elapsed(rt)?.as_secs_f64();
+    println!(rt; "{nodes} nodes, BODY: {arcs} adds in {added:.5} s, {kept} withdrawals in {withdrawn:.5} s")
 }
 PROGRAM
 sed 's/BODY/pushed on/' src/body.rt > src/pushed.rt
@@ -93,6 +91,36 @@ fn next(seed: u64) -> u64
     ensures { result < 2147483647 }
 {
     (seed * 48271) % 2147483647
+}
+
+fn node_of(seed: u64, nodes: u32) -> u32
+    requires { 0 < nodes }
+    ensures { result < nodes }
+{
+    (seed % u64::from(nodes)) as u32
+}
+
+// The node's place in the order that the arcs follow.
+fn rank(node: u32, nodes: u32) -> u64
+    requires { 0 < nodes }
+{
+    u64::from(node) * 7919 % u64::from(nodes)
+}
+
+fn first_of(one: u32, other: u32, nodes: u32) -> u32
+    requires one { one < nodes }
+    requires other { other < nodes }
+    ensures { result < nodes }
+{
+    if rank(one, nodes) < rank(other, nodes) { one } else { other }
+}
+
+fn last_of(one: u32, other: u32, nodes: u32) -> u32
+    requires one { one < nodes }
+    requires other { other < nodes }
+    ensures { result < nodes }
+{
+    if rank(one, nodes) < rank(other, nodes) { other } else { one }
 }
 
 fn main(rt: HostRuntime) -> io::Result<()> {
