@@ -22,16 +22,16 @@ use Rattle.definition_examples.specs.Trains.{HasForkedTrain, forked, op_named}
 use Rattle.definition_examples.proofs.Made.{made, of_made}
 use Rattle.definition_examples.proofs.Contained.{in_one, in_two, parted}
 
-abbrev by_1 : List ℕ
+abbrev pub by_1 : List ℕ
 by_1 = 0 ∷ 1 ∷ 3 ∷ []
 
-abbrev by_2 : List ℕ
+abbrev pub by_2 : List ℕ
 by_2 = 0 ∷ 2 ∷ 3 ∷ []
 
-by_1_there : IsRoute forked by_1
+pub by_1_there : IsRoute forked by_1
 by_1_there = search rules
 
-by_2_there : IsRoute forked by_2
+pub by_2_there : IsRoute forked by_2
 by_2_there = search rules
 
 from_3 : (rest : List ℕ) → GoesOn forked 3 rest → rest ≡ []
@@ -60,7 +60,7 @@ on_from_0 (s ∷ rest) h =
       | inr same ↦ inr (rw same (ap (λ (xs : List ℕ). 2 ∷ xs) (on_from_2 rest (subst (λ x. GoesOn forked x rest) same h.1))))
     ]
 
-two_routes : (route : List ℕ) → IsRoute forked route → (route ≡ by_1) ⊎ (route ≡ by_2)
+pub two_routes : (route : List ℕ) → IsRoute forked route → (route ≡ by_1) ⊎ (route ≡ by_2)
 two_routes [] h = absurd h
 two_routes (zero ∷ rest) h =
     elim (on_from_0 rest h.1) [
@@ -74,7 +74,7 @@ two_routes (suc (suc (suc (suc o))) ∷ rest) h = absurd (let t : suc (suc (suc 
 
 -- ---- what is left
 
-none_behind_1 : Contains by_2 1 → ⊥
+pub none_behind_1 : Contains by_2 1 → ⊥
 none_behind_1 (zero, lt, at) = omega (arith, at)
 none_behind_1 (suc zero, lt, at) = omega (arith, at)
 none_behind_1 (suc (suc zero), lt, at) = omega (arith, at)

@@ -18,3 +18,4 @@ pub mod PicksNothing
 pub mod SettledHistory
 pub mod StoppedHistory
 pub mod Touching
+pub mod BranchShares

@@ -1,22 +1,19 @@
 -- The two trains where the second is not to start before a time.
-use Rattle.std.proofs.Common.{◌≡◌, ℕ, zero, suc, ◌+◌, ◌<◌, ◌≤◌, List, [], ◌∷◌, Bool, true, false, cond, refl, sym, ap, subst, ◌∙◌, arith, rules, inl, inr}
-use Rattle.std.specs.Prelude.{nat_eq, Contains, unwrap_or, max, ◌&&◌, ◌≢◌}
+use Rattle.std.proofs.Common.{◌≡◌, ℕ, zero, suc, ◌+◌, ◌<◌, ◌≤◌, List, [], ◌∷◌, Bool, true, false, cond, refl, sym, ap, subst, ◌∙◌, arith, rules, inl}
+use Rattle.std.specs.Prelude.{nat_eq, max, ◌&&◌}
 use Rattle.disp_model.specs.declared.train.Op.{Op}
 use Rattle.disp_model.specs.declared.fixing.Fixing.{Fixing}
 use Rattle.disp_model.specs.declared.fixing.Fixing.TheVariants.{NotBefore}
-use Rattle.disp_model.specs.declared.decision.Decision.TheVariants.{First}
 use Rattle.disp_model.specs.declared.decision.Choice.TheVariants.{Order}
 use Rattle.disp_model.specs.declared.problem.Problem.{Problem}
 use Rattle.disp_model.specs.WellFormed.{IsWellFormed}
 use Rattle.disp_model.specs.Fixing.{after}
-use Rattle.disp_model.specs.Node.{Node, root_of}
-use Rattle.disp_model.specs.Routes.{IsForced}
-use Rattle.disp_model.specs.Arcs.{release_of, GoesTo}
+use Rattle.disp_model.specs.Node.{root_of}
 use Rattle.disp_model.specs.Walks.{lower_of, IsLongest}
 use Rattle.disp_model.specs.Choices.{IsEnd, Clears, IsOpenOrder, IsOpen}
 use Rattle.disp_laws.proofs.Picked.{one_longest}
 use Rattle.disp_laws.proofs.EarliestEnds.{one_end_time}
-use Rattle.definition_examples.specs.Trains.{HasTwoTrains, two_trains, two_costs, op_named, a0, a1, b0, b1}
+use Rattle.definition_examples.specs.Trains.{HasTwoTrains, two_trains, two_costs, op_named, a0, b0}
 use Rattle.definition_examples.proofs.Made.{of_made}
 use Rattle.definition_examples.proofs.Heights.{IsHeight, longest}
 use Rattle.definition_examples.proofs.TwoArcs.{two, IsOpen as HaveRoutes, lasts, free_arcs, route_is, none_decided}

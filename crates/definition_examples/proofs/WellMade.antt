@@ -6,7 +6,7 @@ use Rattle.disp_model.specs.declared.train.Operation.{Operation}
 use Rattle.disp_model.specs.declared.problem.Problem.{Problem}
 use Rattle.disp_model.specs.Train.{IsSuccessor, IsEntry, IsExit}
 use Rattle.disp_model.specs.WellFormed.{IsWellFormed, IsAcyclic, LeadsTo}
-use Rattle.definition_examples.specs.Trains.{HasTwoTrains, HasSwapTrains, HasForkedTrain, HasWindowedTrain, two_trains, two_costs, lasting, listing, swap_trains, forked, windowed}
+use Rattle.definition_examples.specs.Trains.{HasBranchCosts, branch_costs, HasTwoTrains, HasSwapTrains, HasForkedTrain, HasWindowedTrain, two_trains, two_costs, lasting, listing, swap_trains, forked, windowed}
 use Rattle.definition_examples.proofs.Pairs.{PairPlaces, at_pair}
 use Rattle.definition_examples.proofs.Contained.{in_one, in_two}
 use Rattle.definition_examples.proofs.Made.{made}
@@ -150,6 +150,22 @@ forked_made = record {
 
 pub forked_train : (problem : Problem) × HasForkedTrain problem
 forked_train = (made (forked ∷ []) [] [] forked_made, record { trains = refl; components = refl })
+
+costly_made : IsWellFormed (forked ∷ []) branch_costs []
+costly_made = record {
+  numbers = search rules;
+  references = search (rules, named_once);
+  acyclic = All-from_recursion IsAcyclic (forked ∷ []) (fork_acyclic, tt);
+  named = search rules;
+  distinct = named_once [] (search rules);
+  trains_fit = omega arith;
+  operations_fit = omega arith;
+  components_fit = omega arith;
+  costs_fit = omega arith;
+}
+
+pub costly_branches : (problem : Problem) × HasBranchCosts problem
+costly_branches = (made (forked ∷ []) branch_costs [] costly_made, record { trains = refl; components = refl })
 
 windowed_made : IsWellFormed (windowed ∷ []) [] []
 windowed_made = record {

@@ -73,6 +73,15 @@ pub record HasForkedTrain (problem : Problem) : Type 0 where
   pub trains : problem.trains ≡ forked ∷ []
   pub components : problem.components ≡ []
 
+-- the costs of the forked train's branches: one unit for each unit of time by 1, two by 2
+abbrev pub branch_costs : List Component
+branch_costs = each_unit 0 1 ∷ record { train = 0; operation = 2; threshold = 0; increment = 0; coeff = 2 } ∷ []
+
+-- a problem with the forked train, and costs on its branches
+pub record HasBranchCosts (problem : Problem) : Type 0 where
+  pub trains : problem.trains ≡ forked ∷ []
+  pub components : problem.components ≡ branch_costs
+
 -- one train whose first operation may start from 2 to 5
 abbrev pub windowed : List Operation
 windowed = record { lower = 2; upper = Some 5; min = 1; listings = []; next = 1 ∷ [] } ∷ lasting 0 [] [] ∷ []

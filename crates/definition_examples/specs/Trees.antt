@@ -7,6 +7,7 @@ use Rattle.disp_model.specs.declared.decision.Decision.{Decision}
 use Rattle.disp_model.specs.declared.decision.Decision.TheVariants.{First}
 use Rattle.disp_model.specs.declared.decision.Choice.TheVariants.{Order}
 use Rattle.disp_model.specs.declared.tree.ComponentWalk.{ComponentWalk}
+use Rattle.disp_model.specs.declared.tree.TrainWalks.{TrainWalks}
 use Rattle.disp_model.specs.declared.tree.Leaf.TheVariants.{Late, Costs}
 use Rattle.disp_model.specs.declared.tree.TreeNode.{TreeNode}
 use Rattle.disp_model.specs.declared.tree.TreeNode.TheVariants.{Branch, Leaf}
@@ -52,3 +53,7 @@ both_started = Started 0 0 0 ∷ Started 1 0 0 ∷ []
 -- each of them leaves its first resource before the other takes it
 abbrev pub against : List Decision
 against = First a0 b1 ∷ First b0 a1 ∷ []
+
+-- the first train, listed without walks
+abbrev pub first_listed : TrainWalks
+first_listed = record { train = 0; walks = [] }
