@@ -25,7 +25,7 @@ use Rattle.dispatch_cli.specs.Answers.{IsAnswer, IsJudgedFile}
 use Rattle.dispatch_cli.specs.Causes.{StopsSolve, StopsSolution, StopsFixings, StopsJudging, StopsVerify, IsBadFile, name_in, TakesProblem, StopsTask, Stops, CountsTask, status_of}
 use Rattle.std.specs.List.{concat}
 use Rattle.dispatch_cli.specs.declared.answer.Put.{Put}
-use Rattle.dispatch_cli.specs.Endings.{Fails, GivesUp, PutsNothing, PutKeeps, PutFails, WriteFails, WriteGivesUp, PutGivesUp, Halts}
+use Rattle.dispatch_cli.specs.Endings.{Fails, GivesUp, PutsNothing, PutKeeps, PutFails, WriteFails, WriteGivesUp, PutGivesUp, Halts, ReadsWell}
 
 -- the problem of a file is not solved for its choices alone
 pub stops_by_choices : (holds : Holdings) (old new : Counts) (name : List ℕ) (problem : Problem) (cause : Cause) → IsProblemFile holds name problem → IsForChoices problem cause → StopsSolve holds old new name cause
@@ -136,7 +136,7 @@ pub stops_solve : (holds : Holdings) (old new : Counts) (problem : List ℕ) (bu
 stops_solve holds old new problem budget plan (Failed which) (is, lt) = rw is (tt, (problem, refl, lt))
 stops_solve holds old new problem budget plan (TooLong which) (is, long) = rw is (tt, (problem, refl, long))
 stops_solve holds old new problem budget plan (NoProblem refusal) bad = (problem, refl, bad)
-stops_solve holds old new problem budget plan Choices bad = (problem, refl, bad)
+stops_solve holds old new problem budget plan Choices bad = (tt, (problem, refl, bad))
 stops_solve holds old new problem budget plan Memory stops = tt
 stops_solve holds old new problem budget plan (Words text) stops = absurd stops
 stops_solve holds old new problem budget plan (NoSolution refusal) stops = absurd stops
@@ -182,15 +182,19 @@ pub reads_of_one : (one : List ℕ) (old new : Counts) (old_puts new_puts : Coun
     → Reads (Is one) old new old_puts new_puts old_holds new_holds Fault
 reads_of_one one old new old_puts new_puts old_holds new_holds Fault h = record {
   counted = never_falls one old new h.counted h.others;
-  fault = λ name lt. rise name (bytes_eq name one) (bytes_eq-Decides name one) lt;
+  fault = λ name lt. h.fault (subst (λ (n : List ℕ). old n < new n) (is_one name lt) lt);
+  one = λ name other lt also. is_one name lt ∙ sym (is_one other also);
   others = h.others;
   puttings = h.puttings;
   held = h.held;
 }
   where
-    rise : (name : List ℕ) → (b : Bool) → Decides b (name ≡ one) → old name < new name → Fault
-    rise name true same lt = h.fault (subst (λ (n : List ℕ). old n < new n) (same.0 refl) lt)
+    rise : (name : List ℕ) → (b : Bool) → Decides b (name ≡ one) → old name < new name → name ≡ one
+    rise name true same lt = same.0 refl
     rise name false unlike lt = absurd (omega (arith, lt, h.others name (λ e. different (unlike.1 e))))
+
+    is_one : (name : List ℕ) → old name < new name → name ≡ one
+    is_one name lt = rise name (bytes_eq name one) (bytes_eq-Decides name one) lt
 
 -- two readings, of which the first had no fault
 pub reads_then : (One Two : List ℕ → Type 0) (old mid new : Counts) (old_puts mid_puts new_puts : Counts) (old_holds mid_holds new_holds : Holdings) (First Fault : Type 0) → (First → ⊥)
@@ -199,6 +203,7 @@ pub reads_then : (One Two : List ℕ → Type 0) (old mid new : Counts) (old_put
 reads_then One Two old mid new old_puts mid_puts new_puts old_holds mid_holds new_holds First Fault none first second = record {
   counted = λ name. omega (arith, first.counted name, second.counted name);
   fault = λ name lt. second.fault name (omega (arith, lt, kept name));
+  one = λ name other lt also. second.one name other (omega (arith, lt, kept name)) (omega (arith, also, kept other));
   others = λ other given. second.others other (λ two. given (inr two)) ∙ first.others other (λ one. given (inl one));
   puttings = λ other. second.puttings other ∙ first.puttings other;
   held = λ other. second.held other ∙ first.held other;
@@ -213,6 +218,7 @@ pub reads_among : (Few Many : List ℕ → Type 0) (old new : Counts) (old_puts 
 reads_among Few Many old new old_puts new_puts old_holds new_holds Fault more h = record {
   counted = h.counted;
   fault = h.fault;
+  one = h.one;
   others = λ other given. h.others other (λ few. given (more other few));
   puttings = h.puttings;
   held = h.held;
@@ -231,8 +237,8 @@ stops_task words holds old new task Memory asked stops = tt
 
 -- a putting or a write of an answer failed; between the run and the putting no count of puttings changed
 pub fails_of_answer : (words : List (List ℕ)) (old mid new : Outside) (answer : Answer) (journal : List Entry) → IsAnswer words old.holds answer → journal ≡ answer.journal
-    → ((name : List ℕ) → mid.putting name ≡ old.putting name) → mid.faults ≡ old.faults → mid.written ≡ old.written → PutFails answer mid new ⊎ WriteFails answer mid new → Fails words old new journal
-fails_of_answer words old mid new answer journal is_answer same puttings faults written (inl h) = inr (inl (record {
+    → ReadsWell old new → ((name : List ℕ) → mid.putting name ≡ old.putting name) → mid.faults ≡ old.faults → mid.written ≡ old.written → PutFails answer mid new ⊎ WriteFails answer mid new → Fails words old new journal
+fails_of_answer words old mid new answer journal is_answer same read puttings faults written (inl h) = inr (inl (record {
   answer = answer;
   is_answer = is_answer;
   journal_is = same;
@@ -241,14 +247,16 @@ fails_of_answer words old mid new answer journal is_answer same puttings faults 
   fault = rw (← puttings h.put.name) h.fault;
   nothing = h.nothing ∙ written;
   counted = h.counted ∙ faults;
+  read = read;
 }))
-fails_of_answer words old mid new answer journal is_answer same puttings faults written (inr h) = inr (inr (record {
+fails_of_answer words old mid new answer journal is_answer same read puttings faults written (inr h) = inr (inr (record {
   answer = answer;
   is_answer = is_answer;
   journal_is = same;
   put = h.put;
   fault = rw (← faults) h.fault;
   part = rw (← written) h.part;
+  read = read;
 }))
 
 -- what a name kept behind the run it kept from the start
@@ -258,17 +266,17 @@ kept_before (Some put) old mid new same h = h ∙ same put.name
 
 -- memory ran out at the putting or the writing of an answer; the run before it changed no file and wrote nothing
 pub gives_up_of_answer : (words : List (List ℕ)) (old mid new : Outside) (answer : Answer) (journal : List Entry) → IsAnswer words old.holds answer → journal ≡ answer.journal
-    → ((name : List ℕ) → mid.holds name ≡ old.holds name) → mid.written ≡ old.written → WriteGivesUp answer mid new ⊎ PutGivesUp answer mid new → GivesUp words old new journal
-gives_up_of_answer words old mid new answer journal is_answer same held written (inl h) = record {
+    → ReadsWell old new → ((name : List ℕ) → mid.holds name ≡ old.holds name) → mid.written ≡ old.written → WriteGivesUp answer mid new ⊎ PutGivesUp answer mid new → GivesUp words old new journal
+gives_up_of_answer words old mid new answer journal is_answer same read held written (inl h) = record {
   text = concat answer.lines;
-  due = inl (record { answer = answer; is_answer = is_answer; text_is = refl; journal_is = same; put = h.put });
+  due = inl (record { answer = answer; is_answer = is_answer; text_is = refl; journal_is = same; put = h.put; read = read });
   between = h.writes.between;
   part = rw (← written) h.writes.part;
   memory = h.writes.memory;
 }
-gives_up_of_answer words old mid new answer journal is_answer same held written (inr h) = record {
+gives_up_of_answer words old mid new answer journal is_answer same read held written (inr h) = record {
   text = [];
-  due = inr (inl (record { answer = answer; is_answer = is_answer; text_is = refl; journal_is = same; kept = kept_before answer.put old.holds mid.holds new.holds held h.kept }));
+  due = inr (inl (record { answer = answer; is_answer = is_answer; text_is = refl; journal_is = same; kept = kept_before answer.put old.holds mid.holds new.holds held h.kept; read = read }));
   between = h.writes.between;
   part = rw (← written) h.writes.part;
   memory = h.writes.memory;
@@ -307,3 +315,8 @@ fails_of_stop words old new cause journal status stops halts puts none is = go c
     go Choices stops halts e = two e
     go Memory stops halts (inl e) = absurd (not_five (sym e ∙ is))
     go Memory stops halts (inr e) = absurd (not_five (sym e ∙ is))
+
+-- what was read without a fault was read well, and nothing is read behind it
+pub read_well : (old mid new : Counts) (Fault : Type 0) → ((name : List ℕ) → old name ≤ mid name) → ((name : List ℕ) → old name < mid name → Fault) → (Fault → ⊥) → ((name : List ℕ) → new name ≡ mid name)
+    → (name : List ℕ) → new name ≡ old name
+read_well old mid new Fault counted fault none same name = same name ∙ omega (arith, counted name, (λ (lt : old name < mid name). none (fault name lt)))

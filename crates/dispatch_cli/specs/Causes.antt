@@ -138,7 +138,12 @@ pub record HasBadLine (holds : Holdings) (task : Task) (number : ℕ) (why : Lin
   pub named : name_in task input.Fixings ≡ Some name
   pub refused : IsRefusedLine holds problem name number why
 
--- what stopped a task has happened, and the files before it are taken
+-- the task is to solve a problem
+abbrev pub AsksToSolve : Task → Type 0
+AsksToSolve (Solve problem budget plan) = Unit {0}
+AsksToSolve (Verify problem solution fixings) = ⊥
+
+-- what stopped a task has happened, and the files before it are taken; only a problem to be solved is refused for its choices
 abbrev pub StopsTask : Holdings → Counts → Counts → Task → Cause → Type 0
 StopsTask holds old new task (Words text) = ⊥
 StopsTask holds old new task (Failed which) = ComesTo holds task which × FailsToRead old new task which
@@ -146,7 +151,7 @@ StopsTask holds old new task (TooLong which) = ComesTo holds task which × IsToo
 StopsTask holds old new task (NoProblem refusal) = IsBadInput holds task input.Problem (λ bytes. IsNoProblem bytes refusal)
 StopsTask holds old new task (NoSolution refusal) = ComesTo holds task input.Solution × IsBadInput holds task input.Solution (λ bytes. IsNoSolution bytes refusal)
 StopsTask holds old new task (BadLine number why) = HasBadLine holds task number why
-StopsTask holds old new task Choices = IsBadInput holds task input.Problem IsReadWithChoices
+StopsTask holds old new task Choices = AsksToSolve task × IsBadInput holds task input.Problem IsReadWithChoices
 StopsTask holds old new task Memory = Unit {0}
 
 -- the words ask for a task, and what stopped it has happened

@@ -10,7 +10,7 @@ use Rattle.dispatch_cli.specs.declared.cause.Cause.TheVariants.{Failed, Memory}
 use Rattle.dispatch_cli.specs.declared.cause.Input.{Input}
 use Rattle.dispatch_cli.specs.Outside.{Outside, Holdings, Counts, Writes}
 use Rattle.dispatch_cli.specs.Answers.{IsAnswer, IsPut, IsDuePut, PutsUnder}
-use Rattle.dispatch_cli.specs.Causes.{Stops, line_of, due_line, status_of}
+use Rattle.dispatch_cli.specs.Causes.{Stops, IsReadingFault, line_of, due_line, status_of}
 
 -- status 0 or 1: what was to be put is held, and the lines of the answer were written
 pub record Answers (words : List (List ℕ)) (old new : Outside) (status : ℕ) (journal : List Entry) : Type 0 where
@@ -45,6 +45,10 @@ pub record CannotRead (words : List (List ℕ)) (old new : Outside) (journal : L
   pub whole : new.faults ≡ old.faults → Writes old.written new.written (line_of (Failed which))
   pub puts : PutsNothing old new
 
+-- no reading of any name failed
+abbrev pub ReadsWell : Outside → Outside → Type 0
+ReadsWell old new = (name : List ℕ) → new.reading name ≡ old.reading name
+
 -- the plan could not be put, and nothing was written
 pub record CannotPut (words : List (List ℕ)) (old new : Outside) (journal : List Entry) : Type 0 where
   pub answer : Answer
@@ -55,6 +59,7 @@ pub record CannotPut (words : List (List ℕ)) (old new : Outside) (journal : Li
   pub fault : old.putting put.name < new.putting put.name
   pub nothing : new.written ≡ old.written
   pub counted : new.faults ≡ old.faults
+  pub read : ReadsWell old new
 
 -- what was to be put is held, and a write of the lines failed
 pub record CannotWrite (words : List (List ℕ)) (old new : Outside) (journal : List Entry) : Type 0 where
@@ -64,6 +69,7 @@ pub record CannotWrite (words : List (List ℕ)) (old new : Outside) (journal : 
   pub put : IsPut answer.put new.holds
   pub fault : old.faults < new.faults
   pub part : WritesPart old.written new.written (concat answer.lines)
+  pub read : ReadsWell old new
 
 -- status 4: a reading of a named file, a putting under a named one, or a write failed
 abbrev pub Fails : List (List ℕ) → Outside → Outside → List Entry → Type 0
@@ -81,6 +87,7 @@ pub record IsDueAnswer (words : List (List ℕ)) (old new : Outside) (text : Lis
   pub text_is : text ≡ concat answer.lines
   pub journal_is : journal ≡ answer.journal
   pub put : IsPut answer.put new.holds
+  pub read : ReadsWell old new
 
 -- nothing is due, since what was to be put of an answer is not, and its name holds what it held
 pub record IsDueUnput (words : List (List ℕ)) (old new : Outside) (text : List ℕ) (journal : List Entry) : Type 0 where
@@ -89,6 +96,7 @@ pub record IsDueUnput (words : List (List ℕ)) (old new : Outside) (text : List
   pub text_is : text ≡ []
   pub journal_is : journal ≡ answer.journal
   pub kept : PutKeeps answer.put old.holds new.holds
+  pub read : ReadsWell old new
 
 -- the line for what stopped the run is due, or nothing where that was want of memory
 pub record IsDueCause (words : List (List ℕ)) (old new : Outside) (text : List ℕ) (journal : List Entry) : Type 0 where
@@ -96,6 +104,7 @@ pub record IsDueCause (words : List (List ℕ)) (old new : Outside) (text : List
   pub stops : Stops words old.holds old.reading new.reading cause
   pub text_is : text ≡ due_line cause
   pub journal_is : journal ≡ []
+  pub fault : (name : List ℕ) → old.reading name < new.reading name → IsReadingFault cause
   pub puts : PutsNothing old new
 
 -- what would have been written, and the journal that goes with it

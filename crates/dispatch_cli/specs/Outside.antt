@@ -41,6 +41,10 @@ pub record IsFile (holds : Holdings) (name bytes : List ℕ) : Type 0 where
 abbrev pub Writes : Option (List ℕ) → Option (List ℕ) → List ℕ → Type 0
 Writes old new text = new ≡ append_known old text
 
+-- readings of one name alone failed, if any did
+abbrev pub FailsOfOne : Counts → Counts → Type 0
+FailsOfOne old new = (one other : List ℕ) → old one < new one → old other < new other → one ≡ other
+
 -- one name was read: its count does not fall, and where it rises there is a fault; all else stays
 pub record ReadsOne (name : List ℕ) (old new : Counts) (old_puts new_puts : Counts) (old_holds new_holds : Holdings) (Fault : Type 0) : Type 0 where
   pub counted : old name ≤ new name
@@ -49,10 +53,11 @@ pub record ReadsOne (name : List ℕ) (old new : Counts) (old_puts new_puts : Co
   pub puttings : (other : List ℕ) → new_puts other ≡ old_puts other
   pub held : (other : List ℕ) → new_holds other ≡ old_holds other
 
--- names were read, and no others: no count falls, and where one rises there is a fault; all else stays
+-- names were read, and no others, up to the first fault: no count falls, and where one rises there is a fault; all else stays
 pub record Reads (Given : List ℕ → Type 0) (old new : Counts) (old_puts new_puts : Counts) (old_holds new_holds : Holdings) (Fault : Type 0) : Type 0 where
   pub counted : (name : List ℕ) → old name ≤ new name
   pub fault : (name : List ℕ) → old name < new name → Fault
+  pub one : FailsOfOne old new
   pub others : (other : List ℕ) → (Given other → ⊥) → new other ≡ old other
   pub puttings : (other : List ℕ) → new_puts other ≡ old_puts other
   pub held : (other : List ℕ) → new_holds other ≡ old_holds other

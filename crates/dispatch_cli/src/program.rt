@@ -1,5 +1,5 @@
 ghost use Rattle.std.specs.Prelude.{◌≡◌, ◌≢◌, ◌≤◌, ◌<◌, ◌⊎◌, ℕ, List, IsOk, IsErrOf, option_map, map, string_bytes};
-ghost use Rattle.dispatch_cli.specs.Outside.{outside};
+ghost use Rattle.dispatch_cli.specs.Outside.{FailsOfOne, outside};
 ghost use Rattle.dispatch_cli.specs.Answers.{IsPut, IsDuePut};
 ghost use Rattle.dispatch_cli.specs.Causes.{CountsReading, IsAnswerStatus};
 ghost use Rattle.dispatch_cli.specs.Endings.{Answers, Refuses, Fails, GivesUp, CountsPutting, Publishes, PutsOnly, PutMisses, PutKeeps};
@@ -75,8 +75,9 @@ pub fn dispatch<R, S: Shelf, O: Sink, G: Gate>(
         (outside (S.holds shelf.old) (S.reading_faults shelf.old) (S.putting_faults shelf.old) (O.faults out.old) (O.written out.old))
         (outside (S.holds shelf.new) (S.reading_faults shelf.new) (S.putting_faults shelf.new) (O.faults out.new) (O.written out.new)) result.journal.items }
 
-    // A fault shows in the status, and no other count changes.
+    // A fault shows in the status, ends the reading, and no other count changes.
     ensures reading_fault { (name : List ℕ) → S.reading_faults shelf.old name < S.reading_faults shelf.new name → (result.status ≡ 4) ⊎ (result.status ≡ 5) }
+    ensures reading_ends { FailsOfOne (S.reading_faults shelf.old) (S.reading_faults shelf.new) }
     ensures putting_fault { (name : List ℕ) → S.putting_faults shelf.old name < S.putting_faults shelf.new name → result.status ≡ 4 }
     ensures write_fault { O.faults out.old < O.faults out.new → (result.status ≢ 0) × (result.status ≢ 1) }
     ensures write_counted { O.faults out.old ≤ O.faults out.new }

@@ -1,6 +1,6 @@
 ghost use Rattle.std.specs.Prelude.{◌≡◌, ◌<◌, ℕ, List, Some, IfOk, IfErr, IsErrAnd, map, option_map, string_bytes};
 ghost use Rattle.command_words.specs.Task.{IsTask};
-ghost use Rattle.dispatch_cli.specs.Outside.{ReadsOne, Reads, IsOfTwo, IsOfThree};
+ghost use Rattle.dispatch_cli.specs.Outside.{FailsOfOne, ReadsOne, Reads, IsOfTwo, IsOfThree};
 ghost use Rattle.dispatch_cli.specs.Answers.{IsAnswer, AnswersTask, AnswersSolve, AnswersVerify, IsJudgedFile, IsJudgedBy};
 ghost use Rattle.dispatch_cli.specs.Causes.{RefusesWords, Stops, StopsTask, StopsSolve, StopsSolution, StopsJudging, StopsVerify, IsReadingFault, IsAnswerStatus, CountsReading, CountsTask};
 
@@ -123,6 +123,7 @@ fn run_task<S: Shelf>(alloc: Global, shelf: &mut S, task: &Task) -> Result<Answe
     ensures status { IfOk result (λ answer. IsAnswerStatus answer.status) }
 
     ensures counts { (name : List ℕ) → CountsTask task.now (S.reading_faults shelf.old) (S.reading_faults shelf.new) name }
+    ensures one { FailsOfOne (S.reading_faults shelf.old) (S.reading_faults shelf.new) }
     ensures failed { (name : List ℕ) → S.reading_faults shelf.old name < S.reading_faults shelf.new name → IsErrAnd result IsReadingFault }
     ensures puttings { (name : List ℕ) → S.putting_faults shelf.new name ≡ S.putting_faults shelf.old name }
     ensures held { (name : List ℕ) → S.holds shelf.new name ≡ S.holds shelf.old name }
@@ -144,6 +145,7 @@ pub(crate) fn run<S: Shelf>(alloc: Global, words: &[String], shelf: &mut S) -> R
     ensures status { IfOk result (λ answer. IsAnswerStatus answer.status) }
 
     ensures counts { (name : List ℕ) → CountsReading (map (λ word. string_bytes word) words.now) (S.reading_faults shelf.old) (S.reading_faults shelf.new) name }
+    ensures one { FailsOfOne (S.reading_faults shelf.old) (S.reading_faults shelf.new) }
     ensures failed { (name : List ℕ) → S.reading_faults shelf.old name < S.reading_faults shelf.new name → IsErrAnd result IsReadingFault }
     ensures puttings { (name : List ℕ) → S.putting_faults shelf.new name ≡ S.putting_faults shelf.old name }
     ensures held { (name : List ℕ) → S.holds shelf.new name ≡ S.holds shelf.old name }

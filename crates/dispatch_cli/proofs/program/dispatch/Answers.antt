@@ -1,6 +1,6 @@
 use Rattle.std.proofs.Common.{map, string_bytes, refl}
 use Rattle.dispatch_cli.specs.Outside.{outside}
-use Rattle.dispatch_cli.proofs.Stopped.{fails_of_answer, fails_of_stop, gives_up_of_answer}
+use Rattle.dispatch_cli.proofs.Stopped.{fails_of_answer, fails_of_stop, gives_up_of_answer, read_well}
 use Rattle.dispatch_cli.proofs.program.dispatch.Goals as goal
 
 pub returns-in-Ok-clause-failed : goal.returns-in-Ok-clause-failed
@@ -10,7 +10,8 @@ returns-in-Ok-clause-failed g c is =
     let mid = outside (g.S.Shelf.holds c.run.new.shelf) (g.S.Shelf.reading_faults c.run.new.shelf) (g.S.Shelf.putting_faults c.run.new.shelf) (g.O.Sink.faults c.args.out.now) (g.O.Sink.written c.args.out.now) in
     let new = outside (g.S.Shelf.holds c.publish-status.new.shelf) (g.S.Shelf.reading_faults c.publish-status.new.shelf) (g.S.Shelf.putting_faults c.publish-status.new.shelf)
     (g.O.Sink.faults c.publish-status.new.out) (g.O.Sink.written c.publish-status.new.out) in
-    fails_of_answer words old mid new c.in-Ok.answer _ c.in-Ok.ensures.ok c.into_vec.ensures c.in-Ok.ensures.puttings refl refl (c.publish-status.ensures.ends.failed is)
+    fails_of_answer words old mid new c.in-Ok.answer _ c.in-Ok.ensures.ok c.into_vec.ensures
+    (read_well old.reading mid.reading new.reading _ (λ name. (c.in-Ok.ensures.counts name).never_falls) c.in-Ok.ensures.failed (λ e. e) c.publish-status.ensures.readings) c.in-Ok.ensures.puttings refl refl (c.publish-status.ensures.ends.failed is)
 
 pub returns-in-Ok-clause-memory : goal.returns-in-Ok-clause-memory
 returns-in-Ok-clause-memory g c is =
@@ -19,7 +20,8 @@ returns-in-Ok-clause-memory g c is =
     let mid = outside (g.S.Shelf.holds c.run.new.shelf) (g.S.Shelf.reading_faults c.run.new.shelf) (g.S.Shelf.putting_faults c.run.new.shelf) (g.O.Sink.faults c.args.out.now) (g.O.Sink.written c.args.out.now) in
     let new = outside (g.S.Shelf.holds c.publish-status.new.shelf) (g.S.Shelf.reading_faults c.publish-status.new.shelf) (g.S.Shelf.putting_faults c.publish-status.new.shelf)
     (g.O.Sink.faults c.publish-status.new.out) (g.O.Sink.written c.publish-status.new.out) in
-    gives_up_of_answer words old mid new c.in-Ok.answer _ c.in-Ok.ensures.ok c.into_vec.ensures c.in-Ok.ensures.held refl (c.publish-status.ensures.ends.memory is)
+    gives_up_of_answer words old mid new c.in-Ok.answer _ c.in-Ok.ensures.ok c.into_vec.ensures
+    (read_well old.reading mid.reading new.reading _ (λ name. (c.in-Ok.ensures.counts name).never_falls) c.in-Ok.ensures.failed (λ e. e) c.publish-status.ensures.readings) c.in-Ok.ensures.held refl (c.publish-status.ensures.ends.memory is)
 
 pub returns-in-Err-clause-failed : goal.returns-in-Err-clause-failed
 returns-in-Err-clause-failed g c is =

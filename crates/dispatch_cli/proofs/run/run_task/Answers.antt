@@ -1,5 +1,5 @@
 use Rattle.std.proofs.lemmas.Result.{IfErr-weaker}
-use Rattle.dispatch_cli.proofs.Stopped.{counts_of_one, counts_of_three, stops_solve, stops_verify}
+use Rattle.dispatch_cli.proofs.Stopped.{counts_of_one, counts_of_three, reads_of_one, stops_solve, stops_verify}
 use Rattle.dispatch_cli.proofs.run.run_task.Goals as goal
 
 pub returns-in-Solve-clause-counts : goal.returns-in-Solve-clause-counts
@@ -21,3 +21,6 @@ returns-in-Solve-clause-no g c =
     let old = g.S.Shelf.reading_faults c.args.shelf.now in
     let new = g.S.Shelf.reading_faults c.run_solve.new.shelf in
     rw c.in-Solve.is (IfErr-weaker c.run_solve.result _ _ (λ cause h. stops_solve holds old new c.in-Solve.problem c.in-Solve.budget _ cause h) c.run_solve.ensures.no)
+
+pub returns-in-Solve-clause-one : goal.returns-in-Solve-clause-one
+returns-in-Solve-clause-one g c = (reads_of_one c.in-Solve.problem _ _ _ _ _ _ _ c.run_solve.ensures.reads).one
