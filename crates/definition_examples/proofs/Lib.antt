@@ -19,3 +19,4 @@ pub mod SettledHistory
 pub mod StoppedHistory
 pub mod Touching
 pub mod BranchShares
+pub mod WalkShares

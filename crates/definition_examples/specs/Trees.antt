@@ -57,3 +57,10 @@ against = First a0 b1 ∷ First b0 a1 ∷ []
 -- the first train, listed without walks
 abbrev pub first_listed : TrainWalks
 first_listed = record { train = 0; walks = [] }
+
+-- the second train, listed without walks, and with that across the first
+abbrev pub second_alone : TrainWalks
+second_alone = record { train = 1; walks = [] }
+
+abbrev pub second_behind : TrainWalks
+second_behind = record { train = 1; walks = (a0 ∷ a1 ∷ b0 ∷ []) ∷ [] }

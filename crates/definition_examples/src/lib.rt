@@ -43,7 +43,7 @@ pub use routes::{
     a_choice_leaves_one_route, a_decision_forces_its_branch, a_fork_forces_no_branch,
     a_run_or_skip_leaves_one_route,
 };
-pub use shares::a_share_is_that_of_the_cheapest_route;
+pub use shares::{a_listed_walk_counts_in_a_share, a_share_is_that_of_the_cheapest_route};
 pub use trees::{
     a_component_counts_once, a_late_walk_closes_a_leaf, a_tree_shows_the_least_of_its_leaves,
 };
