@@ -1,0 +1,9 @@
+mod Answering
+mod Asking
+mod Chaining
+mod Forks
+mod Knowing
+mod Passing
+mod Relaxing
+mod Sweeping
+mod Walking

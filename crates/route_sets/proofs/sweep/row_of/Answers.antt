@@ -1,0 +1,18 @@
+use Rattle.std.proofs.Common.{◌≡◌, ◌+◌, ℕ, List, length, take, sym, ap, subst, ◌∙◌, arith}
+use Rattle.std.specs.Prelude.{Contains, ◌↔◌}
+use Rattle.std.proofs.lemmas.List.{take_all}
+use Rattle.route_sets.specs.Sweeps.{IsKept}
+use Rattle.route_sets.proofs.Sweeping.{row_more}
+use Rattle.route_sets.proofs.sweep.row_of.Goals as goal
+
+pub loop-next-preserved : goal.loop-next-preserved
+loop-next-preserved c =
+    rw c.in_ok-keep.ensures
+    (row_more (IsKept c.args.ask c.args.held.now c.args.count) c.args.operation.now.next c.as_slice-next-items.result.now c.loop-next.row c.loop-next.next-index c.is_kept-kept.result c.as_slice-next-items.ensures c.loop-next-test.true c.is_kept-kept.ensures c.loop-next.invariant)
+
+pub returns : goal.returns
+returns c =
+    let items = c.as_slice-next-items.result.now in
+    let long : length items ≡ length c.args.operation.now.next = ap (λ (l : List ℕ). length l) c.as_slice-next-items.ensures in
+    let whole : take c.loop-next.next-index c.args.operation.now.next ≡ c.args.operation.now.next = take_all c.loop-next.next-index c.args.operation.now.next (omega (arith, long, c.loop-next-test.false)) in
+    subst (λ (l : List ℕ). (s : ℕ) → Contains c.loop-next.row s ↔ (Contains l s × IsKept c.args.ask c.args.held.now c.args.count s)) whole c.loop-next.invariant

@@ -1,0 +1,5 @@
+pub mod Asks
+pub mod Marks
+pub mod Sets
+pub mod Sweeps
+pub mod Ways

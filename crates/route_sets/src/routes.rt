@@ -1,0 +1,102 @@
+ghost use Rattle.std.specs.Prelude.{◌≡◌, ◌↔◌, ◌<◌, ℕ, IfOk, IsTrue, Some, length};
+ghost use Rattle.disp_model.specs.Node.{Node, node_at};
+ghost use Rattle.disp_model.specs.Routes.{HasRoute, IsForced};
+ghost use Rattle.disp_model.specs.Arcs.{IsTrainArc, GoesTo};
+ghost use Rattle.route_sets.specs.Marks.{mark_at};
+
+use crate::asks::asks_of;
+use crate::marks::{Mark, marks_of, places_of};
+use crate::sweep::sweep;
+use disp_model::{Decision, Fixing, Memory, Problem};
+use std::alloc::Global;
+use train_orders::order_of;
+
+/// The routes of a train that fixings and decisions allow.
+#[derive(Drop)]
+pub struct Routes {
+    /// Whether some route is allowed.
+    left: bool,
+    /// The marks of the operations that each allowed route has.
+    marks: Vec<Option<Mark>>,
+}
+
+impl Routes {
+    ghost use Rattle.route_sets.specs.Sets.{op_of, AreRoutesOf};
+
+    /// The routes of a train that the fixings and the decisions allow. Takes time linear in the operations of
+    /// the train, their successors, the fixings and the decisions.
+    pub fn of(
+        alloc: Global,
+        problem: &Problem,
+        train: u32,
+        fixings: &[Fixing],
+        decisions: &[Decision],
+    ) -> Result<Routes, Memory>
+        requires { train < length problem.now.trains }
+        ensures { IfOk result
+            (AreRoutesOf (node_at problem.now fixings.now decisions.now) train) }
+    {
+        let operations = problem.trains.as_slice()[train as usize].as_slice();
+        let asks = asks_of(alloc, operations.len(), train, fixings, decisions)?;
+        let order = order_of(alloc, operations)?;
+        let swept = sweep(alloc, operations, &asks, &order)?;
+        if !swept.holds {
+            let marks = Vec::new(alloc);
+            return Ok(Routes { left: false, marks });
+        }
+        let places = places_of(alloc, operations, &order)?;
+        let marks = marks_of(alloc, operations, &order, &places, &swept.rows)?;
+        Ok(Routes { left: true, marks })
+    }
+
+    /// Whether no route is allowed.
+    pub fn none_left(&self) -> bool
+        ensures { (node : Node) (t : ℕ) → AreRoutesOf node t self.now
+            → IsTrue result ↔ (HasRoute node t → ⊥) }
+    {
+        !self.left
+    }
+
+    /// The mark of an operation that each allowed route has.
+    fn mark(&self, op: u32) -> Option<Mark>
+        ensures { result ≡ mark_at self.now.marks.items op }
+    {
+        match self.marks.as_slice().get(op as usize) {
+            Some(mark) => *mark,
+            None => None,
+        }
+    }
+
+    /// Whether some route is allowed, and each allowed route has the operation.
+    pub fn forced(&self, op: u32) -> bool
+        ensures { (node : Node) (t : ℕ) → AreRoutesOf node t self.now
+            → IsTrue result ↔ IsForced node (op_of t op) }
+    {
+        self.mark(op).is_some()
+    }
+
+    /// The operation that each allowed route goes on to from a forced one.
+    pub fn only_next(&self, op: u32) -> Option<u32>
+        ensures { (node : Node) (t : ℕ) → AreRoutesOf node t self.now → (s : ℕ)
+            → (result ≡ Some s)
+                ↔ (IsForced node (op_of t op) × GoesTo node (op_of t op) (op_of t s)) }
+    {
+        self.mark(op)?.next
+    }
+
+    /// The least sum of durations from a forced operation up to one behind it, over the allowed routes.
+    pub fn least_between(&self, a: u32, b: u32) -> Option<u64>
+        ensures { (node : Node) (t : ℕ) → AreRoutesOf node t self.now → (sum : ℕ)
+            → (result ≡ Some sum)
+                ↔ (IsForced node (op_of t a) × IsForced node (op_of t b)
+                    × IsTrainArc node (op_of t a) (op_of t b) sum) }
+    {
+        let from = self.mark(a)?;
+        let to = self.mark(b)?;
+        if to.place < from.place {
+            Some(to.sum.saturating_sub(from.sum))
+        } else {
+            None
+        }
+    }
+}

@@ -1,0 +1,112 @@
+// A fork of a train, and what fixings and decisions leave of its two routes.
+ghost use Rattle.std.specs.Prelude.{◌≡◌, [], ◌∷◌, None, IfOk, ◌<◌, length};
+
+use crate::Routes;
+use disp_model::{Decision, Fixing, List, Memory, Op, Operation, Problem};
+use std::alloc::Global;
+use std::test::Fail;
+
+/// An operation that lasts so long, with what may come next.
+fn lasting(alloc: Global, min: u32, next: &[u32]) -> Result<Operation, Memory>
+    ensures { IfOk result (λ o. o
+        ≡ record { lower = 0; upper = None; min = min; listings = []; next = next.now }) }
+{
+    Ok(Operation {
+        lower: 0,
+        upper: None,
+        min,
+        listings: List::new(alloc),
+        next: List::from_vec(Vec::from_slice(alloc, next)?),
+    })
+}
+
+/// One train: from 0 to 1 or 2, of the durations 5 and 3, and from both to 3.
+fn forked(alloc: Global) -> Result<Problem, Memory>
+    ensures { IfOk result (λ problem. length problem.trains ≡ 1) }
+{
+    let entry = lasting(alloc, 0, &[1, 2])?;
+    let one = lasting(alloc, 5, &[3])?;
+    let other = lasting(alloc, 3, &[3])?;
+    let exit = lasting(alloc, 0, &[])?;
+    let train = List::from_vec(vec![in alloc; entry, one, other, exit]?);
+    Ok(Problem {
+        trains: List::from_vec(vec![in alloc; train]?),
+        components: List::new(alloc),
+        names: List::new(alloc),
+    })
+}
+
+fn op(op: u32) -> Op {
+    Op { train: 0, op }
+}
+
+/// Whether no route is left, whether 1 is forced, what follows 0, and the least sum from 0 to 3.
+type Answers = (bool, bool, Option<u32>, Option<u64>);
+
+fn answers(
+    alloc: Global,
+    problem: &Problem,
+    fixings: &[Fixing],
+    decisions: &[Decision],
+) -> Result<Answers, Memory>
+    requires { 0 < length problem.now.trains }
+{
+    let routes = Routes::of(alloc, problem, 0, fixings, decisions)?;
+    Ok((
+        routes.none_left(),
+        routes.forced(1),
+        routes.only_next(0),
+        routes.least_between(0, 3),
+    ))
+}
+
+#[test]
+fn a_fork_leaves_two_routes(rt: HostRuntime) -> Result<(), Fail> {
+    let problem = forked(rt.alloc())?;
+    let routes = Routes::of(rt.alloc(), &problem, 0, &[], &[])?;
+    assert!(rt; routes.forced(0) && routes.forced(3));
+    assert!(rt; !routes.forced(2) && !routes.forced(4));
+    assert_eq!(rt; routes.least_between(3, 0), None);
+    assert_eq!(rt; answers(rt.alloc(), &problem, &[], &[])?, (false, false, None, Some(3)));
+    Ok(())
+}
+
+#[test]
+fn a_decision_leaves_one(rt: HostRuntime) -> Result<(), Fail> {
+    let problem = forked(rt.alloc())?;
+    for (decision, wanted) in [
+        (Decision::Go { op: op(0), next: 1 }, (false, true, Some(1), Some(5))),
+        (Decision::Go { op: op(0), next: 2 }, (false, false, Some(2), Some(3))),
+        (Decision::Run(op(1)), (false, true, Some(1), Some(5))),
+        (Decision::Skip(op(1)), (false, false, Some(2), Some(3))),
+        (Decision::Skip(op(0)), (true, false, None, None)),
+        (Decision::Run(op(4)), (true, false, None, None)),
+        (Decision::Skip(op(4)), (false, false, None, Some(3))),
+    ] {
+        assert_eq!(rt; answers(rt.alloc(), &problem, &[], &[decision])?, wanted);
+    }
+    Ok(())
+}
+
+#[test]
+fn fixings_may_leave_none(rt: HostRuntime) -> Result<(), Fail> {
+    let problem = forked(rt.alloc())?;
+    let chosen = Fixing::Chosen {
+        at_train: 0,
+        at_op: 0,
+        next: 2,
+    };
+    let started = Fixing::Started {
+        at_train: 0,
+        at_op: 1,
+        time: 4,
+    };
+    for (fixings, wanted) in [
+        ([chosen, chosen], (false, false, Some(2), Some(3))),
+        ([started, started], (false, true, Some(1), Some(5))),
+        ([chosen, started], (true, false, None, None)),
+    ] {
+        assert_eq!(rt; answers(rt.alloc(), &problem, &fixings, &[])?, wanted);
+    }
+    Ok(())
+}

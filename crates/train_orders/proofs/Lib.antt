@@ -1,0 +1,4 @@
+pub mod Ordered
+pub mod Places
+pub mod Searching
+pub mod Stepping
