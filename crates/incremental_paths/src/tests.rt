@@ -1,6 +1,6 @@
-ghost use Rattle.std.specs.Prelude.{◌≡◌, ◌<◌, ◌≤◌, ◌^◌, length, All, IfOk};
+ghost use Rattle.std.specs.Prelude.{◌≡◌, ◌<◌, ◌^◌, length, All, IfOk};
 
-use crate::{AddNo, Arc, Paths};
+use crate::{AddNo, Paths};
 use std::alloc::Global;
 use std::process::Abort;
 use std::test::Fail;
@@ -168,111 +168,5 @@ fn walks_and_ways_are_given_from_their_beginning(rt: HostRuntime) -> Result<(), 
     let way = paths.between(2, 2)?.ok_or("no way")?;
     assert_eq!(rt; way.as_slice(), [2].as_slice());
     assert!(rt; paths.between(0, 3)?.is_none());
-    Ok(())
-}
-
-#[test]
-fn a_raise_stays_where_arcs_are_withdrawn_together(rt: HostRuntime) -> Result<(), Fail> {
-    let rows: [(Step, &[u64]); 6] = [
-        (Step::Add(0, 1, 10), &[0, 10, 0]),
-        (Step::Raise(2, 7), &[0, 10, 7]),
-        (Step::Add(1, 2, 10), &[0, 10, 20]),
-        (Step::Add(0, 2, 30), &[0, 10, 30]),
-        (Step::Withdraw(2), &[0, 10, 7]),
-        (Step::Withdraw(1), &[0, 0, 7]),
-    ];
-    run(&rt, rt.alloc(), &[0, 0, 0], &rows)?;
-    Ok(())
-}
-
-// A chain of nodes, whose arcs are made from its end to its beginning, against the order of the numbers.
-fn chain(rt: &impl Abort, alloc: Global, nodes: u32) -> Result<Paths, Fail>
-    requires { nodes ≤ 1000 }
-    ensures nodes { IfOk result (λ paths. length paths.lowers ≡ nodes) }
-    ensures lowers { IfOk result (λ paths. All (λ lower. lower < 2 ^ 32) paths.lowers) }
-    ensures lengths { IfOk result (λ paths. All (λ arc. arc.length < 2 ^ 32) paths.arcs) }
-{
-    let lowers = vec![in alloc; 0u64; nodes as usize]?;
-    let mut paths = Paths::new(alloc, &lowers)?;
-    for end in 1..nodes {
-        add(rt, &mut paths, nodes as usize, end, end - 1, 1)?;
-    }
-    Ok(paths)
-}
-
-#[test]
-fn a_long_chain_and_the_arc_that_closes_it(rt: HostRuntime) -> Result<(), Fail> {
-    let mut paths = chain(&rt, rt.alloc(), 1000)?;
-    assert_eq!(rt; paths.length(0), 999);
-    assert!(rt; paths.place(999) < paths.place(0));
-    let closed = add(&rt, &mut paths, 1000, 0, 999, 0);
-    assert_eq!(rt; closed, Err(AddNo::Closes { from: 0, to: 999 }));
-    assert_eq!(rt; paths.walk(0)?.len(), 1000);
-    Ok(())
-}
-
-// The lengths by going over all arcs as often as there are nodes.
-fn plain_lengths(alloc: Global, lowers: &[u64], arcs: &[Arc]) -> Result<Vec<u64>, Fail>
-    ensures { IfOk result (λ lengths. length lengths.items ≡ length lowers.now) }
-{
-    let mut lengths = Vec::from_slice(alloc, lowers)?;
-    for _ in 0..lowers.len() {
-        for arc in arcs {
-            let from = lengths.get(arc.from as usize).copied().unwrap_or(0);
-            spread(&mut lengths, arc.to, from.saturating_add(arc.length));
-        }
-    }
-    Ok(lengths)
-}
-
-// Makes the length at least this one.
-fn spread(lengths: &mut [u64], node: u32, reached: u64) {
-    let at = node as usize;
-    if at < lengths.len() && lengths[at] < reached {
-        lengths[at] = reached;
-    }
-}
-
-// One of the calls, which the number picks.
-fn change(rt: &impl Abort, paths: &mut Paths, lowers: &mut [u64], number: u64)
-    requires nodes { length paths.old.lowers ≡ 12 }
-    requires lowers { All (λ lower. lower < 2 ^ 32) paths.old.lowers }
-    requires lengths { All (λ arc. arc.length < 2 ^ 32) paths.old.arcs }
-    ensures nodes { length paths.new.lowers ≡ 12 }
-    ensures lowers { All (λ lower. lower < 2 ^ 32) paths.new.lowers }
-    ensures lengths { All (λ arc. arc.length < 2 ^ 32) paths.new.arcs }
-{
-    let one = (number / 7 % 12) as u32;
-    let other = (number / 84 % 12) as u32;
-    let by = (number / 1008 % 20) as u32;
-    match number % 7 {
-        0 => {
-            spread(lowers, one, u64::from(by));
-            take(rt, paths, 12, Step::Raise(one, by));
-        }
-        1 => take(
-            rt,
-            paths,
-            12,
-            Step::Withdraw(u32::from(!paths.arcs().is_empty())),
-        ),
-        _ => {
-            let _ = add(rt, paths, 12, one, other, by);
-        }
-    }
-}
-
-#[test]
-fn lengths_are_those_of_the_plain_body(rt: HostRuntime) -> Result<(), Fail> {
-    let mut lowers = vec![in rt.alloc(); 0u64; 12]?;
-    let mut paths = Paths::new(rt.alloc(), &lowers)?;
-    let mut number = 1u64;
-    for _ in 0..600 {
-        number = number.wrapping_mul(48271) % 2147483647;
-        change(&rt, &mut paths, &mut lowers, number);
-        let lengths = plain_lengths(rt.alloc(), &lowers, paths.arcs())?;
-        assert_eq!(rt; lengths.len(), 12);
-        compare(&rt, &paths, &lengths);
-    }
     Ok(())
 }
