@@ -70,13 +70,15 @@ trimmed : (problem : Problem) (fixings : List Fixing) (decisions : List Decision
     → (k : ℕ) × IsTrimmedFor (node_at problem fixings decisions) t asks order swept.rows k (last_of order)
 trimmed problem fixings decisions t asks order swept is =
     let acyclic = is_acyclic problem t is.there in
-    let last = last_place (train_at problem t) order acyclic is.order_is in
-    (last.0, record {
-      trimmed = record { acyclic = acyclic; order_is = is.order_is; asks_long = is.asked.long; rows_are = is.swept_is.rows };
-      asked = is.asked;
-      count = last.1;
-      last = last.2;
-    })
+    let last = last_place (train_at problem t) order acyclic is.order_is in (
+      last.0,
+      record {
+        trimmed = record { acyclic = acyclic; order_is = is.order_is; asks_long = is.asked.long; rows_are = is.swept_is.rows };
+        asked = is.asked;
+        count = last.1;
+        last = last.2;
+      },
+    )
 
 has_way : (problem : Problem) (fixings : List Fixing) (decisions : List Decision) (t : ℕ) (asks : List Ask) (order : List ℕ) (swept : Swept) → IsFound problem fixings decisions t asks order swept
     → IsTrue swept.holds ↔ HasWay (train_at problem t) asks order (last_of order)

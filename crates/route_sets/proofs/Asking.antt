@@ -184,11 +184,14 @@ adds_nothing asks o ask past not_wanted = record {
   long = refl;
   both = λ route within. (
     λ h. h.0,
-    λ met. (met, record {
-      wanted = λ e. absurd (false≢true (sym not_wanted ∙ e));
-      skipped = λ e there. omega (arith, past, within o there);
-      next = λ n e there. absurd (omega (arith, past, within o there));
-    }),
+    λ met. (
+      met,
+      record {
+        wanted = λ e. absurd (false≢true (sym not_wanted ∙ e));
+        skipped = λ e there. omega (arith, past, within o there);
+        next = λ n e there. absurd (omega (arith, past, within o there));
+      },
+    ),
   );
 }
 

@@ -118,24 +118,30 @@ row_is train asks order i o held count operation row next is says s = (
 
 way_ends : (train : List Operation) (asks : List Ask) (order : List ℕ) (i o : ℕ) (held : List (Option ℕ)) (count : ℕ) (operation : Operation) → IsNext train asks order i o held count → next_of train o ≡ operation.next
     → CanEnd operation (ask_at asks o) count → HasWay train asks (take i order ++ o ∷ []) o
-way_ends train asks order i o held count operation next is end = ([], record {
-  goes = record { there = within train asks order i o held count next; last = is ∙ end.last };
-  keeps = end.may;
-  wanted = λ q done wanted. elim (Contains-push_cases (take i order) o q done) [
-    | inl before ↦ absurd (false≢true (sym (next.before.none end.none q before) ∙ wanted))
-    | inr e ↦ subst (λ (x : ℕ). Contains (o ∷ []) x) e (contains_here o [])
-  ];
-})
+way_ends train asks order i o held count operation next is end = (
+  [],
+  record {
+    goes = record { there = within train asks order i o held count next; last = is ∙ end.last };
+    keeps = end.may;
+    wanted = λ q done wanted. elim (Contains-push_cases (take i order) o q done) [
+      | inl before ↦ absurd (false≢true (sym (next.before.none end.none q before) ∙ wanted))
+      | inr e ↦ subst (λ (x : ℕ). Contains (o ∷ []) x) e (contains_here o [])
+    ];
+  },
+)
 
 way_goes_on : (train : List Operation) (asks : List Ask) (order : List ℕ) (i o s : ℕ) → IsSuccessor train o s → MayGo (ask_at asks o) s → HasWay train asks (take i order) s → HasWay train asks (take i order ++ o ∷ []) o
-way_goes_on train asks order i o s goes may (rest, way) = (s ∷ rest, record {
-  goes = (goes, way.goes);
-  keeps = (may, way.keeps);
-  wanted = λ q done wanted. elim (Contains-push_cases (take i order) o q done) [
-    | inl before ↦ contains_later o q (s ∷ rest) (way.wanted q before wanted)
-    | inr e ↦ subst (λ (x : ℕ). Contains (o ∷ s ∷ rest) x) e (contains_here o (s ∷ rest))
-  ];
-})
+way_goes_on train asks order i o s goes may (rest, way) = (
+  s ∷ rest,
+  record {
+    goes = (goes, way.goes);
+    keeps = (may, way.keeps);
+    wanted = λ q done wanted. elim (Contains-push_cases (take i order) o q done) [
+      | inl before ↦ contains_later o q (s ∷ rest) (way.wanted q before wanted)
+      | inr e ↦ subst (λ (x : ℕ). Contains (o ∷ s ∷ rest) x) e (contains_here o (s ∷ rest))
+    ];
+  },
+)
 
 zero_or_more : (n : ℕ) → (n ≡ 0) ⊎ (0 < n)
 zero_or_more zero = inl refl
@@ -151,11 +157,21 @@ can_by_way train asks order i o held count operation row next is rows [] way = i
         let found = next.before.some more in
         absurd (elim (contains_cases o found.0 [] (way.wanted found.0 (Contains-append_left (take i order) (o ∷ []) found.0 found.1) found.2)) [ inl e ↦ not_done train asks order i o held count next found.0 found.1 (sym e) | inr later ↦ contains_none found.0 later ])
 can_by_way train asks order i o held count operation row next is rows (s ∷ rest) way =
-    inr (s, (rows s).1 (way.goes.0, way.keeps.0, (rest, record {
-      goes = way.goes.1;
-      keeps = way.keeps.1;
-      wanted = λ q done wanted. elim (contains_cases o q (s ∷ rest) (way.wanted q (Contains-append_left (take i order) (o ∷ []) q done) wanted)) [ inl e ↦ absurd (not_done train asks order i o held count next q done (sym e)) | inr later ↦ later ];
-    })))
+    inr (
+      s,
+      (rows s).1 (
+        way.goes.0,
+        way.keeps.0,
+        (
+          rest,
+          record {
+            goes = way.goes.1;
+            keeps = way.keeps.1;
+            wanted = λ q done wanted. elim (contains_cases o q (s ∷ rest) (way.wanted q (Contains-append_left (take i order) (o ∷ []) q done) wanted)) [ inl e ↦ absurd (not_done train asks order i o held count next q done (sym e)) | inr later ↦ later ];
+          },
+        ),
+      ),
+    )
 
 pub way_holds : (train : List Operation) (asks : List Ask) (order : List ℕ) (i o : ℕ) (held : List (Option ℕ)) (count : ℕ) (operation : Operation) (row : List ℕ) (holds : Bool) → IsNext train asks order i o held count → next_of train o ≡ operation.next
     → IsRow train asks (take i order) o row → (IsTrue holds ↔ (CanEnd operation (ask_at asks o) count ⊎ ((s : ℕ) × Contains row s))) → IsTrue holds ↔ HasWay train asks (take i order ++ o ∷ []) o
@@ -237,21 +253,27 @@ held_more train asks order i o held count holds next says = record {
         more : ask.wanted ≡ false → (Contains done p × HasWay train asks done p) → Contains (done ++ o ∷ []) p × HasWay train asks (done ++ o ∷ []) p
         more not_wanted (there, way) = (
           Contains-append_left done (o ∷ []) p there,
-          (way.0, record {
-            goes = way.1.goes;
-            keeps = way.1.keeps;
-            wanted = λ q at wanted. elim (Contains-push_cases done o q at) [ inl before ↦ way.1.wanted q before wanted | inr e ↦ absurd (false≢true (sym not_wanted ∙ subst (λ (x : ℕ). IsWanted asks x) (sym e) wanted)) ];
-          }),
+          (
+            way.0,
+            record {
+              goes = way.1.goes;
+              keeps = way.1.keeps;
+              wanted = λ q at wanted. elim (Contains-push_cases done o q at) [ inl before ↦ way.1.wanted q before wanted | inr e ↦ absurd (false≢true (sym not_wanted ∙ subst (λ (x : ℕ). IsWanted asks x) (sym e) wanted)) ];
+            },
+          ),
         )
 
     kept : (p : ℕ) → Contains done p → HasWay train asks (done ++ o ∷ []) p → slice_get held p ≡ Some (Some (counted ask count))
     kept p there way = elim (cases_Bool ask.wanted) [
       | inl wanted ↦ absurd (fresh o (way_inside train order i p way.0 next.behind there way.1.goes o (way.1.wanted o (Contains-push done o) wanted)) refl)
-      | inr not_wanted ↦ subst (λ (k : ℕ). slice_get held p ≡ Some (Some k)) (sym (counted_free ask count not_wanted)) (next.before.complete p there (way.0, record {
-        goes = way.1.goes;
-        keeps = way.1.keeps;
-        wanted = λ q at wanted. way.1.wanted q (Contains-append_left done (o ∷ []) q at) wanted;
-      }))
+      | inr not_wanted ↦ subst (λ (k : ℕ). slice_get held p ≡ Some (Some k)) (sym (counted_free ask count not_wanted)) (next.before.complete p there (
+        way.0,
+        record {
+          goes = way.1.goes;
+          keeps = way.1.keeps;
+          wanted = λ q at wanted. way.1.wanted q (Contains-append_left done (o ∷ []) q at) wanted;
+        },
+      ))
     ]
 
 pub none_held : (train : List Operation) (asks : List Ask) (held : List (Option ℕ)) → length held ≡ length train → held ≡ replicate (length train) None → IsHeld train asks [] held 0

@@ -69,8 +69,7 @@ way_goes train asks order rows k o (s ∷ rest) is here way =
         | inr there ↦ there
       ];
     } in
-    let next = earlier train order k o s is.order_is here way.goes.0 in
-    (
+    let next = earlier train order k o s is.order_is here way.goes.0 in (
       step_at train asks order rows k o s is here way.goes.0 way.keeps.0 (rest, later),
       way_goes train asks order rows next.0 s rest is next.2 (record { goes = later.goes; keeps = later.keeps; wanted = λ q done. later.wanted q (taken_more order k (next.0 + 1) q (omega (arith, next.1)) done) }),
     )

@@ -64,7 +64,9 @@ fn demand_of_fixing(train: u32, fixing: &Fixing) -> Demand
 {
     let (at_train, op, next) = match *fixing {
         Fixing::Started {
-            at_train, at_op, ..
+            at_train,
+            at_op,
+            ..
         } => (at_train, at_op, None),
         Fixing::Chosen {
             at_train,

@@ -79,7 +79,7 @@ impl Routes {
     pub fn only_next(&self, op: u32) -> Option<u32>
         ensures { (node : Node) (t : ℕ) → AreRoutesOf node t self.now → (s : ℕ)
             → (result ≡ Some s)
-                ↔ (IsForced node (op_of t op) × GoesTo node (op_of t op) (op_of t s)) }
+            ↔ (IsForced node (op_of t op) × GoesTo node (op_of t op) (op_of t s)) }
     {
         self.mark(op)?.next
     }
@@ -88,8 +88,8 @@ impl Routes {
     pub fn least_between(&self, a: u32, b: u32) -> Option<u64>
         ensures { (node : Node) (t : ℕ) → AreRoutesOf node t self.now → (sum : ℕ)
             → (result ≡ Some sum)
-                ↔ (IsForced node (op_of t a) × IsForced node (op_of t b)
-                    × IsTrainArc node (op_of t a) (op_of t b) sum) }
+            ↔ (IsForced node (op_of t a) × IsForced node (op_of t b)
+            × IsTrainArc node (op_of t a) (op_of t b) sum) }
     {
         let from = self.mark(a)?;
         let to = self.mark(b)?;

@@ -67,7 +67,10 @@ fn a_fork_leaves_two_routes(rt: HostRuntime) -> Result<(), Fail> {
     assert!(rt; routes.forced(0) && routes.forced(3));
     assert!(rt; !routes.forced(2) && !routes.forced(4));
     assert_eq!(rt; routes.least_between(3, 0), None);
-    assert_eq!(rt; answers(rt.alloc(), &problem, &[], &[])?, (false, false, None, Some(3)));
+    assert_eq!(rt;
+        answers(rt.alloc(), &problem, &[], &[])?,
+        (false, false, None, Some(3))
+    );
     Ok(())
 }
 
@@ -75,8 +78,14 @@ fn a_fork_leaves_two_routes(rt: HostRuntime) -> Result<(), Fail> {
 fn a_decision_leaves_one(rt: HostRuntime) -> Result<(), Fail> {
     let problem = forked(rt.alloc())?;
     for (decision, wanted) in [
-        (Decision::Go { op: op(0), next: 1 }, (false, true, Some(1), Some(5))),
-        (Decision::Go { op: op(0), next: 2 }, (false, false, Some(2), Some(3))),
+        (
+            Decision::Go { op: op(0), next: 1 },
+            (false, true, Some(1), Some(5)),
+        ),
+        (
+            Decision::Go { op: op(0), next: 2 },
+            (false, false, Some(2), Some(3)),
+        ),
         (Decision::Run(op(1)), (false, true, Some(1), Some(5))),
         (Decision::Skip(op(1)), (false, false, Some(2), Some(3))),
         (Decision::Skip(op(0)), (true, false, None, None)),

@@ -72,4 +72,3 @@ has_last train order acyclic is = by (length order) refl (is.has 0 acyclic.enter
     by : (n : ℕ) → length order ≡ n → Contains order 0 → (k : ℕ) × (e : ℕ) × (length order ≡ k + 1) × (slice_get order k ≡ Some e)
     by zero long (j, lt, at) = absurd (omega (arith, lt, long))
     by (suc k) long there = (k, get_or order k 0, omega (arith, long), slice_get-get_or order k 0 (omega (arith, long)))
-
