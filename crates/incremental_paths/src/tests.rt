@@ -153,6 +153,20 @@ fn the_longer_of_two_arcs_counts(rt: HostRuntime) -> Result<(), Fail> {
     Ok(())
 }
 
+// The walks and ways of the four nodes of the test below.
+fn compare_walks(rt: &impl Abort, paths: &Paths) -> Result<(), Fail>
+    requires { length paths.now.lowers ≡ 4 }
+{
+    assert_eq!(rt; paths.walk(0)?.as_slice(), [3, 1, 0].as_slice());
+    assert_eq!(rt; paths.walk(2)?.as_slice(), [2].as_slice());
+    let way = paths.between(3, 0)?.ok_or("no way")?;
+    assert_eq!(rt; way.as_slice(), [3, 1, 0].as_slice());
+    let way = paths.between(2, 2)?.ok_or("no way")?;
+    assert_eq!(rt; way.as_slice(), [2].as_slice());
+    assert!(rt; paths.between(0, 3)?.is_none());
+    Ok(())
+}
+
 #[test]
 fn walks_and_ways_are_given_from_their_beginning(rt: HostRuntime) -> Result<(), Fail> {
     let rows: [(Step, &[u64]); 3] = [
@@ -161,12 +175,19 @@ fn walks_and_ways_are_given_from_their_beginning(rt: HostRuntime) -> Result<(), 
         (Step::Add(2, 0, 6), &[7, 2, 0, 0]),
     ];
     let paths = run(&rt, rt.alloc(), &[1, 0, 0, 0], &rows)?;
-    assert_eq!(rt; paths.walk(0)?.as_slice(), [3, 1, 0].as_slice());
-    assert_eq!(rt; paths.walk(2)?.as_slice(), [2].as_slice());
-    let way = paths.between(3, 0)?.ok_or("no way")?;
-    assert_eq!(rt; way.as_slice(), [3, 1, 0].as_slice());
-    let way = paths.between(2, 2)?.ok_or("no way")?;
-    assert_eq!(rt; way.as_slice(), [2].as_slice());
-    assert!(rt; paths.between(0, 3)?.is_none());
+    compare_walks(&rt, &paths)
+}
+
+#[test]
+fn a_raise_stays_where_arcs_are_withdrawn_together(rt: HostRuntime) -> Result<(), Fail> {
+    let rows: [(Step, &[u64]); 6] = [
+        (Step::Add(0, 1, 10), &[0, 10, 0]),
+        (Step::Raise(2, 7), &[0, 10, 7]),
+        (Step::Add(1, 2, 10), &[0, 10, 20]),
+        (Step::Add(0, 2, 30), &[0, 10, 30]),
+        (Step::Withdraw(2), &[0, 10, 7]),
+        (Step::Withdraw(1), &[0, 0, 7]),
+    ];
+    run(&rt, rt.alloc(), &[0, 0, 0], &rows)?;
     Ok(())
 }
