@@ -70,7 +70,7 @@ unfolding ops_at
 ops_done left most front [] total e so_far = sym so_far ∙ ap Ok (append-nil front)
 ops_done left most front (b ∷ bytes) total e so_far = absurd cc
 
-step_ops : (left k : ℕ) (bytes : List ℕ) → (bytes ≡ [] → ⊥) → ops_at left (suc k) bytes ≡ (op_at left bytes >>= λ o. ops_at left k o.1 >>= λ ops. Ok (o.0 ∷ ops))
+pub step_ops : (left k : ℕ) (bytes : List ℕ) → (bytes ≡ [] → ⊥) → ops_at left (suc k) bytes ≡ (op_at left bytes >>= λ o. ops_at left k o.1 >>= λ ops. Ok (o.0 ∷ ops))
 unfolding ops_at
 step_ops left k [] some = absurd (some refl)
 step_ops left k (b ∷ bytes) some = refl

@@ -4,3 +4,4 @@ pub mod FieldsRead
 pub mod LinesRead
 pub mod NodesRead
 pub mod TreesRead
+pub mod Versions

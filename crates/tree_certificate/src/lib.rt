@@ -7,6 +7,7 @@
 
 mod fault;
 mod fields;
+mod laws;
 mod leaf;
 mod lines;
 mod nodes;
@@ -15,5 +16,6 @@ mod word;
 mod write;
 
 pub use fault::TreeNo;
+pub use laws::{a_text_says_one_thing, written_is_read};
 pub use read::read_tree;
 pub use write::write_tree;

@@ -1,7 +1,9 @@
-ghost use Rattle.std.specs.Prelude.{◌≡◌, codes, MatchResult, Ok};
+ghost use Rattle.std.specs.Prelude.{◌≡◌, codes, IfOk, MatchResult, Ok};
+ghost use Rattle.tree_certificate.specs.declared.word.Version.{Version};
+ghost use Rattle.tree_certificate.specs.Versions.{IsText};
 ghost use Rattle.tree_certificate.specs.FieldsRead.{behind};
 ghost use Rattle.tree_certificate.specs.Reading.{Gives};
-ghost use Rattle.tree_certificate.specs.TreesRead.{version_word_at, version_at, edition_line_at, edition_at, optimal_at, infeasible_at, verdict_by, verdict_at, nothing_behind, end_at, is_third_version, tree_at, line_number, refusal_of, read_of, Refuses};
+ghost use Rattle.tree_certificate.specs.TreesRead.{TreeRead, version_word_at, version_at, edition_line_at, edition_at, optimal_at, infeasible_at, verdict_by, verdict_at, nothing_behind, end_at, is_third_version, tree_at, line_number, refusal_of, read_of, Refuses};
 
 use crate::fault::{Fault, ReadError, TreeNo};
 use crate::fields::{behind, ended, index_at, number_at, word_at};
@@ -176,9 +178,9 @@ fn refusal_of(bytes: &[u8], fault: Fault) -> TreeNo
     }
 }
 
-/// The edition, the verdict and the tree that the bytes are the text of, in one of three versions.
-pub fn read_tree(alloc: Global, bytes: &[u8]) -> Result<(Option<u32>, Verdict, Tree), TreeNo>
-    ensures exact { MatchResult result (λ x. tree_at bytes.now ≡ Ok (read_of x.0 x.1 x.2))
+/// What is read of the bytes, or the refusal.
+fn answer(alloc: Global, bytes: &[u8]) -> Result<(Option<u32>, Verdict, Tree), TreeNo>
+    ensures { MatchResult result (λ x. tree_at bytes.now ≡ Ok (read_of x.0 x.1 x.2))
         (λ why. Refuses bytes.now why (tree_at bytes.now)) }
 {
     match tree_at(alloc, bytes) {
@@ -186,4 +188,22 @@ pub fn read_tree(alloc: Global, bytes: &[u8]) -> Result<(Option<u32>, Verdict, T
         Err(ReadError::Memory) => Err(TreeNo::Memory),
         Err(ReadError::Fault(fault)) => Err(refusal_of(bytes, fault)),
     }
+}
+
+/// The edition, the verdict and the tree that the bytes are the text of, in one of three versions.
+///
+/// # Errors
+///
+/// The first line that breaks a rule, as `TreeNo` says; `Memory` may come in place of any answer.
+pub fn read_tree(alloc: Global, bytes: &[u8]) -> Result<(Option<u32>, Verdict, Tree), TreeNo>
+    // What is read is a text of a tree within the limits.
+    ensures found { IfOk result (λ x. (version : Version) × IsText bytes.now version (read_of x.0 x.1 x.2)) }
+    // Each such text is read as what it is the text of.
+    ensures only { (version : Version) (read : TreeRead) → IsText bytes.now version read
+        → MatchResult result (λ x. read_of x.0 x.1 x.2 ≡ read) (λ why. why ≡ TreeNo.Memory) }
+    // Which refusal it is.
+    ensures exact { MatchResult result (λ x. tree_at bytes.now ≡ Ok (read_of x.0 x.1 x.2))
+        (λ why. Refuses bytes.now why (tree_at bytes.now)) }
+{
+    answer(alloc, bytes)
 }
