@@ -60,6 +60,7 @@ none_by byte (b ∷ bytes) all = All-cons (λ (c : ℕ). c ≡ byte → ⊥) b b
     behind_and : (p q : Bool) → (p && q) ≡ true → q ≡ true
     behind_and true q e = e
     behind_and false q e = absurd cc
+
     differs : (p : Bool) → (b == byte) ≡ p → (not (b == byte) && list_all (λ c. not (c == byte)) bytes) ≡ true → b ≡ byte → ⊥
     differs true is e same = absurd (let f : (not true && list_all (λ c. not (c == byte)) bytes) ≡ true = rw is at e in cc)
     differs false is e same = let t : (b == byte) ≡ true = eq-eqb b byte same in cc
@@ -123,8 +124,8 @@ pub none_in_op : (o : Op) → FitsOp o → HasNone 10 (op_text o)
 none_in_op o fits =
     All-append NotEnd (codes " " ++ decimal o.train ++ codes " ") (decimal o.op)
     (All-append NotEnd (codes " " ++ decimal o.train) (codes " ")
-     (All-append NotEnd (codes " ") (decimal o.train) (none_by 10 (codes " ") refl) (none_in_number 10 o.train (omega (arith, fits.0)) (omega arith)))
-     (none_by 10 (codes " ") refl))
+    (All-append NotEnd (codes " ") (decimal o.train) (none_by 10 (codes " ") refl) (none_in_number 10 o.train (omega (arith, fits.0)) (omega arith)))
+    (none_by 10 (codes " ") refl))
     (none_in_number 10 o.op (omega (arith, fits.1)) (omega arith))
 
 pub none_in_ops : (ops : List Op) → All FitsOp ops → HasNone 10 (ops_text ops)

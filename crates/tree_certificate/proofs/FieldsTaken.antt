@@ -87,7 +87,7 @@ op_taken left bytes o rest e =
     let t = field_taken left GREATEST_NUMBER bytes a.0.0 a.0.1 (omega arith) a.1 in
     let u = field_taken left GREATEST_NUMBER a.0.1 b.0.0 b.0.1 (omega arith) b.1 in
     let text : bytes ≡ op_text (record { train = a.0.0; op = b.0.0 }) ++ b.0.1 =
-            t.0 ∙ ap (λ (l : List ℕ). 32 ∷ (decimal a.0.0 ++ l)) u.0 ∙ sym (simp append_assoc) in
+    t.0 ∙ ap (λ (l : List ℕ). 32 ∷ (decimal a.0.0 ++ l)) u.0 ∙ sym (simp append_assoc) in
     (text ∙ ap (λ (x : Op). op_text x ++ b.0.1) both.0 ∙ ap (λ (l : List ℕ). op_text o ++ l) both.1, subst FitsOp both.0 (t.1, u.1))
 
 pub end_taken : (left : ℕ) (bytes : List ℕ) (x : ⊤) → ended left bytes ≡ Ok x → bytes ≡ []

@@ -46,12 +46,14 @@ unfolding walk_at
 walk_again w rest fits =
     let line : List ℕ = codes "walk " ++ (decimal w.component ++ ops_text w.walk) in
     let none : HasNone 10 (codes "walk " ++ (decimal w.component ++ ops_text w.walk)) =
-            All-append NotEnd (codes "walk ") (decimal w.component ++ ops_text w.walk) (none_by 10 (codes "walk ") refl)
-            (All-append NotEnd (decimal w.component) (ops_text w.walk) (none_in_number 10 w.component (omega (arith, fits.0)) (omega arith)) (none_in_ops w.walk fits.1)) in
+    All-append NotEnd (codes "walk ") (decimal w.component ++ ops_text w.walk) (none_by 10 (codes "walk ") refl)
+    (All-append NotEnd (decimal w.component) (ops_text w.walk) (none_in_number 10 w.component (omega (arith, fits.0)) (omega arith)) (none_in_ops w.walk fits.1)) in
     ap walk_at (four (codes "walk ") (decimal w.component) (ops_text w.walk) (codes "\n") rest)
-    ∙ rw (line_again (codes "walk " ++ (decimal w.component ++ ops_text w.walk)) rest none,
-          field_again _ GREATEST_NUMBER w.component (ops_text w.walk) fits.0 (omega arith) (sep_ops w.walk),
-          all_ops_again _ w.walk fits.1) refl
+    ∙ rw (
+      line_again (codes "walk " ++ (decimal w.component ++ ops_text w.walk)) rest none,
+      field_again _ GREATEST_NUMBER w.component (ops_text w.walk) fits.0 (omega arith) (sep_ops w.walk),
+      all_ops_again _ w.walk fits.1,
+    ) refl
 
 pub three : (w a n r : List ℕ) → w ++ a ++ n ++ r ≡ (w ++ a) ++ (n ++ r)
 three w a n r = simp append_assoc
@@ -82,15 +84,17 @@ pub none_in_two : (w : List ℕ) (a b : ℕ) → HasNone 10 w → a < 2 ^ 64 →
 none_in_two w a b none fits_a fits_b =
     All-append NotEnd w (decimal a ++ (codes " " ++ decimal b)) none
     (All-append NotEnd (decimal a) (codes " " ++ decimal b) (none_in_number 10 a fits_a (omega arith))
-     (All-append NotEnd (codes " ") (decimal b) (none_by 10 (codes " ") refl) (none_in_number 10 b fits_b (omega arith))))
+    (All-append NotEnd (codes " ") (decimal b) (none_by 10 (codes " ") refl) (none_in_number 10 b fits_b (omega arith))))
 
 pub train_again : (listed : TrainWalks) (rest : List ℕ) → FitsTrain listed → train_at (train_text listed ++ rest) ≡ Ok (listed, rest)
 unfolding train_at
 train_again listed rest fits =
     let none : HasNone 10 (codes "train " ++ (decimal listed.train ++ (codes " " ++ decimal (length listed.walks)))) =
-            none_in_two (codes "train ") listed.train (length listed.walks) (none_by 10 (codes "train ") refl) (omega (arith, fits.0)) (omega (arith, fits.1)) in
+    none_in_two (codes "train ") listed.train (length listed.walks) (none_by 10 (codes "train ") refl) (omega (arith, fits.0)) (omega (arith, fits.1)) in
     ap train_at (seven (codes "train ") (decimal listed.train) (codes " ") (decimal (length listed.walks)) (codes "\n") (flat_map to_text listed.walks) rest)
-    ∙ rw (line_again (codes "train " ++ (decimal listed.train ++ (codes " " ++ decimal (length listed.walks)))) (flat_map to_text listed.walks ++ rest) none,
-          field_again _ GREATEST_NUMBER listed.train (codes " " ++ decimal (length listed.walks)) fits.0 (omega arith) refl,
-          count_again _ (length listed.walks) fits.1,
-          items_again to_at to_text (All FitsOp) to_again listed.walks rest fits.2) refl
+    ∙ rw (
+      line_again (codes "train " ++ (decimal listed.train ++ (codes " " ++ decimal (length listed.walks)))) (flat_map to_text listed.walks ++ rest) none,
+      field_again _ GREATEST_NUMBER listed.train (codes " " ++ decimal (length listed.walks)) fits.0 (omega arith) refl,
+      count_again _ (length listed.walks) fits.1,
+      items_again to_at to_text (All FitsOp) to_again listed.walks rest fits.2,
+    ) refl

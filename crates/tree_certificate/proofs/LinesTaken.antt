@@ -51,7 +51,7 @@ items_taken {A} item text Fits each (suc count) bytes xs rest e =
     let u = items_taken item text Fits each count a.0.1 more.0.0 more.0.1 more.1 in
     let both = parts (a.0.0 ∷ more.0.0) xs more.0.1 rest more.2 in
     let text_is : bytes ≡ flat_map text (a.0.0 ∷ more.0.0) ++ rest =
-            t.0 ∙ ap (λ (l : List ℕ). text a.0.0 ++ l) (u.0 ∙ ap (λ (l : List ℕ). flat_map text more.0.0 ++ l) both.1) ∙ sym (append_assoc (text a.0.0) (flat_map text more.0.0) rest) in
+    t.0 ∙ ap (λ (l : List ℕ). text a.0.0 ++ l) (u.0 ∙ ap (λ (l : List ℕ). flat_map text more.0.0 ++ l) both.1) ∙ sym (append_assoc (text a.0.0) (flat_map text more.0.0) rest) in
     subst (λ (l : List A). (bytes ≡ flat_map text l ++ rest) × All Fits l × (suc count ≡ length l)) both.0
     (text_is, All-cons Fits a.0.0 more.0.0 t.1 u.1, ap suc u.2)
 
@@ -79,8 +79,8 @@ walk_taken bytes w rest e =
     let made : ComponentWalk = record { component = c.0.0; walk = o.0 } in
     let both = parts made w l.0.1 rest o.2 in
     let text : bytes ≡ walk_text made ++ l.0.1 =
-            line ∙ ap (λ (k : List ℕ). k ++ 10 ∷ l.0.1) (word ∙ ap (λ (k : List ℕ). codes "walk" ++ k) (number.0 ∙ ap (λ (k : List ℕ). 32 ∷ (decimal c.0.0 ++ k)) ops.0))
-            ∙ sym (four (codes "walk ") (decimal c.0.0) (ops_text o.0) (codes "\n") l.0.1) in
+    line ∙ ap (λ (k : List ℕ). k ++ 10 ∷ l.0.1) (word ∙ ap (λ (k : List ℕ). codes "walk" ++ k) (number.0 ∙ ap (λ (k : List ℕ). 32 ∷ (decimal c.0.0 ++ k)) ops.0))
+    ∙ sym (four (codes "walk ") (decimal c.0.0) (ops_text o.0) (codes "\n") l.0.1) in
     (text ∙ ap (λ (x : ComponentWalk). walk_text x ++ l.0.1) both.0 ∙ ap (λ (k : List ℕ). walk_text w ++ k) both.1, subst FitsWalk both.0 (number.1, ops.1))
 
 pub to_taken : (bytes : List ℕ) (walk : List Op) (rest : List ℕ) → to_at bytes ≡ Ok (walk, rest) → (bytes ≡ to_text walk ++ rest) × All FitsOp walk
@@ -94,8 +94,8 @@ to_taken bytes walk rest e =
     let ops = ops_taken (length bytes) (length f.0) f.0 o.0 o.1 in
     let both = parts o.0 walk l.0.1 rest o.2 in
     let text : bytes ≡ to_text o.0 ++ l.0.1 =
-            line ∙ ap (λ (k : List ℕ). k ++ 10 ∷ l.0.1) (word ∙ ap (λ (k : List ℕ). codes "to" ++ k) ops.0)
-            ∙ sym (three (codes "to") (ops_text o.0) (codes "\n") l.0.1) in
+    line ∙ ap (λ (k : List ℕ). k ++ 10 ∷ l.0.1) (word ∙ ap (λ (k : List ℕ). codes "to" ++ k) ops.0)
+    ∙ sym (three (codes "to") (ops_text o.0) (codes "\n") l.0.1) in
     (text ∙ ap (λ (x : List Op). to_text x ++ l.0.1) both.0 ∙ ap (λ (k : List ℕ). to_text walk ++ k) both.1, subst (All FitsOp) both.0 ops.1)
 
 pub train_taken : (bytes : List ℕ) (listed : TrainWalks) (rest : List ℕ) → train_at bytes ≡ Ok (listed, rest) → (bytes ≡ train_text listed ++ rest) × FitsTrain listed
@@ -114,8 +114,9 @@ train_taken bytes listed rest e =
     let made : TrainWalks = record { train = t.0.0; walks = w.0.0 } in
     let both = parts made listed w.0.1 rest w.2 in
     let text : bytes ≡ train_text made ++ w.0.1 =
-            line ∙ ap (λ (k : List ℕ). k ++ 10 ∷ l.0.1) (word ∙ ap (λ (k : List ℕ). codes "train" ++ k) (train.0 ∙ ap (λ (k : List ℕ). 32 ∷ (decimal t.0.0 ++ k)) (count.0 ∙ ap (λ (k : ℕ). 32 ∷ decimal k) walks.2)))
-            ∙ ap (λ (k : List ℕ). (codes "train " ++ (decimal t.0.0 ++ (codes " " ++ decimal (length w.0.0)))) ++ 10 ∷ k) walks.0
-            ∙ sym (seven (codes "train ") (decimal t.0.0) (codes " ") (decimal (length w.0.0)) (codes "\n") (flat_map to_text w.0.0) w.0.1) in
-    (text ∙ ap (λ (x : TrainWalks). train_text x ++ w.0.1) both.0 ∙ ap (λ (k : List ℕ). train_text listed ++ k) both.1,
-     subst FitsTrain both.0 (train.1, rw (← walks.2) count.1, walks.1))
+    line ∙ ap (λ (k : List ℕ). k ++ 10 ∷ l.0.1) (word ∙ ap (λ (k : List ℕ). codes "train" ++ k) (train.0 ∙ ap (λ (k : List ℕ). 32 ∷ (decimal t.0.0 ++ k)) (count.0 ∙ ap (λ (k : ℕ). 32 ∷ decimal k) walks.2)))
+    ∙ ap (λ (k : List ℕ). (codes "train " ++ (decimal t.0.0 ++ (codes " " ++ decimal (length w.0.0)))) ++ 10 ∷ k) walks.0
+    ∙ sym (seven (codes "train ") (decimal t.0.0) (codes " ") (decimal (length w.0.0)) (codes "\n") (flat_map to_text w.0.0) w.0.1) in (
+      text ∙ ap (λ (x : TrainWalks). train_text x ++ w.0.1) both.0 ∙ ap (λ (k : List ℕ). train_text listed ++ k) both.1,
+      subst FitsTrain both.0 (train.1, rw (← walks.2) count.1, walks.1),
+    )

@@ -37,14 +37,16 @@ route_again : (third : Bool) (o : Op) (k : ℕ) (rest : List ℕ) → FitsOp o �
 unfolding node_at node_word_at node_by route_at ended
 route_again third o k rest fits some most =
     let none : HasNone 10 (codes "route" ++ (op_text o ++ (codes " " ++ decimal k))) =
-            All-append NotEnd (codes "route") (op_text o ++ (codes " " ++ decimal k)) (none_by 10 (codes "route") refl)
-            (All-append NotEnd (op_text o) (codes " " ++ decimal k) (none_in_op o fits)
-             (All-append NotEnd (codes " ") (decimal k) (none_by 10 (codes " ") refl) (none_in_number 10 k (omega (arith, most)) (omega arith)))) in
+    All-append NotEnd (codes "route") (op_text o ++ (codes " " ++ decimal k)) (none_by 10 (codes "route") refl)
+    (All-append NotEnd (op_text o) (codes " " ++ decimal k) (none_in_op o fits)
+    (All-append NotEnd (codes " ") (decimal k) (none_by 10 (codes " ") refl) (none_in_number 10 k (omega (arith, most)) (omega arith)))) in
     ap (node_at third) (six (codes "route") (op_text o) (codes " ") (decimal k) (codes "\n") rest)
-    ∙ rw (line_again (codes "route" ++ (op_text o ++ (codes " " ++ decimal k))) rest none,
-          op_again _ o (codes " " ++ decimal k) fits refl,
-          last_again _ MOST_COMPONENTS k most (omega arith),
-          positive _ k some) refl
+    ∙ rw (
+      line_again (codes "route" ++ (op_text o ++ (codes " " ++ decimal k))) rest none,
+      op_again _ o (codes " " ++ decimal k) fits refl,
+      last_again _ MOST_COMPONENTS k most (omega arith),
+      positive _ k some,
+    ) refl
 
 -- a line that ends with an operation
 last_op : (left : ℕ) (o : Op) → FitsOp o → op_at left (op_text o) ≡ Ok (o, [])
@@ -54,12 +56,14 @@ order_again : (third : Bool) (a b : Op) (rest : List ℕ) → FitsOp a → FitsO
 unfolding node_at node_word_at node_by order_at ended
 order_again third a b rest fits_a fits_b =
     let none : HasNone 10 (codes "order" ++ (op_text a ++ op_text b)) =
-            All-append NotEnd (codes "order") (op_text a ++ op_text b) (none_by 10 (codes "order") refl)
-            (All-append NotEnd (op_text a) (op_text b) (none_in_op a fits_a) (none_in_op b fits_b)) in
+    All-append NotEnd (codes "order") (op_text a ++ op_text b) (none_by 10 (codes "order") refl)
+    (All-append NotEnd (op_text a) (op_text b) (none_in_op a fits_a) (none_in_op b fits_b)) in
     ap (node_at third) (four (codes "order") (op_text a) (op_text b) (codes "\n") rest)
-    ∙ rw (line_again (codes "order" ++ (op_text a ++ op_text b)) rest none,
-          op_again _ a (op_text b) fits_a refl,
-          last_op _ b fits_b) refl
+    ∙ rw (
+      line_again (codes "order" ++ (op_text a ++ op_text b)) rest none,
+      op_again _ a (op_text b) fits_a refl,
+      last_op _ b fits_b,
+    ) refl
 
 run_again : (o : Op) (rest : List ℕ) → FitsOp o → node_at true (node_text (Branch (Run o) 2) ++ rest) ≡ Ok (Branch (Run o) 2, rest)
 unfolding node_at node_word_at node_by run_at ended
@@ -90,24 +94,28 @@ costs_again : (third : Bool) (walks : List ComponentWalk) (rest : List ℕ) → 
 unfolding node_at node_word_at node_by costs_at
 costs_again third walks rest most fits =
     let none : HasNone 10 (codes "costs " ++ decimal (length walks)) =
-            All-append NotEnd (codes "costs ") (decimal (length walks)) (none_by 10 (codes "costs ") refl) (none_in_number 10 (length walks) (omega (arith, most)) (omega arith)) in
+    All-append NotEnd (codes "costs ") (decimal (length walks)) (none_by 10 (codes "costs ") refl) (none_in_number 10 (length walks) (omega (arith, most)) (omega arith)) in
     ap (node_at third) (five (codes "costs ") (decimal (length walks)) (codes "\n") (flat_map walk_text walks) rest)
-    ∙ rw (line_again (codes "costs " ++ decimal (length walks)) (flat_map walk_text walks ++ rest) none,
-          count_again _ (length walks) most,
-          items_again walk_at walk_text FitsWalk walk_again walks rest fits) refl
+    ∙ rw (
+      line_again (codes "costs " ++ decimal (length walks)) (flat_map walk_text walks ++ rest) none,
+      count_again _ (length walks) most,
+      items_again walk_at walk_text FitsWalk walk_again walks rest fits,
+    ) refl
 
 shares_again : (walks : List ComponentWalk) (trains : List TrainWalks) (rest : List ℕ) → length walks ≤ MOST_COMPONENTS → All FitsWalk walks → length trains ≤ MOST_COMPONENTS → All FitsTrain trains
     → node_at true (node_text (Leaf (Shares walks trains)) ++ rest) ≡ Ok (Leaf (Shares walks trains), rest)
 unfolding node_at node_word_at node_by shares_at
 shares_again walks trains rest most fits most_trains trains_fit =
     let none : HasNone 10 (codes "shares " ++ (decimal (length walks) ++ (codes " " ++ decimal (length trains)))) =
-            none_in_two (codes "shares ") (length walks) (length trains) (none_by 10 (codes "shares ") refl) (omega (arith, most)) (omega (arith, most_trains)) in
+    none_in_two (codes "shares ") (length walks) (length trains) (none_by 10 (codes "shares ") refl) (omega (arith, most)) (omega (arith, most_trains)) in
     ap (node_at true) (eight (codes "shares ") (decimal (length walks)) (codes " ") (decimal (length trains)) (codes "\n") (flat_map walk_text walks) (flat_map train_text trains) rest)
-    ∙ rw (line_again (codes "shares " ++ (decimal (length walks) ++ (codes " " ++ decimal (length trains)))) (flat_map walk_text walks ++ (flat_map train_text trains ++ rest)) none,
-          field_again _ MOST_COMPONENTS (length walks) (codes " " ++ decimal (length trains)) most (omega arith) refl,
-          count_again _ (length trains) most_trains,
-          items_again walk_at walk_text FitsWalk walk_again walks (flat_map train_text trains ++ rest) fits,
-          items_again train_at train_text FitsTrain train_again trains rest trains_fit) refl
+    ∙ rw (
+      line_again (codes "shares " ++ (decimal (length walks) ++ (codes " " ++ decimal (length trains)))) (flat_map walk_text walks ++ (flat_map train_text trains ++ rest)) none,
+      field_again _ MOST_COMPONENTS (length walks) (codes " " ++ decimal (length trains)) most (omega arith) refl,
+      count_again _ (length trains) most_trains,
+      items_again walk_at walk_text FitsWalk walk_again walks (flat_map train_text trains ++ rest) fits,
+      items_again train_at train_text FitsTrain train_again trains rest trains_fit,
+    ) refl
 
 -- a node that fits and has a line is read again
 pub node_again : (third : Bool) (n : TreeNode) (rest : List ℕ) → FitsNode n → HasLine third n → node_at third (node_text n ++ rest) ≡ Ok (n, rest)
@@ -135,6 +143,8 @@ nodes_again third most (suc places) [] rest le complete fits has = absurd comple
 nodes_again third most zero (n ∷ tree) rest le complete fits has = absurd complete
 nodes_again third zero (suc places) (n ∷ tree) rest le complete fits has = absurd (omega (arith, le))
 nodes_again third (suc most) (suc places) (n ∷ tree) rest le complete fits has =
-    rw (append_assoc (node_text n) (flat_map node_text tree) rest,
-        node_again third n (flat_map node_text tree ++ rest) (All-head FitsNode n tree fits) (All-head (HasLine third) n tree has),
-        nodes_again third most (places + children_of n) tree rest (omega (arith, le)) complete (All-tail FitsNode n tree fits) (All-tail (HasLine third) n tree has)) refl
+    rw (
+      append_assoc (node_text n) (flat_map node_text tree) rest,
+      node_again third n (flat_map node_text tree ++ rest) (All-head FitsNode n tree fits) (All-head (HasLine third) n tree has),
+      nodes_again third most (places + children_of n) tree rest (omega (arith, le)) complete (All-tail FitsNode n tree fits) (All-tail (HasLine third) n tree has),
+    ) refl

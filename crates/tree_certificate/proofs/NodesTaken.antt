@@ -45,14 +45,35 @@ took line w x h = subst (λ (v : Word). line ≡ word_text v ++ x.1) h.1 (behind
 node_word_taken : (left : ℕ) (line : List ℕ) (x : Word × List ℕ) → node_word_at left line ≡ Ok x → line ≡ word_text x.0 ++ x.1
 unfolding node_word_at
 node_word_taken left line x e =
-    elim (or_word_taken (behind (codes "route") line) word.Route _ x e) [ inl h ↦ took line word.Route x h | inr e1 ↦
-    elim (or_word_taken (behind (codes "order") line) word.Order _ x e1) [ inl h ↦ took line word.Order x h | inr e2 ↦
-    elim (or_word_taken (behind (codes "run") line) word.Run _ x e2) [ inl h ↦ took line word.Run x h | inr e3 ↦
-    elim (or_word_taken (behind (codes "noroute") line) word.NoRoute _ x e3) [ inl h ↦ took line word.NoRoute x h | inr e4 ↦
-    elim (or_word_taken (behind (codes "cycle") line) word.Cycle _ x e4) [ inl h ↦ took line word.Cycle x h | inr e5 ↦
-    elim (or_word_taken (behind (codes "late") line) word.Late _ x e5) [ inl h ↦ took line word.Late x h | inr e6 ↦
-    elim (or_word_taken (behind (codes "costs") line) word.Costs _ x e6) [ inl h ↦ took line word.Costs x h | inr e7 ↦
-    elim (or_word_taken (behind (codes "shares") line) word.Shares _ x e7) [ inl h ↦ took line word.Shares x h | inr e8 ↦ absurd cc ] ] ] ] ] ] ] ]
+    elim (or_word_taken (behind (codes "route") line) word.Route _ x e) [
+      | inl h ↦ took line word.Route x h
+      | inr e1 ↦
+          elim (or_word_taken (behind (codes "order") line) word.Order _ x e1) [
+            | inl h ↦ took line word.Order x h
+            | inr e2 ↦
+                elim (or_word_taken (behind (codes "run") line) word.Run _ x e2) [
+                  | inl h ↦ took line word.Run x h
+                  | inr e3 ↦
+                      elim (or_word_taken (behind (codes "noroute") line) word.NoRoute _ x e3) [
+                        | inl h ↦ took line word.NoRoute x h
+                        | inr e4 ↦
+                            elim (or_word_taken (behind (codes "cycle") line) word.Cycle _ x e4) [
+                              | inl h ↦ took line word.Cycle x h
+                              | inr e5 ↦
+                                  elim (or_word_taken (behind (codes "late") line) word.Late _ x e5) [
+                                    | inl h ↦ took line word.Late x h
+                                    | inr e6 ↦
+                                        elim (or_word_taken (behind (codes "costs") line) word.Costs _ x e6) [
+                                          | inl h ↦ took line word.Costs x h
+                                          | inr e7 ↦
+                                              elim (or_word_taken (behind (codes "shares") line) word.Shares _ x e7) [ inl h ↦ took line word.Shares x h | inr e8 ↦ absurd cc ]
+                                        ]
+                                  ]
+                            ]
+                      ]
+                ]
+          ]
+    ]
 
 -- the line is the node's text, which fits and has a line
 abbrev LineOf : Bool → List ℕ → TreeNode → Type 0
@@ -80,7 +101,7 @@ route_taken third left fields n e =
     let some = some_children left c.0.0 k.0 k.1 in
     let none = end_taken left c.0.1 d.0 d.1 in
     let text : fields ≡ op_text o.0.0 ++ (codes " " ++ decimal k.0) =
-            op.0 ∙ ap (λ (l : List ℕ). op_text o.0.0 ++ l) (number.0 ∙ ap (λ (l : List ℕ). 32 ∷ (decimal c.0.0 ++ l)) none ∙ ap (λ (l : List ℕ). 32 ∷ l) (append-nil (decimal c.0.0)) ∙ ap (λ (m : ℕ). 32 ∷ decimal m) some.0) in
+    op.0 ∙ ap (λ (l : List ℕ). op_text o.0.0 ++ l) (number.0 ∙ ap (λ (l : List ℕ). 32 ∷ (decimal c.0.0 ++ l)) none ∙ ap (λ (l : List ℕ). 32 ∷ l) (append-nil (decimal c.0.0)) ∙ ap (λ (m : ℕ). 32 ∷ decimal m) some.0) in
     let most : k.0 ≤ MOST_COMPONENTS = rw (← some.0) number.1 in
     subst (LineOf third (codes "route" ++ fields)) (ok_is (Branch (Route o.0.0) k.0) n d.2)
     (λ rest. ap (λ (l : List ℕ). (codes "route" ++ l) ++ 10 ∷ rest) text ∙ sym (six (codes "route") (op_text o.0.0) (codes " ") (decimal k.0) (codes "\n") rest), (op.1, (some.1, most)), inr refl)
@@ -95,7 +116,7 @@ order_taken third left fields n e =
     let other = op_taken left a.0.1 b.0.0 b.0.1 b.1 in
     let none = end_taken left b.0.1 d.0 d.1 in
     let text : fields ≡ op_text a.0.0 ++ op_text b.0.0 =
-            one.0 ∙ ap (λ (l : List ℕ). op_text a.0.0 ++ l) (other.0 ∙ ap (λ (l : List ℕ). op_text b.0.0 ++ l) none ∙ append-nil (op_text b.0.0)) in
+    one.0 ∙ ap (λ (l : List ℕ). op_text a.0.0 ++ l) (other.0 ∙ ap (λ (l : List ℕ). op_text b.0.0 ++ l) none ∙ append-nil (op_text b.0.0)) in
     subst (LineOf third (codes "order" ++ fields)) (ok_is (Branch (Order a.0.0 b.0.0) 2) n d.2)
     (λ rest. ap (λ (l : List ℕ). (codes "order" ++ l) ++ 10 ∷ rest) text ∙ sym (four (codes "order") (op_text a.0.0) (op_text b.0.0) (codes "\n") rest), ((one.1, other.1), refl), inr refl)
 
@@ -147,9 +168,9 @@ costs_taken third left fields rest x e =
     let count = count_taken left fields c.0 c.1 in
     let walks = items_taken walk_at walk_text FitsWalk walk_taken c.0 rest w.0.0 w.0.1 w.1 in
     let text : (codes "costs" ++ fields) ++ 10 ∷ rest ≡ node_text (Leaf (Costs w.0.0)) ++ w.0.1 =
-            ap (λ (l : List ℕ). (codes "costs" ++ l) ++ 10 ∷ rest) (count.0 ∙ ap (λ (m : ℕ). 32 ∷ decimal m) walks.2)
-            ∙ ap (λ (l : List ℕ). (codes "costs " ++ decimal (length w.0.0)) ++ 10 ∷ l) walks.0
-            ∙ sym (five (codes "costs ") (decimal (length w.0.0)) (codes "\n") (flat_map walk_text w.0.0) w.0.1) in
+    ap (λ (l : List ℕ). (codes "costs" ++ l) ++ 10 ∷ rest) (count.0 ∙ ap (λ (m : ℕ). 32 ∷ decimal m) walks.2)
+    ∙ ap (λ (l : List ℕ). (codes "costs " ++ decimal (length w.0.0)) ++ 10 ∷ l) walks.0
+    ∙ sym (five (codes "costs ") (decimal (length w.0.0)) (codes "\n") (flat_map walk_text w.0.0) w.0.1) in
     subst (LinesOf third (codes "costs" ++ fields) rest) (ok_is {A = TreeNode × List ℕ} (Leaf (Costs w.0.0), w.0.1) x w.2)
     (text, (rw (← walks.2) count.1, walks.1), inr refl)
 
@@ -166,13 +187,13 @@ shares_taken third left fields rest x e =
     let walks = items_taken walk_at walk_text FitsWalk walk_taken c.0.0 rest w.0.0 w.0.1 w.1 in
     let trains = items_taken train_at train_text FitsTrain train_taken m.0 w.0.1 g.0.0 g.0.1 g.1 in
     let line : fields ≡ 32 ∷ (decimal (length w.0.0) ++ (32 ∷ decimal (length g.0.0))) =
-            number.0 ∙ ap (λ (l : List ℕ). 32 ∷ (decimal c.0.0 ++ l)) (count.0 ∙ ap (λ (k : ℕ). 32 ∷ decimal k) trains.2)
-            ∙ ap (λ (k : ℕ). 32 ∷ (decimal k ++ (32 ∷ decimal (length g.0.0)))) walks.2 in
+    number.0 ∙ ap (λ (l : List ℕ). 32 ∷ (decimal c.0.0 ++ l)) (count.0 ∙ ap (λ (k : ℕ). 32 ∷ decimal k) trains.2)
+    ∙ ap (λ (k : ℕ). 32 ∷ (decimal k ++ (32 ∷ decimal (length g.0.0)))) walks.2 in
     let behind_line : rest ≡ flat_map walk_text w.0.0 ++ (flat_map train_text g.0.0 ++ g.0.1) = walks.0 ∙ ap (λ (l : List ℕ). flat_map walk_text w.0.0 ++ l) trains.0 in
     let text : (codes "shares" ++ fields) ++ 10 ∷ rest ≡ node_text (Leaf (Shares w.0.0 g.0.0)) ++ g.0.1 =
-            ap (λ (l : List ℕ). (codes "shares" ++ l) ++ 10 ∷ rest) line
-            ∙ ap (λ (l : List ℕ). (codes "shares " ++ (decimal (length w.0.0) ++ (codes " " ++ decimal (length g.0.0)))) ++ 10 ∷ l) behind_line
-            ∙ sym (eight (codes "shares ") (decimal (length w.0.0)) (codes " ") (decimal (length g.0.0)) (codes "\n") (flat_map walk_text w.0.0) (flat_map train_text g.0.0) g.0.1) in
+    ap (λ (l : List ℕ). (codes "shares" ++ l) ++ 10 ∷ rest) line
+    ∙ ap (λ (l : List ℕ). (codes "shares " ++ (decimal (length w.0.0) ++ (codes " " ++ decimal (length g.0.0)))) ++ 10 ∷ l) behind_line
+    ∙ sym (eight (codes "shares ") (decimal (length w.0.0)) (codes " ") (decimal (length g.0.0)) (codes "\n") (flat_map walk_text w.0.0) (flat_map train_text g.0.0) g.0.1) in
     subst (LinesOf third (codes "shares" ++ fields) rest) (ok_is {A = TreeNode × List ℕ} (Leaf (Shares w.0.0 g.0.0), g.0.1) x g.2)
     (text, (rw (← walks.2) number.1, walks.1, rw (← trains.2) count.1, trains.1), inl (allowed third left t.0 t.1))
 
@@ -218,6 +239,9 @@ nodes_taken third (suc most) (suc places) bytes x e =
     let m = bind_ok (nodes_at third most (places + children_of n.0.0) n.0.1) _ x n.2 in
     let t = node_taken third bytes n.0 n.1 in
     let u = nodes_taken third most (places + children_of n.0.0) n.0.1 m.0 m.1 in
-    subst (Taken third (suc places) bytes) (ok_is {A = List TreeNode × List ℕ} (n.0.0 ∷ m.0.0, m.0.1) x m.2)
-    (t.0 ∙ ap (λ (l : List ℕ). node_text n.0.0 ++ l) u.0 ∙ sym (append_assoc (node_text n.0.0) (flat_map node_text m.0.0) m.0.1),
-     All-cons FitsNode n.0.0 m.0.0 t.1 u.1, All-cons (HasLine third) n.0.0 m.0.0 t.2 u.2, u.3)
+    subst (Taken third (suc places) bytes) (ok_is {A = List TreeNode × List ℕ} (n.0.0 ∷ m.0.0, m.0.1) x m.2) (
+      t.0 ∙ ap (λ (l : List ℕ). node_text n.0.0 ++ l) u.0 ∙ sym (append_assoc (node_text n.0.0) (flat_map node_text m.0.0) m.0.1),
+      All-cons FitsNode n.0.0 m.0.0 t.1 u.1,
+      All-cons (HasLine third) n.0.0 m.0.0 t.2 u.2,
+      u.3,
+    )

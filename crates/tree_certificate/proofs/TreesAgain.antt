@@ -84,6 +84,7 @@ none_third (n ∷ tree) none = All-cons (HasLine false) n tree (inr (left_false 
     left_false : (a b : Bool) → (a || b) ≡ false → a ≡ false
     left_false true b e = absurd cc
     left_false false b e = refl
+
     right_false : (a b : Bool) → (a || b) ≡ false → b ≡ false
     right_false true b e = absurd cc
     right_false false b e = e
@@ -107,11 +108,13 @@ unfolding tree_at
 tree_again bytes version read is =
     let long : length read.tree ≤ length (flat_map node_text read.tree ++ codes "end\n") = omega (arith, nodes_len read.tree, length-append (flat_map node_text read.tree) (codes "end\n")) in
     ap tree_at (is.text ∙ regroup (version_line version) (edition_line read.edition) (verdict_line read.verdict) (flat_map node_text read.tree) (codes "end\n"))
-    ∙ rw (version_again version (edition_line read.edition ++ (verdict_line read.verdict ++ (flat_map node_text read.tree ++ codes "end\n"))),
-          edition_again version read.edition (verdict_line read.verdict ++ (flat_map node_text read.tree ++ codes "end\n")) is.edition_fits,
-          verdict_again read.verdict (flat_map node_text read.tree ++ codes "end\n") is.verdict_fits,
-          nodes_again (is_third_version version) (length (flat_map node_text read.tree ++ codes "end\n")) 1 read.tree (codes "end\n") long is.complete is.nodes_fit (have_lines version read.tree is.lines),
-          end_again) refl
+    ∙ rw (
+      version_again version (edition_line read.edition ++ (verdict_line read.verdict ++ (flat_map node_text read.tree ++ codes "end\n"))),
+      edition_again version read.edition (verdict_line read.verdict ++ (flat_map node_text read.tree ++ codes "end\n")) is.edition_fits,
+      verdict_again read.verdict (flat_map node_text read.tree ++ codes "end\n") is.verdict_fits,
+      nodes_again (is_third_version version) (length (flat_map node_text read.tree ++ codes "end\n")) 1 read.tree (codes "end\n") long is.complete is.nodes_fit (have_lines version read.tree is.lines),
+      end_again,
+    ) refl
 
 -- a text is answered by what it says, unless memory runs out
 pub only_text : (bytes : List ℕ) (version : Version) (read : TreeRead) (answer : Result (Option ℕ × Verdict × List TreeNode) TreeNo)

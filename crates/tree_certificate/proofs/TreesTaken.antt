@@ -40,9 +40,15 @@ took line v x h = subst (λ (w : Version). line ≡ version_word w ++ x.1) h.1 (
 version_word_taken : (left : ℕ) (line : List ℕ) (x : Version × List ℕ) → version_word_at left line ≡ Ok x → line ≡ version_word x.0 ++ x.1
 unfolding version_word_at
 version_word_taken left line x e =
-    elim (or_word_taken (behind (codes "displib-tree 1") line) First _ x e) [ inl h ↦ took line First x h | inr e1 ↦
-    elim (or_word_taken (behind (codes "displib-tree 2") line) Second _ x e1) [ inl h ↦ took line Second x h | inr e2 ↦
-    elim (or_word_taken (behind (codes "displib-tree 3") line) Third _ x e2) [ inl h ↦ took line Third x h | inr e3 ↦ absurd cc ] ] ]
+    elim (or_word_taken (behind (codes "displib-tree 1") line) First _ x e) [
+      | inl h ↦ took line First x h
+      | inr e1 ↦
+          elim (or_word_taken (behind (codes "displib-tree 2") line) Second _ x e1) [
+            | inl h ↦ took line Second x h
+            | inr e2 ↦
+                elim (or_word_taken (behind (codes "displib-tree 3") line) Third _ x e2) [ inl h ↦ took line Third x h | inr e3 ↦ absurd cc ]
+          ]
+    ]
 
 version_ends : (version : Version) (rest : List ℕ) → (version_word version ++ []) ++ 10 ∷ rest ≡ version_line version ++ rest
 version_ends First rest = refl
@@ -59,7 +65,7 @@ version_taken bytes x e =
     let word = version_word_taken (length bytes) l.0.0 v.0 v.1 in
     let none = end_taken (length bytes) v.0.1 d.0 d.1 in
     let text : bytes ≡ version_line v.0.0 ++ l.0.1 =
-            line ∙ ap (λ (k : List ℕ). k ++ 10 ∷ l.0.1) (word ∙ ap (λ (k : List ℕ). version_word v.0.0 ++ k) none) ∙ version_ends v.0.0 l.0.1 in
+    line ∙ ap (λ (k : List ℕ). k ++ 10 ∷ l.0.1) (word ∙ ap (λ (k : List ℕ). version_word v.0.0 ++ k) none) ∙ version_ends v.0.0 l.0.1 in
     subst (λ (y : Version × List ℕ). bytes ≡ version_line y.0 ++ y.1) (ok_is {A = Version × List ℕ} (v.0.0, l.0.1) x d.2) text
 
 -- the edition's line
@@ -78,8 +84,8 @@ edition_line_taken bytes x e =
     let number = field_taken (length bytes) 65535 f.0 n.0.0 n.0.1 (omega arith) n.1 in
     let none = end_taken (length bytes) n.0.1 d.0 d.1 in
     let text : bytes ≡ edition_line (Some n.0.0) ++ l.0.1 =
-            line ∙ ap (λ (k : List ℕ). k ++ 10 ∷ l.0.1) (word ∙ ap (λ (k : List ℕ). codes "edition" ++ k) (number.0 ∙ ap (λ (k : List ℕ). 32 ∷ (decimal n.0.0 ++ k)) none ∙ ap (λ (k : List ℕ). 32 ∷ k) (append-nil (decimal n.0.0))))
-            ∙ sym (three (codes "edition ") (decimal n.0.0) (codes "\n") l.0.1) in
+    line ∙ ap (λ (k : List ℕ). k ++ 10 ∷ l.0.1) (word ∙ ap (λ (k : List ℕ). codes "edition" ++ k) (number.0 ∙ ap (λ (k : List ℕ). 32 ∷ (decimal n.0.0 ++ k)) none ∙ ap (λ (k : List ℕ). 32 ∷ k) (append-nil (decimal n.0.0))))
+    ∙ sym (three (codes "edition ") (decimal n.0.0) (codes "\n") l.0.1) in
     subst (IsLaterEdition bytes) (ok_is {A = Option ℕ × List ℕ} (Some n.0.0, l.0.1) x d.2) (text, number.1)
 
 same_limit : (edition : Option ℕ) → FitsEdition Third edition → FitsEdition Second edition
@@ -155,6 +161,7 @@ none_needs (n ∷ tree) have = neither (is_third n) (needs_third tree) (not_thir
     neither : (a b : Bool) → a ≡ false → b ≡ false → (a || b) ≡ false
     neither true b e f = absurd cc
     neither false b e f = f
+
     not_third : (m : TreeNode) → HasLine false m → is_third m ≡ false
     not_third m (inl e) = absurd cc
     not_third m (inr e) = e
@@ -181,16 +188,16 @@ tree_taken bytes read e =
     let nodes = nodes_taken (is_third_version v.0.0) (length vd.0.1) 1 vd.0.1 ns.0 ns.1 in
     let last = last_taken ns.0.1 d.0 d.1 in
     let text : bytes ≡ version_text v.0.0 (read_of ed.0.0 vd.0.0 ns.0.0) =
-            first ∙ ap (λ (k : List ℕ). version_line v.0.0 ++ k) (second.0 ∙ ap (λ (k : List ℕ). edition_line ed.0.0 ++ k) (third.0 ∙ ap (λ (k : List ℕ). verdict_line vd.0.0 ++ k) (nodes.0 ∙ ap (λ (k : List ℕ). flat_map node_text ns.0.0 ++ k) last)))
-            ∙ sym (regroup (version_line v.0.0) (edition_line ed.0.0) (verdict_line vd.0.0) (flat_map node_text ns.0.0) (codes "end\n")) in
+    first ∙ ap (λ (k : List ℕ). version_line v.0.0 ++ k) (second.0 ∙ ap (λ (k : List ℕ). edition_line ed.0.0 ++ k) (third.0 ∙ ap (λ (k : List ℕ). verdict_line vd.0.0 ++ k) (nodes.0 ∙ ap (λ (k : List ℕ). flat_map node_text ns.0.0 ++ k) last)))
+    ∙ sym (regroup (version_line v.0.0) (edition_line ed.0.0) (verdict_line vd.0.0) (flat_map node_text ns.0.0) (codes "end\n")) in
     let is : IsText bytes v.0.0 (read_of ed.0.0 vd.0.0 ns.0.0) = record {
-              edition_fits = second.1;
-              verdict_fits = third.1;
-              nodes_fit = nodes.1;
-              complete = nodes.3;
-              lines = have_lines v.0.0 ns.0.0 nodes.2;
-              text = text;
-            } in
+      edition_fits = second.1;
+      verdict_fits = third.1;
+      nodes_fit = nodes.1;
+      complete = nodes.3;
+      lines = have_lines v.0.0 ns.0.0 nodes.2;
+      text = text;
+    } in
     subst (Says bytes) (ok_is (read_of ed.0.0 vd.0.0 ns.0.0) read d.2) (v.0.0, is)
 
 pub found_text : (bytes : List ℕ) (answer : Result (Option ℕ × Verdict × List TreeNode) TreeNo)

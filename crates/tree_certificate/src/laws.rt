@@ -13,16 +13,14 @@ pub fn written_is_read()
     ensures is_text { (edition : ℕ) (verdict : Verdict) (tree : List TreeNode) → edition ≤ 65535
         → FitsVerdict verdict → All FitsNode tree → Completes 1 tree
         → IsText (tree_text edition verdict tree) (later_version (needs_third tree))
-            (read_of (Some edition) verdict tree) }
+        (read_of (Some edition) verdict tree) }
     ensures is_read { (edition : ℕ) (verdict : Verdict) (tree : List TreeNode) → edition ≤ 65535
         → FitsVerdict verdict → All FitsNode tree → Completes 1 tree
         → tree_at (tree_text edition verdict tree) ≡ Ok (read_of (Some edition) verdict tree) }
-{
-}
+{}
 
 /// A text says one thing.
 pub fn a_text_says_one_thing()
     ensures { (bytes : List ℕ) (v w : Version) (one other : TreeRead) → IsText bytes v one
         → IsText bytes w other → one ≡ other }
-{
-}
+{}
