@@ -1,0 +1,12 @@
+pub mod Cutting
+pub mod Numbers
+pub mod Looping
+pub mod Filling
+pub mod FieldsAgain
+pub mod LinesAgain
+pub mod NodesAgain
+pub mod TreesAgain
+pub mod FieldsTaken
+pub mod LinesTaken
+pub mod NodesTaken
+pub mod TreesTaken
