@@ -24,7 +24,7 @@ use Rattle.disp_laws.proofs.Tightened.{within_row}
 use Rattle.fixing_editions.specs.Own.{train_of, own_of}
 use Rattle.fixing_editions.specs.Wishes.{HasRouteOf}
 use Rattle.fixing_editions.specs.Answers.{IsFound}
-use Rattle.fixing_editions.proofs.Places.{get_push_cases}
+use Rattle.train_orders.proofs.Places.{get_push_cases}
 use Rattle.fixing_editions.proofs.Owning.{routes_are}
 
 pub inside_of : (problem : Problem) (t : ℕ) → t < length problem.trains → All (λ o. All (λ s. s < length (train_at problem t)) o.next) (train_at problem t)

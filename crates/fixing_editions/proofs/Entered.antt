@@ -1,4 +1,4 @@
--- The last operation of an order is the entry, and its ways are the train's routes.
+-- The ways of an order's last operation, which is the entry, are the train's routes.
 use Rattle.std.proofs.Common.{◌≡◌, ◌≢◌, ℕ, zero, suc, ◌+◌, ◌≤◌, List, [], ◌∷◌, length, get_or, Some, Bool, false, refl, sym, ap, subst, ◌∙◌, inl, inr, arith}
 use Rattle.std.specs.Prelude.{nat_eq, slice_get, Contains, IsTrue, ◌↔◌}
 use Rattle.std.proofs.lemmas.Bool.{cases_Bool, cases_lt, eqb-true, eqb-false, eq-eqb}
@@ -15,31 +15,11 @@ use Rattle.fixing_editions.specs.declared.wishes.Wish.{Wish}
 use Rattle.fixing_editions.specs.declared.wishes.Wish.TheVariants.{Free, Visited, Followed}
 use Rattle.fixing_editions.specs.declared.train_fixings.Numbered.{Numbered}
 use Rattle.fixing_editions.specs.Wishes.{Allows, Meets, wish_at, IsWithin, Adds, AreWishes, HaveNoRoute, Clashes, HasRouteFor, HasRouteOf}
-use Rattle.fixing_editions.specs.Orders.{IsOrder}
+use Rattle.train_orders.specs.Orders.{IsOrder}
 use Rattle.fixing_editions.specs.Sweeps.{MayEnd, Keeps, HasWay}
-use Rattle.fixing_editions.proofs.Places.{at_contains, contains_at}
+use Rattle.train_orders.proofs.Places.{at_contains, contains_at}
+use Rattle.train_orders.proofs.Ordered.{last_is_entry}
 use Rattle.fixing_editions.proofs.Joining.{after_contains}
-use Rattle.fixing_editions.proofs.Sweeping.{taken_more}
-
--- ---- the last is the entry
-
-nothing_behind : (train : List Operation) (p s : ℕ) → length train ≤ p → IsSuccessor train p s → ⊥
-nothing_behind [] p s le (k, lt, e) = omega arith
-nothing_behind (o ∷ train) zero s le next = omega arith
-nothing_behind (o ∷ train) (suc p) s le next = nothing_behind train p s (omega arith) next
-
-pub last_is_entry : (train : List Operation) (order : List ℕ) (k e : ℕ) → IsOrder train order → length order ≡ k + 1 → slice_get order k ≡ Some e → IsEntry train e
-last_is_entry train order k e is long last = record {
-  there = is.is_behind.within e (contains_at order e k last);
-  first = λ p next. elim (cases_lt p (length train)) [
-    | inr past ↦ nothing_behind train p e past next
-    | inl lt ↦ before p next (at_contains order p (is.has p lt))
-  ];
-}
-  where
-    before : (p : ℕ) → IsSuccessor train p e → ((j : ℕ) × (slice_get order j ≡ Some p)) → ⊥
-    before p next (j, here) =
-        is.is_behind.once k e last (taken_more order k j e (omega (arith, long, slice_get_within order j p here)) (is.is_behind.behind j p e here next))
 
 -- ---- ways keep wishes exactly where routes meet them
 
@@ -113,14 +93,6 @@ way_by_route train wishes order k e acyclic is count last (p ∷ rest, route, me
       keeps = met_keeps train wishes p rest acyclic route.1 (λ q there. met q);
       wanted = λ q there wanted. wanted_met (p ∷ rest) q (wish_at wishes q) wanted (met q);
     })
-
--- the order has a last
-pub has_last : (train : List Operation) (order : List ℕ) → IsAcyclic train → IsOrder train order → (k : ℕ) × (e : ℕ) × (length order ≡ k + 1) × (slice_get order k ≡ Some e)
-has_last train order acyclic is = by (length order) refl (is.has 0 acyclic.entered)
-  where
-    by : (n : ℕ) → length order ≡ n → Contains order 0 → (k : ℕ) × (e : ℕ) × (length order ≡ k + 1) × (slice_get order k ≡ Some e)
-    by zero long (j, lt, at) = absurd (omega (arith, lt, long))
-    by (suc k) long there = (k, get_or order k 0, omega (arith, long), slice_get-get_or order k 0 (omega (arith, long)))
 
 -- ---- routes that agree with the fixings
 

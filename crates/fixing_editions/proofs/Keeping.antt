@@ -16,8 +16,7 @@ use Rattle.fixing_editions.specs.declared.kept.Kept.{Kept}
 use Rattle.fixing_editions.specs.declared.train_fixings.Numbered.{Numbered}
 use Rattle.fixing_editions.specs.Own.{train_of, own_of, without}
 use Rattle.fixing_editions.specs.Edition.{AreOwn, AreWithdrawn, IsKept, IsAsBefore, Enters, TakesBack, Settles}
-use Rattle.fixing_editions.proofs.Places.{get_push_cases}
-use Rattle.fixing_editions.proofs.Sweeping.{set_at, set_elsewhere}
+use Rattle.train_orders.proofs.Places.{get_push_cases, set_at, set_elsewhere}
 use Rattle.fixing_editions.proofs.Standing.{none_withdraws, withdrawn_after_fix, withdrawn_by_last, withdrawn_by_others, numbered_more, numbered_less, fewer_stand, as_many, fixings_push, own_more, own_kept, own_less, own_else}
 use Rattle.fixing_editions.proofs.Accepting.{IsNew, IsTakenBack, accepted_new, accepted_back, change_within, edition_more}
 

@@ -3,9 +3,6 @@ mod Entered
 mod Joining
 mod Keeping
 mod Owning
-mod Places
-mod Searching
 mod SmallProblems
 mod Standing
-mod Stepping
 mod Sweeping

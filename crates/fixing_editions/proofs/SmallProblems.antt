@@ -6,7 +6,7 @@ use Rattle.disp_model.specs.declared.train.Operation.{Operation}
 use Rattle.disp_model.specs.declared.train.Listing.{Listing}
 use Rattle.disp_model.specs.Train.{IsSuccessor, IsEntry, IsExit}
 use Rattle.disp_model.specs.WellFormed.{IsWellFormed, IsAcyclic, LeadsTo}
-use Rattle.fixing_editions.proofs.Places.{contains_none}
+use Rattle.train_orders.proofs.Places.{contains_none}
 
 one_in : (a s : ℕ) → Contains (a ∷ []) s → s ≡ a
 one_in a s (zero, lt, e) = sym e

@@ -10,49 +10,11 @@ use Rattle.disp_model.specs.Train.{next_of, GoesOn}
 use Rattle.fixing_editions.specs.declared.wishes.Wish.{Wish}
 use Rattle.fixing_editions.specs.declared.wishes.Wish.TheVariants.{Free, Visited, Followed}
 use Rattle.fixing_editions.specs.Wishes.{wish_at}
-use Rattle.fixing_editions.specs.Orders.{IsBehind}
+use Rattle.train_orders.specs.Orders.{IsBehind}
 use Rattle.fixing_editions.specs.Sweeps.{CanEnd, CanGoOn, Keeps, HasWay, IsHeld, counted}
-use Rattle.fixing_editions.proofs.Searching.{next_at}
-use Rattle.fixing_editions.proofs.Places.{at_contains, contains_at, contains_none}
-
--- ---- lists
-
-contains_here : (x : ℕ) (xs : List ℕ) → Contains (x ∷ xs) x
-contains_here x xs = (0, omega arith, refl)
-
-contains_later : (x q : ℕ) (xs : List ℕ) → Contains xs q → Contains (x ∷ xs) q
-contains_later x q xs (k, lt, e) = (suc k, omega arith, e)
-
-contains_cases : (x q : ℕ) (xs : List ℕ) → Contains (x ∷ xs) q → (x ≡ q) ⊎ Contains xs q
-contains_cases x q xs (zero, lt, e) = inl e
-contains_cases x q xs (suc k, lt, e) = inr (k, omega arith, e)
-
-pub at_taken : (xs : List ℕ) (i j x : ℕ) → slice_get (take i xs) j ≡ Some x → (j < i) × (slice_get xs j ≡ Some x)
-at_taken xs zero j x e = absurd (none-some x e)
-at_taken [] (suc i) j x e = absurd (none-some x e)
-at_taken (y ∷ xs) (suc i) zero x e = (omega arith, e)
-at_taken (y ∷ xs) (suc i) (suc j) x e = let found = at_taken xs i j x e in (omega (arith, found.0), found.1)
-
-pub taken_more : (xs : List ℕ) (i j x : ℕ) → j ≤ i → Contains (take j xs) x → Contains (take i xs) x
-taken_more xs i zero x le there = absurd (contains_none x there)
-taken_more [] i (suc j) x le there = absurd (contains_none x there)
-taken_more (y ∷ xs) zero (suc j) x le there = absurd (omega arith)
-taken_more (y ∷ xs) (suc i) (suc j) x le there = elim (contains_cases y x (take j xs) there) [ inl e ↦ (0, omega arith, e) | inr later ↦ contains_later y x (take i xs) (taken_more xs i j x (omega arith) later) ]
-
-pub set_at : {X : Type 0} (xs : List X) (i : ℕ) (x : X) → i < length xs → slice_get (set xs i x) i ≡ Some x
-set_at [] i x lt = absurd (omega arith)
-set_at (y ∷ xs) zero x lt = refl
-set_at (y ∷ xs) (suc i) x lt = set_at xs i x (omega arith)
-
-pub set_elsewhere : {X : Type 0} (xs : List X) (i j : ℕ) (x : X) → (j ≡ i → ⊥) → slice_get (set xs i x) j ≡ slice_get xs j
-set_elsewhere [] i j x other = refl
-set_elsewhere (y ∷ xs) zero zero x other = absurd (other refl)
-set_elsewhere (y ∷ xs) zero (suc j) x other = refl
-set_elsewhere (y ∷ xs) (suc i) zero x other = refl
-set_elsewhere (y ∷ xs) (suc i) (suc j) x other = set_elsewhere xs i j x (λ e. other (ap suc e))
-
-same_number : (x y : ℕ) → (x ≡ y) ⊎ (x ≡ y → ⊥)
-same_number x y = elim (cases_Bool (nat_eq x y)) [ inl is ↦ inl (eqb-true x y is) | inr is ↦ inr (λ e. eqb-false x y is e) ]
+use Rattle.train_orders.proofs.Searching.{next_at}
+use Rattle.train_orders.proofs.Places.{at_contains, contains_at, contains_none, set_at, set_elsewhere, same_number}
+use Rattle.train_orders.proofs.Ordered.{contains_here, contains_later, contains_cases, at_taken, taken_more, way_inside}
 
 -- ---- wishes
 
@@ -78,18 +40,6 @@ counted_most : (w : Wish) (count : ℕ) → counted w count ≤ count + 1
 counted_most Free count = omega arith
 counted_most Visited count = omega arith
 counted_most (Followed next) count = omega arith
-
--- ---- ways stay among the operations so far
-
-way_inside : (train : List Operation) (order : List ℕ) (i p : ℕ) (rest : List ℕ) → IsBehind train order → Contains (take i order) p → GoesOn train p rest → (q : ℕ) → Contains (p ∷ rest) q → Contains (take i order) q
-way_inside train order i p [] behind there goes q on = elim (contains_cases p q [] on) [ inl e ↦ subst (λ (x : ℕ). Contains (take i order) x) e there | inr later ↦ absurd (contains_none q later) ]
-way_inside train order i p (s ∷ rest) behind there goes q on = elim (contains_cases p q (s ∷ rest) on) [
-  | inl e ↦ subst (λ (x : ℕ). Contains (take i order) x) e there
-  | inr later ↦
-      let place = at_contains (take i order) p there in
-      let found = at_taken order i place.0 p place.1 in
-      way_inside train order i s rest behind (taken_more order i place.0 s (omega (arith, found.0)) (behind.behind place.0 p s found.1 goes.0)) goes.1 q later
-]
 
 -- ---- a way of the next operation
 

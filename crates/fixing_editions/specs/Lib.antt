@@ -1,4 +1,3 @@
-pub mod Orders
 pub mod Wishes
 pub mod Sweeps
 pub mod Own

@@ -5,7 +5,6 @@
 
 mod editions;
 mod kept;
-mod order;
 mod reply;
 mod route_left;
 mod train_fixings;

@@ -1,14 +1,14 @@
 ghost use Rattle.std.specs.Prelude.{◌≡◌, ◌↔◌, ◌⊎◌, ◌<◌, ◌^◌, ℕ, All, IfOk, IsTrue, Some, None, length, if◌then◌else◌};
 ghost use Rattle.disp_model.specs.WellFormed.{IsAcyclic};
-ghost use Rattle.fixing_editions.specs.Orders.{IsInside, IsOrder};
+ghost use Rattle.train_orders.specs.Orders.{IsInside, IsOrder};
 ghost use Rattle.fixing_editions.specs.Wishes.{Allows, HasRouteFor, HasRouteOf};
 ghost use Rattle.fixing_editions.specs.Sweeps.{CanEnd, CanGoOn, counted};
 
-use crate::order::order_of;
 use crate::train_fixings::Numbered;
 use crate::wishes::{Wish, wishes_of, with_fixing};
 use disp_model::{Fixing, Memory, Operation};
 use std::alloc::Global;
+use train_orders::order_of;
 
 /// Whether an operation may go on to another, by what is asked of it.
 fn allows(wish: Wish, next: u32) -> bool

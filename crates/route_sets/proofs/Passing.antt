@@ -12,12 +12,11 @@ use Rattle.disp_model.specs.Train.{duration_of}
 use Rattle.disp_laws.proofs.Paths.{IsIn, is_in, contains_in}
 use Rattle.disp_laws.proofs.Composed.{in_front_or_back}
 use Rattle.disp_laws.proofs.LeastSums.{Parted, parted}
-use Rattle.train_orders.proofs.Places.{contains_none}
+use Rattle.train_orders.proofs.Places.{contains_none, set_at, set_elsewhere, same_number}
 use Rattle.train_orders.proofs.Ordered.{contains_here, contains_later}
 use Rattle.route_sets.specs.declared.marks.Mark.{Mark}
 use Rattle.route_sets.specs.Ways.{Steps, Goes, IsWalk, Chain, IsLeast, IsOnEach, last_of}
 use Rattle.route_sets.specs.Marks.{ArePlaces, IsLaid, Relaxes, IsLowest, IsOnly, Makes, IsMark, mark_at, AreMarks, Crosses, IsPass, Enters}
-use Rattle.route_sets.proofs.Sweeping.{set_at, set_elsewhere, same_number}
 use Rattle.route_sets.proofs.Chaining.{chain_more, LastStep, chain_last, chain_walk, walk_parts, steps_row, row_steps, goes_on, goes_below, chain_above, Ending, ending, last_here}
 
 -- ---- sums and marks

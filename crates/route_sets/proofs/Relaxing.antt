@@ -7,10 +7,9 @@ use Rattle.std.proofs.lemmas.List.{length-set, take_more, get_or-set_same, get_o
 use Rattle.std.proofs.lemmas.List.Elements.{Contains-append_left, Contains-push, Contains-push_cases, Contains-get_or, All-contains}
 use Rattle.disp_model.specs.declared.train.Operation.{Operation}
 use Rattle.train_orders.specs.Orders.{IsOrder}
-use Rattle.train_orders.proofs.Places.{contains_at, contains_none}
+use Rattle.train_orders.proofs.Places.{contains_at, contains_none, set_at, set_elsewhere, same_number}
 use Rattle.train_orders.proofs.Ordered.{one_place}
 use Rattle.route_sets.specs.Marks.{ArePlaces, lowered, Relaxes, IsLowest}
-use Rattle.route_sets.proofs.Sweeping.{set_at, set_elsewhere, same_number}
 
 -- ---- places
 

@@ -13,25 +13,8 @@ use Rattle.route_sets.specs.Asks.{ask_at, free}
 use Rattle.train_orders.specs.Orders.{IsBehind}
 use Rattle.route_sets.specs.Sweeps.{MayGo, MayEnd, IsWanted, Keeps, IsWay, HasWay, IsHeld, counted, CanEnd, IsKept, IsRow, AreRows, IsSwept}
 use Rattle.train_orders.proofs.Searching.{next_at}
-use Rattle.train_orders.proofs.Places.{at_contains, contains_at, contains_none, get_push_cases}
-use Rattle.train_orders.proofs.Ordered.{contains_here, contains_later, contains_cases, at_taken, taken_more}
-
--- ---- lists
-
-pub set_at : {X : Type 0} (xs : List X) (i : ℕ) (x : X) → i < length xs → slice_get (set xs i x) i ≡ Some x
-set_at [] i x lt = absurd (omega arith)
-set_at (y ∷ xs) zero x lt = refl
-set_at (y ∷ xs) (suc i) x lt = set_at xs i x (omega arith)
-
-pub set_elsewhere : {X : Type 0} (xs : List X) (i j : ℕ) (x : X) → (j ≡ i → ⊥) → slice_get (set xs i x) j ≡ slice_get xs j
-set_elsewhere [] i j x other = refl
-set_elsewhere (y ∷ xs) zero zero x other = absurd (other refl)
-set_elsewhere (y ∷ xs) zero (suc j) x other = refl
-set_elsewhere (y ∷ xs) (suc i) zero x other = refl
-set_elsewhere (y ∷ xs) (suc i) (suc j) x other = set_elsewhere xs i j x (λ e. other (ap suc e))
-
-pub same_number : (x y : ℕ) → (x ≡ y) ⊎ (x ≡ y → ⊥)
-same_number x y = elim (cases_Bool (nat_eq x y)) [ inl is ↦ inl (eqb-true x y is) | inr is ↦ inr (λ e. eqb-false x y is e) ]
+use Rattle.train_orders.proofs.Places.{at_contains, contains_at, contains_none, get_push_cases, set_at, set_elsewhere, same_number}
+use Rattle.train_orders.proofs.Ordered.{contains_here, contains_later, contains_cases, at_taken, taken_more, way_inside}
 
 -- ---- counts
 
@@ -45,18 +28,6 @@ counted_within : (ask : Ask) (count : ℕ) → (count ≤ counted ask count) × 
 counted_within ask count = elim (cases_Bool ask.wanted) [
   | inl e ↦ rw e (omega arith, omega arith)
   | inr e ↦ rw e (omega arith, omega arith)
-]
-
--- ---- ways stay among the operations so far
-
-pub way_inside : (train : List Operation) (order : List ℕ) (i p : ℕ) (rest : List ℕ) → IsBehind train order → Contains (take i order) p → GoesOn train p rest → (q : ℕ) → Contains (p ∷ rest) q → Contains (take i order) q
-way_inside train order i p [] behind there goes q on = elim (contains_cases p q [] on) [ inl e ↦ subst (λ (x : ℕ). Contains (take i order) x) e there | inr later ↦ absurd (contains_none q later) ]
-way_inside train order i p (s ∷ rest) behind there goes q on = elim (contains_cases p q (s ∷ rest) on) [
-  | inl e ↦ subst (λ (x : ℕ). Contains (take i order) x) e there
-  | inr later ↦
-      let place = at_contains (take i order) p there in
-      let found = at_taken order i place.0 p place.1 in
-      way_inside train order i s rest behind (taken_more order i place.0 s (omega (arith, found.0)) (behind.behind place.0 p s found.1 goes.0)) goes.1 q later
 ]
 
 -- ---- rows

@@ -15,12 +15,11 @@ use Rattle.disp_laws.proofs.Paths.{IsIn, is_in, contains_in, never_again}
 use Rattle.disp_laws.proofs.RouteSearch.{each_within}
 use Rattle.train_orders.specs.Orders.{IsOrder}
 use Rattle.train_orders.proofs.Places.{at_contains, contains_at, contains_none}
-use Rattle.train_orders.proofs.Ordered.{contains_here, contains_later, contains_cases, at_taken, taken_at, taken_more, one_place, last_is_entry}
+use Rattle.train_orders.proofs.Ordered.{contains_here, contains_later, contains_cases, at_taken, taken_at, taken_more, one_place, last_is_entry, way_inside}
 use Rattle.route_sets.specs.declared.asks.Ask.{Ask}
 use Rattle.route_sets.specs.Asks.{Meets, free, ask_at, AreMet, IsWithin, AreAsks}
 use Rattle.route_sets.specs.Sweeps.{MayGo, MayEnd, IsWanted, Keeps, IsWay, HasWay, IsRow, AreRows}
 use Rattle.route_sets.specs.Ways.{Steps, Goes, IsWalk}
-use Rattle.route_sets.proofs.Sweeping.{way_inside}
 
 -- what the walks of a train go along
 pub record IsTrimmed (train : List Operation) (asks : List Ask) (order : List ℕ) (rows : List (List ℕ)) : Type 0 where

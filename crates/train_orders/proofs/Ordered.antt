@@ -1,12 +1,12 @@
 -- What stands where in an order of a train: its last operation is the entry.
-use Rattle.std.proofs.Common.{◌≡◌, ℕ, zero, suc, ◌+◌, ◌<◌, ◌≤◌, ◌⊎◌, List, [], ◌∷◌, length, take, get_or, Some, refl, arith, inl, inr}
+use Rattle.std.proofs.Common.{◌≡◌, ℕ, zero, suc, ◌+◌, ◌<◌, ◌≤◌, ◌⊎◌, List, [], ◌∷◌, length, take, get_or, Some, refl, subst, arith, inl, inr}
 use Rattle.std.specs.Prelude.{slice_get, Contains}
 use Rattle.std.proofs.lemmas.Bool.{cases_lt}
 use Rattle.std.proofs.lemmas.Option.{none-some, slice_get_within, slice_get-get_or}
 use Rattle.disp_model.specs.declared.train.Operation.{Operation}
-use Rattle.disp_model.specs.Train.{IsSuccessor, IsEntry}
+use Rattle.disp_model.specs.Train.{IsSuccessor, IsEntry, GoesOn}
 use Rattle.disp_model.specs.WellFormed.{IsAcyclic}
-use Rattle.train_orders.specs.Orders.{IsOrder}
+use Rattle.train_orders.specs.Orders.{IsBehind, IsOrder}
 use Rattle.train_orders.proofs.Places.{at_contains, contains_at, contains_none}
 
 pub contains_here : (x : ℕ) (xs : List ℕ) → Contains (x ∷ xs) x
@@ -72,3 +72,14 @@ has_last train order acyclic is = by (length order) refl (is.has 0 acyclic.enter
     by : (n : ℕ) → length order ≡ n → Contains order 0 → (k : ℕ) × (e : ℕ) × (length order ≡ k + 1) × (slice_get order k ≡ Some e)
     by zero long (j, lt, at) = absurd (omega (arith, lt, long))
     by (suc k) long there = (k, get_or order k 0, omega (arith, long), slice_get-get_or order k 0 (omega (arith, long)))
+
+-- what a way goes on to stays among the operations in front
+pub way_inside : (train : List Operation) (order : List ℕ) (i p : ℕ) (rest : List ℕ) → IsBehind train order → Contains (take i order) p → GoesOn train p rest → (q : ℕ) → Contains (p ∷ rest) q → Contains (take i order) q
+way_inside train order i p [] behind there goes q on = elim (contains_cases p q [] on) [ inl e ↦ subst (λ (x : ℕ). Contains (take i order) x) e there | inr later ↦ absurd (contains_none q later) ]
+way_inside train order i p (s ∷ rest) behind there goes q on = elim (contains_cases p q (s ∷ rest) on) [
+  | inl e ↦ subst (λ (x : ℕ). Contains (take i order) x) e there
+  | inr later ↦
+      let place = at_contains (take i order) p there in
+      let found = at_taken order i place.0 p place.1 in
+      way_inside train order i s rest behind (taken_more order i place.0 s (omega (arith, found.0)) (behind.behind place.0 p s found.1 goes.0)) goes.1 q later
+]

@@ -1,6 +1,7 @@
--- What stands where in a list that an element is added to.
-use Rattle.std.proofs.Common.{◌≡◌, ℕ, zero, suc, ◌⊎◌, List, [], ◌∷◌, ◌++◌, length, Some, refl, ap, inl, inr, arith}
-use Rattle.std.specs.Prelude.{slice_get, Contains}
+-- What stands where in a list that an element is added to, or set in.
+use Rattle.std.proofs.Common.{◌≡◌, ℕ, zero, suc, ◌<◌, ◌⊎◌, List, [], ◌∷◌, ◌++◌, length, set, Some, refl, ap, inl, inr, arith}
+use Rattle.std.specs.Prelude.{nat_eq, slice_get, Contains}
+use Rattle.std.proofs.lemmas.Bool.{cases_Bool, eqb-true, eqb-false}
 use Rattle.std.proofs.lemmas.Option.{none-some, same_Some}
 
 pub at_contains : {X : Type 0} (xs : List X) (x : X) → Contains xs x → (i : ℕ) × (slice_get xs i ≡ Some x)
@@ -30,3 +31,20 @@ get_push_cases (z ∷ xs) y x (suc i) e = elim (get_push_cases xs y x i e) [ inl
 
 pub contains_none : {X : Type 0} (x : X) → Contains [] x → ⊥
 contains_none x (k, lt, e) = omega arith
+
+-- ---- a list with one element set
+
+pub set_at : {X : Type 0} (xs : List X) (i : ℕ) (x : X) → i < length xs → slice_get (set xs i x) i ≡ Some x
+set_at [] i x lt = absurd (omega arith)
+set_at (y ∷ xs) zero x lt = refl
+set_at (y ∷ xs) (suc i) x lt = set_at xs i x (omega arith)
+
+pub set_elsewhere : {X : Type 0} (xs : List X) (i j : ℕ) (x : X) → (j ≡ i → ⊥) → slice_get (set xs i x) j ≡ slice_get xs j
+set_elsewhere [] i j x other = refl
+set_elsewhere (y ∷ xs) zero zero x other = absurd (other refl)
+set_elsewhere (y ∷ xs) zero (suc j) x other = refl
+set_elsewhere (y ∷ xs) (suc i) zero x other = refl
+set_elsewhere (y ∷ xs) (suc i) (suc j) x other = set_elsewhere xs i j x (λ e. other (ap suc e))
+
+pub same_number : (x y : ℕ) → (x ≡ y) ⊎ (x ≡ y → ⊥)
+same_number x y = elim (cases_Bool (nat_eq x y)) [ inl is ↦ inl (eqb-true x y is) | inr is ↦ inr (λ e. eqb-false x y is e) ]

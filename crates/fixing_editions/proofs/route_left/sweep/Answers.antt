@@ -4,9 +4,10 @@ use Rattle.std.proofs.lemmas.List.{take_all}
 use Rattle.std.proofs.lemmas.List.Elements.{Contains-get_or}
 use Rattle.fixing_editions.specs.Sweeps.{HasWay}
 use Rattle.std.proofs.lemmas.Option.{same_Some, slice_get-get_or}
-use Rattle.fixing_editions.proofs.Searching.{inside_at}
+use Rattle.train_orders.proofs.Searching.{inside_at}
 use Rattle.fixing_editions.proofs.Sweeping.{sweep_turn}
-use Rattle.fixing_editions.proofs.Entered.{has_last, route_by_way, way_by_route}
+use Rattle.fixing_editions.proofs.Entered.{route_by_way, way_by_route}
+use Rattle.train_orders.proofs.Ordered.{has_last}
 use Rattle.fixing_editions.proofs.route_left.sweep.Goals as goal
 
 pub bounds-wishes-at : goal.bounds-wishes-at
