@@ -32,7 +32,8 @@ impl From<AllocError> for WordsNo {
 
 /// What clap says of words that it finds fault with.
 fn refusal(alloc: Global, error: &Error) -> WordsNo
-    ensures { (words : List (List ℕ)) → HasKind (fault_of program words) error.now → Denies words result }
+    ensures { (words : List (List ℕ)) → HasKind (fault_of program words) error.now
+        → Denies words result }
 {
     if error.kind() == ErrorKind::OutOfMemory {
         return WordsNo::Memory;
@@ -46,7 +47,8 @@ fn refusal(alloc: Global, error: &Error) -> WordsNo
 /// The value that clap finds for an argument, if there is one.
 #[tactic(auto, using(crate::proofs::Rows::first_is))]
 fn value<'a>(found: &ArgMatches<'a>, id: &str) -> Option<&'a str>
-    ensures { option_map (λ text. text.now) result ≡ first_of id.now (rows_of (found_of found.now)) }
+    ensures { option_map (λ text. text.now) result
+        ≡ first_of id.now (rows_of (found_of found.now)) }
 {
     found.get_str(id)
 }
@@ -113,8 +115,10 @@ fn verify(alloc: Global, found: &ArgMatches) -> Result<Task, WordsNo>
 
 /// What clap's matches ask for.
 fn task(alloc: Global, matches: &ArgMatches) -> Result<Task, WordsNo>
-    ensures ok { IfOk result (λ task. (words : List (List ℕ)) → AreTaken words → subcommand_rows_of matches.now ≡ subcommand_of program words → IsTask words task) }
-    ensures err { IfErr result (λ no. (words : List (List ℕ)) → subcommand_rows_of matches.now ≡ subcommand_of program words → Denies words no) }
+    ensures ok { IfOk result (λ task. (words : List (List ℕ)) → AreTaken words
+        → subcommand_rows_of matches.now ≡ subcommand_of program words → IsTask words task) }
+    ensures err { IfErr result (λ no. (words : List (List ℕ)) → subcommand_rows_of matches.now
+        ≡ subcommand_of program words → Denies words no) }
 {
     if let Some(found) = matches.subcommand_matches("solve") {
         return solve(alloc, found);

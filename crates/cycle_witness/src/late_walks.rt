@@ -9,10 +9,15 @@ use incremental_paths::{Memory, Paths};
 pub fn late(paths: &Paths, node: u32, upper: u64) -> Result<Option<Vec<u32>>, Memory>
     requires { IsNode paths.now node }
     ensures none { IfOk result (λ found. IsNone found
-        ↔ ((longest : ℕ) → IsLongest paths.now.lowers paths.now.arcs node longest → longest ≤ upper)) }
-    ensures walk { IfOk result (λ found. IfSome found (λ nodes. IsWalkTo paths.now.lowers paths.now.arcs node nodes.items)) }
+        ↔ ((longest : ℕ) → IsLongest paths.now.lowers paths.now.arcs node longest → longest
+        ≤ upper)) }
+    ensures walk { IfOk result
+        (λ found. IfSome found
+        (λ nodes. IsWalkTo paths.now.lowers paths.now.arcs node nodes.items)) }
     ensures once { IfOk result (λ found. IfSome found (λ nodes. HasNoNodeTwice nodes.items)) }
-    ensures longer { IfOk result (λ found. IfSome found (λ nodes. upper < walk_length paths.now.lowers paths.now.arcs nodes.items)) }
+    ensures longer { IfOk result
+        (λ found. IfSome found
+        (λ nodes. upper < walk_length paths.now.lowers paths.now.arcs nodes.items)) }
 {
     if paths.length(node) <= upper {
         return Ok(None);

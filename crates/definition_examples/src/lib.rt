@@ -1,8 +1,8 @@
-// Worked examples of the dispatcher's definitions. Each function is empty, and its contract states facts of
-// the definitions at concrete trains: which plans are valid and what they cost, what a fixing is answered,
-// which routes are left, what a node is bounded by, which trees are accepted, what is picked and which
-// histories are legal. A definition that says something else fails the proof of its example. The first two
-// trains are A and B; A0 is A's first operation, A1 its second.
+// Worked examples of the dispatcher's definitions. Each function is empty, and its contract states
+// facts of the definitions at concrete trains: which plans are valid and what they cost, what a
+// fixing is answered, which routes are left, what a node is bounded by, which trees are accepted,
+// what is picked and which histories are legal. A definition that says something else fails the
+// proof of its example. The first two trains are A and B; A0 is A's first operation, A1 its second.
 #![tactic(auto)]
 
 mod bounds;

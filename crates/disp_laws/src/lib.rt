@@ -1,7 +1,7 @@
 //! What follows from the definitions of `disp_model`, each law the contract of a function without a
-//! body, which every crate may cite: branching loses no valid plan, walks and bounds hold in every valid
-//! plan below a node, a tree's yes is true, fixings only tighten, and one choice or none is picked at
-//! each node that is not dead.
+//! body, which every crate may cite: branching loses no valid plan, walks and bounds hold in every
+//! valid plan below a node, a tree's yes is true, fixings only tighten, and one choice or none is
+//! picked at each node that is not dead.
 #![tactic(auto)]
 
 mod laws;

@@ -14,7 +14,8 @@ pub enum Mark {
     Stopped { spent: u64, bound: u64 },
 }
 
-/// Where the search stands: the newest edition, the cost of its best plan, and how far it is settled.
+/// Where the search stands: the newest edition, the cost of its best plan, and how far it is
+/// settled.
 #[derive(Clone, Copy, Debug, PartialEq, Eq)]
 pub struct Standing {
     pub edition: u32,
@@ -59,7 +60,8 @@ pub enum Entry {
         line: u64,
         standing: Standing,
     },
-    /// A searcher grew the tree below a node, with work that it took when the history had `seen` entries.
+    /// A searcher grew the tree below a node, with work that it took when the history had `seen`
+    /// entries.
     Grown {
         searcher: u32,
         edition: u32,

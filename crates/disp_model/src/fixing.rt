@@ -1,7 +1,7 @@
 use plain_values::{Copied, Memory};
 
-/// What a dispatcher has fixed: an operation of a train started at a time, goes on to an operation of
-/// the train, or does not start before a time. The numbers are as they were read.
+/// What a dispatcher has fixed: an operation of a train started at a time, goes on to an operation
+/// of the train, or does not start before a time. The numbers are as they were read.
 #[derive(Clone, Copy, Debug, PartialEq, Eq)]
 pub enum Fixing {
     Started {

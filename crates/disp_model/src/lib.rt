@@ -1,8 +1,9 @@
 //! The words of the dispatcher: plain values (problems, plans, changes, trees, histories), and in
-//! `specs/` the definitions of what a valid plan is, what it costs and which cost is least, of nodes,
-//! bounds and trees, and of legal histories. Values that hold lists are copied by `Copied::copy`, equal
-//! to what they are copied from. Nothing here reads, searches or judges: the crates above do, and their
-//! contracts cite these definitions; what follows from them is in `disp_laws`.
+//! `specs/` the definitions of what a valid plan is, what it costs and which cost is least, of
+//! nodes, bounds and trees, and of legal histories. Values that hold lists are copied by
+//! `Copied::copy`, equal to what they are copied from. Nothing here reads, searches or judges: the
+//! crates above do, and their contracts cite these definitions; what follows from them is in
+//! `disp_laws`.
 #![tactic(auto)]
 
 mod answer;

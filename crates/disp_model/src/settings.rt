@@ -3,8 +3,8 @@ use plain_values::{Copied, Memory};
 /// How the search branches.
 #[derive(Clone, Copy, Debug, PartialEq, Eq)]
 pub enum Rule {
-    /// The routes of all trains first, in the order of the trains, then the first clash of the earliest
-    /// plan; a node's bound counts operations that each allowed route has.
+    /// The routes of all trains first, in the order of the trains, then the first clash of the
+    /// earliest plan; a node's bound counts operations that each allowed route has.
     Fixed,
     /// Any open choice; a node's bound counts the share of each train.
     Free,

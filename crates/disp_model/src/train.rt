@@ -15,8 +15,9 @@ pub struct Listing {
     pub release: u32,
 }
 
-/// An operation of a train. It may start from `lower` on, until `upper` where there is one, and lasts
-/// `min` at least. After it comes one of `next`, operations of the same train; the last has none.
+/// An operation of a train. It may start from `lower` on, until `upper` where there is one, and
+/// lasts `min` at least. After it comes one of `next`, operations of the same train; the last has
+/// none.
 #[derive(Drop)]
 pub struct Operation {
     pub lower: u32,

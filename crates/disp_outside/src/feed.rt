@@ -37,8 +37,8 @@ pub enum FeedLine {
     Failed,
 }
 
-/// Lines, one after the other. A line ends at LF, and one CR before it is dropped. The bytes behind the last LF are a
-/// line too, as they are, if there are any. A feed may tell which lines are left.
+/// Lines, one after the other. A line ends at LF, and one CR before it is dropped. The bytes behind
+/// the last LF are a line too, as they are, if there are any. A feed may tell which lines are left.
 pub trait Feed: Send {
     /// The name that the feed was opened by.
     ghost name: { Self → List ℕ };
@@ -52,12 +52,13 @@ pub trait Feed: Send {
     /// The last answer was `End` or `Failed`.
     ghost has_ended: { Self → Bool };
 
-    /// The next line, in `into`, which holds anything after any other answer than `Got`. A feed that has answered
-    /// `Failed` or `End` answers `End` from then on.
+    /// The next line, in `into`, which holds anything after any other answer than `Got`. A feed
+    /// that has answered `Failed` or `End` answers `End` from then on.
     fn line(&mut self, into: &mut LineBuf) -> FeedLine
         ensures got { result ≡ FeedLine.Got → Gives (lines self.old) (lines self.new) into.new }
         ensures long { result ≡ FeedLine.Long → Skips (lines self.old) (lines self.new) }
-        ensures end { result ≡ FeedLine.End → (has_ended self.old ≡ true) ⊎ NoneLeft (lines self.old) }
+        ensures end { result ≡ FeedLine.End → (has_ended self.old ≡ true)
+            ⊎ NoneLeft (lines self.old) }
         ensures kept { is_last result ≡ true → lines self.new ≡ lines self.old }
 
         ensures ended { has_ended self.new ≡ is_last result }

@@ -7,7 +7,8 @@ use crate::{Feed, FeedLine, LineBuf};
 use fault_counts::Ticket;
 use std::io::Read;
 
-/// The lines that a reader gives, such as a file of the system or a named pipe. It tells nothing of them.
+/// The lines that a reader gives, such as a file of the system or a named pipe. It tells nothing of
+/// them.
 #[derive(Drop)]
 pub struct FileFeed<R> {
     ticket: Ticket,
@@ -33,7 +34,8 @@ impl<R: Read + Drop> FileFeed<R> {
     /// What the feed is closed with, where a call has failed.
     pub(crate) fn into_fault(self) -> Option<Ticket>
         ensures none { IfNone result (fault_count self ≡ 0) }
-        ensures some { IfSome result (λ ticket. (0 < fault_count self) × (string_bytes ticket.name ≡ feed_name self)) }
+        ensures some { IfSome result (λ ticket. (0 < fault_count self)
+            × (string_bytes ticket.name ≡ feed_name self)) }
     {
         match self.state {
             FeedState::Broken => Some(self.ticket),

@@ -61,8 +61,8 @@ fn read_file<R: Files>(alloc: Global, files: &R, path: &str, limit: u64) -> Resu
     }
 }
 
-// Makes these the bytes of the file of this path. Once the file is opened it has lost what it held, so whatever
-// comes then is a fault.
+// Makes these the bytes of the file of this path. Once the file is opened it has lost what it held,
+// so whatever comes then is a fault.
 fn write_file<R: Files>(files: &R, path: &str, bytes: &[u8]) -> Result<(), PutNo> {
     match fs::create(files, path) {
         Ok(mut file) => match write_whole(&mut file, bytes) {

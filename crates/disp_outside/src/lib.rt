@@ -1,8 +1,10 @@
-//! The outside world, as the program sees it: a shelf of files, a sink of bytes, a gate for threads.
+//! The outside world, as the program sees it: a shelf of files, a sink of bytes, a gate for
+//! threads.
 //!
-//! A fault has a cause: each trait counts the faults of its device in a ghost member that never falls, and answers
-//! `Failed` exactly where the count rose in that call. Code that is generic over a trait cannot raise a count, so it
-//! cannot answer `Failed` by itself. The adapters over files and standard output tell nothing of their bytes.
+//! A fault has a cause: each trait counts the faults of its device in a ghost member that never
+//! falls, and answers `Failed` exactly where the count rose in that call. Code that is generic over
+//! a trait cannot raise a count, so it cannot answer `Failed` by itself. The adapters over files
+//! and standard output tell nothing of their bytes.
 #![tactic(auto)]
 
 mod feed;

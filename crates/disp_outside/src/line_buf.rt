@@ -63,7 +63,8 @@ impl LineBuf {
         self.count = 0;
     }
 
-    // Puts the bytes behind those that are there, where there is room for all, and says whether there was.
+    // Puts the bytes behind those that are there, where there is room for all, and says whether
+    // there was.
     pub(crate) fn append(&mut self, bytes: &[u8]) -> bool
         ensures fits { IsTrue result ↔ (length self.old + length bytes.now ≤ 256) }
         ensures added { result ≡ true → self.new ≡ self.old ++ bytes.now }

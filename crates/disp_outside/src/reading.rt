@@ -24,11 +24,14 @@ fn no_of(error: &io::Error) -> Result<Option<usize>, FetchNo>
     }
 }
 
-// One read into a buffer that is not empty: how many bytes came, 0 where the read was interrupted, or `None` at the end.
+// One read into a buffer that is not empty: how many bytes came, 0 where the read was interrupted,
+// or `None` at the end.
 fn read_some<R: Read>(reader: &mut R, buffer: &mut [u8]) -> Result<Option<usize>, FetchNo>
     requires { 0 < length buffer.old }
     ensures within { IfOk result (λ read. IfSome read (λ count. count ≤ length buffer.new)) }
-    ensures read { IfOk result (λ read. Consumes (R.remaining reader.old) (R.remaining reader.new) (take (unwrap_or read 0) buffer.new)) }
+    ensures read { IfOk result
+        (λ read. Consumes (R.remaining reader.old) (R.remaining reader.new)
+        (take (unwrap_or read 0) buffer.new)) }
     ensures end { IfOk result (λ read. IfNone read (IsAtEnd (R.remaining reader.new))) }
     ensures err { IsErrOf result FetchNo.TooLong → ⊥ }
 {
@@ -39,14 +42,16 @@ fn read_some<R: Read>(reader: &mut R, buffer: &mut [u8]) -> Result<Option<usize>
     }
 }
 
-// Puts the bytes of one read behind those that are there, and says whether that was the end. It asks for one byte more
-// than the limit leaves.
+// Puts the bytes of one read behind those that are there, and says whether that was the end. It
+// asks for one byte more than the limit leaves.
 fn append_some<R: Read>(reader: &mut R, bytes: &mut Vec<u8>, limit: u64) -> Result<bool, FetchNo>
     requires { vec_len bytes.old ≤ limit }
     ensures within { OnOk result (vec_len bytes.new ≤ limit) }
-    ensures adds { OnOk result (Adds (R.remaining reader.old) (R.remaining reader.new) bytes.old.items bytes.new.items) }
+    ensures adds { OnOk result
+        (Adds (R.remaining reader.old) (R.remaining reader.new) bytes.old.items bytes.new.items) }
     ensures end { IfOk result (λ is_end. is_end ≡ true → IsAtEnd (R.remaining reader.new)) }
-    ensures too_long { IsErrOf result FetchNo.TooLong → IsPast limit (vec_len bytes.old) (R.remaining reader.old) }
+    ensures too_long { IsErrOf result FetchNo.TooLong
+        → IsPast limit (vec_len bytes.old) (R.remaining reader.old) }
 {
     let left = limit - bytes.len() as u64;
     let asked = if left < CHUNK as u64 {
@@ -67,9 +72,11 @@ fn append_some<R: Read>(reader: &mut R, bytes: &mut Vec<u8>, limit: u64) -> Resu
 
 /// All that the reader has, where that is at most `limit` bytes; `TooLong` where it is more.
 pub fn read_whole<R: Read>(alloc: Global, reader: &mut R, limit: u64) -> Result<Vec<u8>, FetchNo>
-    ensures bytes { IfOk result (λ bytes. IfSome (R.remaining reader.old) (λ all. all ≡ bytes.items)) }
+    ensures bytes { IfOk result
+        (λ bytes. IfSome (R.remaining reader.old) (λ all. all ≡ bytes.items)) }
     ensures within { IfOk result (λ bytes. length bytes.items ≤ limit) }
-    ensures too_long { IsErrOf result FetchNo.TooLong → IfSome (R.remaining reader.old) (λ all. limit < length all) }
+    ensures too_long { IsErrOf result FetchNo.TooLong
+        → IfSome (R.remaining reader.old) (λ all. limit < length all) }
 {
     let mut bytes = Vec::new(alloc);
     for _ in 0..MOST_TURNS {

@@ -45,7 +45,8 @@ impl From<AllocError> for PutNo {
 
 /// Files by name.
 ///
-/// A name is its bytes. A shelf may tell what a name holds, and then an answer is about those bytes.
+/// A name is its bytes. A shelf may tell what a name holds, and then an answer is about those
+/// bytes.
 pub trait Shelf: Send {
     /// A file that is read line by line.
     type Feed: Feed + Drop;
@@ -66,67 +67,86 @@ pub trait Shelf: Send {
     ///
     /// # Errors
     ///
-    /// `TooLong` for a longer file, `Failed` where the reading failed, or there is no such file, and `Memory`, with
-    /// which all is as before.
+    /// `TooLong` for a longer file, `Failed` where the reading failed, or there is no such file,
+    /// and `Memory`, with which all is as before.
     fn fetch(&mut self, alloc: Global, name: &str, limit: u64) -> Result<Vec<u8>, FetchNo>
-        ensures bytes { IfOk result (λ bytes. IfSome (holds self.old name.now) (λ file. file ≡ Some bytes.items)) }
+        ensures bytes { IfOk result
+            (λ bytes. IfSome (holds self.old name.now) (λ file. file ≡ Some bytes.items)) }
         ensures within { IfOk result (λ bytes. length bytes.items ≤ limit) }
         ensures too_long { IsErrOf result FetchNo.TooLong →
-            IfSome (holds self.old name.now) (λ file. IsSomeAnd file (λ bytes. limit < length bytes)) }
+            IfSome (holds self.old name.now)
+            (λ file. IsSomeAnd file (λ bytes. limit < length bytes)) }
 
         // A fault is told exactly where it is counted, and no other count changes.
-        ensures failed { IsErrOf result FetchNo.Failed ↔ (reading_faults self.old name.now < reading_faults self.new name.now) }
+        ensures failed { IsErrOf result FetchNo.Failed
+            ↔ (reading_faults self.old name.now < reading_faults self.new name.now) }
         ensures counted { reading_faults self.old name.now ≤ reading_faults self.new name.now }
-        ensures other_counts { (other : List ℕ) → other ≢ name.now → reading_faults self.new other ≡ reading_faults self.old other }
-        ensures putting_counts { (other : List ℕ) → putting_faults self.new other ≡ putting_faults self.old other }
+        ensures other_counts { (other : List ℕ) → other ≢ name.now → reading_faults self.new other
+            ≡ reading_faults self.old other }
+        ensures putting_counts { (other : List ℕ) → putting_faults self.new other
+            ≡ putting_faults self.old other }
 
         ensures held { (other : List ℕ) → holds self.new other ≡ holds self.old other }
         ensures known { IsErrOf result FetchNo.Memory ⊎ knows self.new name.now }
         ensures still_known { (other : List ℕ) → knows self.old other → knows self.new other }
-        ensures memory { IsErrOf result FetchNo.Memory → (other : List ℕ) → knows self.new other → knows self.old other };
+        ensures memory { IsErrOf result FetchNo.Memory → (other : List ℕ) → knows self.new other
+            → knows self.old other };
 
     /// Makes these the bytes of the name's file.
     ///
     /// # Errors
     ///
-    /// `Failed` where the file could not be written, and then the name may hold anything; `Memory`, with which all is
-    /// as before.
+    /// `Failed` where the file could not be written, and then the name may hold anything; `Memory`,
+    /// with which all is as before.
     fn put(&mut self, alloc: Global, name: &str, bytes: &[u8]) -> Result<(), PutNo>
-        ensures bytes { IsOk result → IfSome (holds self.new name.now) (λ file. file ≡ Some bytes.now) }
+        ensures bytes { IsOk result
+            → IfSome (holds self.new name.now) (λ file. file ≡ Some bytes.now) }
 
         // A fault is told exactly where it is counted, and no other count changes.
-        ensures failed { IsErrOf result PutNo.Failed ↔ (putting_faults self.old name.now < putting_faults self.new name.now) }
+        ensures failed { IsErrOf result PutNo.Failed
+            ↔ (putting_faults self.old name.now < putting_faults self.new name.now) }
         ensures counted { putting_faults self.old name.now ≤ putting_faults self.new name.now }
-        ensures other_counts { (other : List ℕ) → other ≢ name.now → putting_faults self.new other ≡ putting_faults self.old other }
-        ensures reading_counts { (other : List ℕ) → reading_faults self.new other ≡ reading_faults self.old other }
+        ensures other_counts { (other : List ℕ) → other ≢ name.now → putting_faults self.new other
+            ≡ putting_faults self.old other }
+        ensures reading_counts { (other : List ℕ) → reading_faults self.new other
+            ≡ reading_faults self.old other }
 
-        ensures held { (other : List ℕ) → other ≢ name.now → holds self.new other ≡ holds self.old other }
+        ensures held { (other : List ℕ) → other ≢ name.now → holds self.new other
+            ≡ holds self.old other }
         ensures known { IsErrOf result PutNo.Memory ⊎ knows self.new name.now }
         ensures still_known { (other : List ℕ) → knows self.old other → knows self.new other }
-        ensures memory { IsErrOf result PutNo.Memory → (other : List ℕ) → knows self.new other → knows self.old other }
-        ensures memory_held { IsErrOf result PutNo.Memory → holds self.new name.now ≡ holds self.old name.now };
+        ensures memory { IsErrOf result PutNo.Memory → (other : List ℕ) → knows self.new other
+            → knows self.old other }
+        ensures memory_held { IsErrOf result PutNo.Memory → holds self.new name.now
+            ≡ holds self.old name.now };
 
     /// A feed of the lines that the name holds.
     ///
     /// # Errors
     ///
-    /// `Failed` where there is no such file, or it could not be opened, and `Memory`, with which all is as before.
+    /// `Failed` where there is no such file, or it could not be opened, and `Memory`, with which
+    /// all is as before.
     fn feed(&mut self, alloc: Global, name: &str) -> Result<Self::Feed, FeedNo>
         ensures name { IfOk result (λ feed. Self.Feed.name feed ≡ name.now) }
-        ensures lines { IfOk result (λ feed. HasLinesOf (holds self.old name.now) (Self.Feed.lines feed)) }
+        ensures lines { IfOk result
+            (λ feed. HasLinesOf (holds self.old name.now) (Self.Feed.lines feed)) }
         ensures open { IfOk result (λ feed. Self.Feed.has_ended feed ≡ false) }
         ensures unbroken { IfOk result (λ feed. Self.Feed.faults feed ≡ 0) }
 
         // A fault is told exactly where it is counted, and no other count changes.
-        ensures failed { IsErrOf result FeedNo.Failed ↔ (reading_faults self.old name.now < reading_faults self.new name.now) }
+        ensures failed { IsErrOf result FeedNo.Failed
+            ↔ (reading_faults self.old name.now < reading_faults self.new name.now) }
         ensures counted { reading_faults self.old name.now ≤ reading_faults self.new name.now }
-        ensures other_counts { (other : List ℕ) → other ≢ name.now → reading_faults self.new other ≡ reading_faults self.old other }
-        ensures putting_counts { (other : List ℕ) → putting_faults self.new other ≡ putting_faults self.old other }
+        ensures other_counts { (other : List ℕ) → other ≢ name.now → reading_faults self.new other
+            ≡ reading_faults self.old other }
+        ensures putting_counts { (other : List ℕ) → putting_faults self.new other
+            ≡ putting_faults self.old other }
 
         ensures held { (other : List ℕ) → holds self.new other ≡ holds self.old other }
         ensures known { IsErrOf result FeedNo.Memory ⊎ knows self.new name.now }
         ensures still_known { (other : List ℕ) → knows self.old other → knows self.new other }
-        ensures memory { IsErrOf result FeedNo.Memory → (other : List ℕ) → knows self.new other → knows self.old other };
+        ensures memory { IsErrOf result FeedNo.Memory → (other : List ℕ) → knows self.new other
+            → knows self.old other };
 
     /// Ends a feed. What failed in it counts as one fault of reading its name.
     fn close(&mut self, feed: Self::Feed)
@@ -134,10 +154,14 @@ pub trait Shelf: Send {
 
         // The count rises exactly where a call of the feed has failed, and no other count changes.
         ensures failed { (0 < Self.Feed.faults feed)
-            ↔ (reading_faults self.old (Self.Feed.name feed) < reading_faults self.new (Self.Feed.name feed)) }
-        ensures counted { reading_faults self.old (Self.Feed.name feed) ≤ reading_faults self.new (Self.Feed.name feed) }
-        ensures other_counts { (other : List ℕ) → other ≢ Self.Feed.name feed → reading_faults self.new other ≡ reading_faults self.old other }
-        ensures putting_counts { (other : List ℕ) → putting_faults self.new other ≡ putting_faults self.old other }
+            ↔ (reading_faults self.old (Self.Feed.name feed)
+            < reading_faults self.new (Self.Feed.name feed)) }
+        ensures counted { reading_faults self.old (Self.Feed.name feed)
+            ≤ reading_faults self.new (Self.Feed.name feed) }
+        ensures other_counts { (other : List ℕ) → other ≢ Self.Feed.name feed
+            → reading_faults self.new other ≡ reading_faults self.old other }
+        ensures putting_counts { (other : List ℕ) → putting_faults self.new other
+            ≡ putting_faults self.old other }
 
         ensures held { (other : List ℕ) → holds self.new other ≡ holds self.old other }
         ensures known { (other : List ℕ) → knows self.new other ↔ knows self.old other };

@@ -35,10 +35,12 @@ pub trait Sink: Send {
     ///
     /// # Errors
     ///
-    /// `Failed` where the device failed, after some of the piece or none, and `Memory`, with which all is as before.
+    /// `Failed` where the device failed, after some of the piece or none, and `Memory`, with which
+    /// all is as before.
     fn write(&mut self, bytes: &[u8]) -> Result<(), WriteNo>
         ensures ok { OnOk result (written self.new ≡ append_known (written self.old) bytes.now) }
-        ensures part { IsErrOf result WriteNo.Failed → WritesPart (written self.old) (written self.new) bytes.now }
+        ensures part { IsErrOf result WriteNo.Failed
+            → WritesPart (written self.old) (written self.new) bytes.now }
         ensures memory { IsErrOf result WriteNo.Memory → written self.new ≡ written self.old }
 
         // A fault is told exactly where it is counted.

@@ -7,7 +7,8 @@ use crate::writing::write_whole;
 use crate::{Sink, WriteNo};
 use std::io::Write;
 
-/// A sink over a writer. It tells nothing of what was written; the writer gets the bytes, all of a piece or its front.
+/// A sink over a writer. It tells nothing of what was written; the writer gets the bytes, all of a
+/// piece or its front.
 #[derive(Drop)]
 pub struct StandardOutput<W> {
     writer: W,
@@ -39,19 +40,26 @@ impl<W: Write + Send> Sink for StandardOutput<W> {
 
     ghost faults = { λ sink. fault_count sink };
 
-    // A count at its last value has no room for another fault, so nothing is tried that may add one.
+    // A count at its last value has no room for another fault, so nothing is tried that may add
+    // one.
     fn write(&mut self, bytes: &[u8]) -> Result<(), WriteNo>
-        ensures ok { OnOk result (told_bytes self.new ≡ append_known (told_bytes self.old) bytes.now) }
-        ensures part { IsErrOf result WriteNo.Failed → WritesPart (told_bytes self.old) (told_bytes self.new) bytes.now }
+        ensures ok { OnOk result
+            (told_bytes self.new ≡ append_known (told_bytes self.old) bytes.now) }
+        ensures part { IsErrOf result WriteNo.Failed
+            → WritesPart (told_bytes self.old) (told_bytes self.new) bytes.now }
         ensures memory { IsErrOf result WriteNo.Memory → told_bytes self.new ≡ told_bytes self.old }
-        ensures failed { IsErrOf result WriteNo.Failed ↔ (fault_count self.old < fault_count self.new) }
+        ensures failed { IsErrOf result WriteNo.Failed
+            ↔ (fault_count self.old < fault_count self.new) }
         ensures counted { fault_count self.old ≤ fault_count self.new }
 
-        ensures once { IsErrOf result WriteNo.Failed → fault_count self.new ≡ fault_count self.old + 1 }
+        ensures once { IsErrOf result WriteNo.Failed → fault_count self.new ≡ fault_count self.old
+            + 1 }
         ensures empty { bytes.now ≡ [] → ¬ IsErrOf result WriteNo.Failed }
 
         // What the writer gets.
-        ensures gets { OnOk result (Appends (W.contents (writer_of self.old)) (W.contents (writer_of self.new)) bytes.now) }
+        ensures gets { OnOk result
+            (Appends (W.contents (writer_of self.old)) (W.contents (writer_of self.new))
+            bytes.now) }
         ensures gets_part { IsErrOf result WriteNo.Failed →
             PutsOut (W.contents (writer_of self.old)) (W.contents (writer_of self.new)) bytes.now }
         ensures gets_none { IsErrOf result WriteNo.Memory →

@@ -8,10 +8,12 @@ use crate::turns::MOST_TURNS;
 use std::io;
 use std::io::{ErrorKind, Write};
 
-// One write of a piece that is not empty: how many bytes were taken, or 0 where the write was interrupted.
+// One write of a piece that is not empty: how many bytes were taken, or 0 where the write was
+// interrupted.
 fn write_some<W: Write>(writer: &mut W, piece: &[u8]) -> Result<usize, WriteNo>
     ensures within { IfOk result (λ count. count ≤ length piece.now) }
-    ensures taken { IfOk result (λ count. Appends (W.contents writer.old) (W.contents writer.new) (take count piece.now)) }
+    ensures taken { IfOk result
+        (λ count. Appends (W.contents writer.old) (W.contents writer.new) (take count piece.now)) }
     ensures none { OnErr result (Keeps (W.contents writer.old) (W.contents writer.new)) }
 {
     match writer.write(piece) {
@@ -35,8 +37,10 @@ fn no_of(error: &io::Error) -> Result<usize, WriteNo>
 /// Writes all of the piece. `Memory` only where nothing of it went out.
 pub fn write_whole<W: Write>(writer: &mut W, piece: &[u8]) -> Result<(), WriteNo>
     ensures ok { OnOk result (Appends (W.contents writer.old) (W.contents writer.new) piece.now) }
-    ensures part { OnErr result (PutsOut (W.contents writer.old) (W.contents writer.new) piece.now) }
-    ensures memory { IsErrOf result WriteNo.Memory → Keeps (W.contents writer.old) (W.contents writer.new) }
+    ensures part { OnErr result
+        (PutsOut (W.contents writer.old) (W.contents writer.new) piece.now) }
+    ensures memory { IsErrOf result WriteNo.Memory
+        → Keeps (W.contents writer.old) (W.contents writer.new) }
     ensures empty { piece.now ≡ [] → IsOk result }
 {
     let mut rest = piece;

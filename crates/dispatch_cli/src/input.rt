@@ -19,8 +19,12 @@ use std::alloc::Global;
 /// The bytes of a file.
 fn fetch<S: Shelf>(alloc: Global, shelf: &mut S, which: Input, name: &str) -> Result<Vec<u8>, Cause>
     ensures file { IfOk result (λ bytes. IsFile (S.holds shelf.old) name.now bytes.items) }
-    ensures no { IfErr result (Misses (S.holds shelf.old) (S.reading_faults shelf.old) (S.reading_faults shelf.new) which name.now) }
-    ensures reads { ReadsOne name.now (S.reading_faults shelf.old) (S.reading_faults shelf.new) (S.putting_faults shelf.old) (S.putting_faults shelf.new) (S.holds shelf.old) (S.holds shelf.new) (result ≡ Err (Failed which)) }
+    ensures no { IfErr result
+        (Misses (S.holds shelf.old) (S.reading_faults shelf.old) (S.reading_faults shelf.new) which
+        name.now) }
+    ensures reads { ReadsOne name.now (S.reading_faults shelf.old) (S.reading_faults shelf.new)
+        (S.putting_faults shelf.old) (S.putting_faults shelf.new) (S.holds shelf.old)
+        (S.holds shelf.new) (result ≡ Err (Failed which)) }
 {
     match shelf.fetch(alloc, name, MOST_FILE_BYTES) {
         Ok(bytes) => Ok(bytes),
@@ -43,7 +47,8 @@ fn problem_of(alloc: Global, bytes: &[u8]) -> Result<Problem, Cause>
 
 /// The plan and the stated cost of a file's bytes.
 fn solution_of(alloc: Global, bytes: &[u8]) -> Result<(Plan, Option<u64>), Cause>
-    ensures { MatchResult result (λ r. reading.IsReadAs bytes.now r.0 r.1) (RefusesSolution bytes.now) }
+    ensures { MatchResult result (λ r. reading.IsReadAs bytes.now r.0 r.1)
+        (RefusesSolution bytes.now) }
 {
     match read_solution(alloc, bytes) {
         Ok(solution) => Ok(solution),
@@ -59,8 +64,12 @@ pub(crate) fn problem_file<S: Shelf>(
     name: &str,
 ) -> Result<Problem, Cause>
     ensures ok { IfOk result (IsProblemFile (S.holds shelf.old) name.now) }
-    ensures no { IfErr result (StopsProblem (S.holds shelf.old) (S.reading_faults shelf.old) (S.reading_faults shelf.new) name.now) }
-    ensures reads { ReadsOne name.now (S.reading_faults shelf.old) (S.reading_faults shelf.new) (S.putting_faults shelf.old) (S.putting_faults shelf.new) (S.holds shelf.old) (S.holds shelf.new) (IsErrAnd result IsReadingFault) }
+    ensures no { IfErr result
+        (StopsProblem (S.holds shelf.old) (S.reading_faults shelf.old) (S.reading_faults shelf.new)
+        name.now) }
+    ensures reads { ReadsOne name.now (S.reading_faults shelf.old) (S.reading_faults shelf.new)
+        (S.putting_faults shelf.old) (S.putting_faults shelf.new) (S.holds shelf.old)
+        (S.holds shelf.new) (IsErrAnd result IsReadingFault) }
 {
     let bytes = fetch(alloc, shelf, Input::Problem, name)?;
     problem_of(alloc, &bytes)
@@ -73,8 +82,12 @@ pub(crate) fn solution_file<S: Shelf>(
     name: &str,
 ) -> Result<(Plan, Option<u64>), Cause>
     ensures ok { IfOk result (λ r. IsSolutionFile (S.holds shelf.old) name.now r.0 r.1) }
-    ensures no { IfErr result (StopsSolution (S.holds shelf.old) (S.reading_faults shelf.old) (S.reading_faults shelf.new) name.now) }
-    ensures reads { ReadsOne name.now (S.reading_faults shelf.old) (S.reading_faults shelf.new) (S.putting_faults shelf.old) (S.putting_faults shelf.new) (S.holds shelf.old) (S.holds shelf.new) (IsErrAnd result IsReadingFault) }
+    ensures no { IfErr result
+        (StopsSolution (S.holds shelf.old) (S.reading_faults shelf.old) (S.reading_faults shelf.new)
+        name.now) }
+    ensures reads { ReadsOne name.now (S.reading_faults shelf.old) (S.reading_faults shelf.new)
+        (S.putting_faults shelf.old) (S.putting_faults shelf.new) (S.holds shelf.old)
+        (S.holds shelf.new) (IsErrAnd result IsReadingFault) }
 {
     let bytes = fetch(alloc, shelf, Input::Solution, name)?;
     solution_of(alloc, &bytes)
@@ -87,7 +100,8 @@ fn take<F: Feed>(alloc: Global, problem: &Problem, feed: &mut F) -> Result<Editi
     ensures ok { IfOk result (λ editions.
         IfSome (F.lines feed.old) (λ lines. TakesLines problem.now lines editions.changes)) }
     ensures no { IfErr result (RefusesLines problem.now (F.lines feed.old)) }
-    ensures failed { (result ≡ Err (Failed Input.Fixings)) ↔ (F.faults feed.old < F.faults feed.new) }
+    ensures failed { (result ≡ Err (Failed Input.Fixings))
+        ↔ (F.faults feed.old < F.faults feed.new) }
     ensures counted { F.faults feed.old ≤ F.faults feed.new }
     ensures name { F.name feed.new ≡ F.name feed.old }
 {
@@ -103,13 +117,18 @@ fn take<F: Feed>(alloc: Global, problem: &Problem, feed: &mut F) -> Result<Editi
 /// A feed of a file's lines.
 fn open<S: Shelf>(alloc: Global, shelf: &mut S, name: &str) -> Result<S::Feed, Cause>
     ensures name { IfOk result (λ feed. S.Feed.name feed ≡ name.now) }
-    ensures lines { IfOk result (λ feed. HasLinesOf (S.holds shelf.old name.now) (S.Feed.lines feed)) }
+    ensures lines { IfOk result
+        (λ feed. HasLinesOf (S.holds shelf.old name.now) (S.Feed.lines feed)) }
     ensures open { IfOk result (λ feed. S.Feed.has_ended feed ≡ false) }
     ensures unbroken { IfOk result (λ feed. S.Feed.faults feed ≡ 0) }
     ensures known { IfOk result (λ feed. S.knows shelf.new name.now) }
-    ensures no { IfErr result (Misses (S.holds shelf.old) (S.reading_faults shelf.old) (S.reading_faults shelf.new) Input.Fixings name.now) }
+    ensures no { IfErr result
+        (Misses (S.holds shelf.old) (S.reading_faults shelf.old) (S.reading_faults shelf.new)
+        Input.Fixings name.now) }
     ensures not_long { IfErr result IsNotLong }
-    ensures reads { ReadsOne name.now (S.reading_faults shelf.old) (S.reading_faults shelf.new) (S.putting_faults shelf.old) (S.putting_faults shelf.new) (S.holds shelf.old) (S.holds shelf.new) (result ≡ Err (Failed Input.Fixings)) }
+    ensures reads { ReadsOne name.now (S.reading_faults shelf.old) (S.reading_faults shelf.new)
+        (S.putting_faults shelf.old) (S.putting_faults shelf.new) (S.holds shelf.old)
+        (S.holds shelf.new) (result ≡ Err (Failed Input.Fixings)) }
 {
     match shelf.feed(alloc, name) {
         Ok(feed) => Ok(feed),
@@ -127,8 +146,12 @@ pub(crate) fn fixings_file<S: Shelf>(
 ) -> Result<Editions, Cause>
     ensures ok { IfOk result (λ editions.
         IsFixingsTaken (S.holds shelf.old) problem.now name.now editions.problem editions.changes) }
-    ensures no { IfErr result (StopsFixings (S.holds shelf.old) (S.reading_faults shelf.old) (S.reading_faults shelf.new) problem.now name.now) }
-    ensures reads { ReadsOne name.now (S.reading_faults shelf.old) (S.reading_faults shelf.new) (S.putting_faults shelf.old) (S.putting_faults shelf.new) (S.holds shelf.old) (S.holds shelf.new) (IsErrAnd result IsReadingFault) }
+    ensures no { IfErr result
+        (StopsFixings (S.holds shelf.old) (S.reading_faults shelf.old) (S.reading_faults shelf.new)
+        problem.now name.now) }
+    ensures reads { ReadsOne name.now (S.reading_faults shelf.old) (S.reading_faults shelf.new)
+        (S.putting_faults shelf.old) (S.putting_faults shelf.new) (S.holds shelf.old)
+        (S.holds shelf.new) (IsErrAnd result IsReadingFault) }
 {
     let mut feed = open(alloc, shelf, name)?;
     let editions = take(alloc, problem, &mut feed);

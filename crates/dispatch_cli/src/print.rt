@@ -14,7 +14,8 @@ use std::alloc::Global;
 /// Writes the lines, each at once, up to the first that is not written whole.
 pub(crate) fn print<O: Sink>(out: &mut O, lines: &[List<u8>]) -> Result<(), WriteNo>
     ensures ok { OnOk result (Writes (O.written out.old) (O.written out.new) (concat lines.now)) }
-    ensures err { OnErr result (WritesPart (O.written out.old) (O.written out.new) (concat lines.now)) }
+    ensures err { OnErr result
+        (WritesPart (O.written out.old) (O.written out.new) (concat lines.now)) }
     ensures failed { IsErrOf result WriteNo.Failed ↔ (O.faults out.old < O.faults out.new) }
     ensures counted { O.faults out.old ≤ O.faults out.new }
 {
@@ -37,7 +38,8 @@ pub(crate) fn give_up<O: Sink>(out: &mut O) -> u8
 /// Writes the lines of an answer, and gives the status: that of the answer where all went out.
 pub(crate) fn finish<O: Sink>(out: &mut O, lines: &[List<u8>], status: u8) -> u8
     requires { IsAnswerStatus status }
-    ensures { Finishes (O.faults out.old) (O.faults out.new) (O.written out.old) (O.written out.new) (concat lines.now) status result }
+    ensures { Finishes (O.faults out.old) (O.faults out.new) (O.written out.old) (O.written out.new)
+        (concat lines.now) status result }
 {
     match print(out, lines) {
         Ok(()) => status,
@@ -48,7 +50,8 @@ pub(crate) fn finish<O: Sink>(out: &mut O, lines: &[List<u8>], status: u8) -> u8
 
 /// Tells what stopped the run, and gives the status.
 pub(crate) fn stop<O: Sink>(alloc: Global, out: &mut O, cause: &Cause) -> u8
-    ensures { Halts (O.faults out.old) (O.faults out.new) (O.written out.old) (O.written out.new) cause.now result }
+    ensures { Halts (O.faults out.old) (O.faults out.new) (O.written out.old) (O.written out.new)
+        cause.now result }
 {
     let Ok(line) = cause.line(alloc) else {
         return give_up(out);

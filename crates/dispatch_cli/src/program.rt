@@ -14,11 +14,18 @@ use std::alloc::Global;
 /// Puts what is to be put.
 fn put<S: Shelf>(alloc: Global, shelf: &mut S, put: Option<&Put>) -> Result<(), PutNo>
     ensures ok { IsOk result → IsPut (option_map (λ p. p.now) put.entry) (S.holds shelf.new) }
-    ensures failed { IsErrOf result PutNo.Failed → PutMisses (option_map (λ p. p.now) put.entry) (S.putting_faults shelf.old) (S.putting_faults shelf.new) }
-    ensures memory { IsErrOf result PutNo.Memory → PutKeeps (option_map (λ p. p.now) put.entry) (S.holds shelf.old) (S.holds shelf.new) }
-    ensures risen { (name : List ℕ) → S.putting_faults shelf.old name < S.putting_faults shelf.new name → IsErrOf result PutNo.Failed }
-    ensures others { (name : List ℕ) → PutsOnly (option_map (λ p. p.now) put.entry) (S.holds shelf.old) (S.holds shelf.new) (S.putting_faults shelf.old) (S.putting_faults shelf.new) name }
-    ensures readings { (name : List ℕ) → S.reading_faults shelf.new name ≡ S.reading_faults shelf.old name }
+    ensures failed { IsErrOf result PutNo.Failed
+        → PutMisses (option_map (λ p. p.now) put.entry) (S.putting_faults shelf.old)
+        (S.putting_faults shelf.new) }
+    ensures memory { IsErrOf result PutNo.Memory
+        → PutKeeps (option_map (λ p. p.now) put.entry) (S.holds shelf.old) (S.holds shelf.new) }
+    ensures risen { (name : List ℕ) → S.putting_faults shelf.old name
+        < S.putting_faults shelf.new name → IsErrOf result PutNo.Failed }
+    ensures others { (name : List ℕ)
+        → PutsOnly (option_map (λ p. p.now) put.entry) (S.holds shelf.old) (S.holds shelf.new)
+        (S.putting_faults shelf.old) (S.putting_faults shelf.new) name }
+    ensures readings { (name : List ℕ) → S.reading_faults shelf.new name
+        ≡ S.reading_faults shelf.old name }
 {
     match put {
         Some(put) => shelf.put(alloc, put.name.as_str(), put.bytes.as_slice()),
@@ -30,11 +37,17 @@ fn put<S: Shelf>(alloc: Global, shelf: &mut S, put: Option<&Put>) -> Result<(), 
 fn publish<S: Shelf, O: Sink>(alloc: Global, shelf: &mut S, out: &mut O, answer: &Answer) -> u8
     requires { IsAnswerStatus answer.now.status }
     ensures ends { Publishes answer.now
-        (outside (S.holds shelf.old) (S.reading_faults shelf.old) (S.putting_faults shelf.old) (O.faults out.old) (O.written out.old))
-        (outside (S.holds shelf.new) (S.reading_faults shelf.new) (S.putting_faults shelf.new) (O.faults out.new) (O.written out.new)) result }
-    ensures risen { (name : List ℕ) → S.putting_faults shelf.old name < S.putting_faults shelf.new name → result ≡ 4 }
-    ensures others { (name : List ℕ) → PutsOnly answer.now.put (S.holds shelf.old) (S.holds shelf.new) (S.putting_faults shelf.old) (S.putting_faults shelf.new) name }
-    ensures readings { (name : List ℕ) → S.reading_faults shelf.new name ≡ S.reading_faults shelf.old name }
+        (outside (S.holds shelf.old) (S.reading_faults shelf.old) (S.putting_faults shelf.old)
+        (O.faults out.old) (O.written out.old))
+        (outside (S.holds shelf.new) (S.reading_faults shelf.new) (S.putting_faults shelf.new)
+        (O.faults out.new) (O.written out.new)) result }
+    ensures risen { (name : List ℕ) → S.putting_faults shelf.old name
+        < S.putting_faults shelf.new name → result ≡ 4 }
+    ensures others { (name : List ℕ)
+        → PutsOnly answer.now.put (S.holds shelf.old) (S.holds shelf.new)
+        (S.putting_faults shelf.old) (S.putting_faults shelf.new) name }
+    ensures readings { (name : List ℕ) → S.reading_faults shelf.new name
+        ≡ S.reading_faults shelf.old name }
 {
     match put(alloc, shelf, answer.put.as_ref()) {
         Ok(()) => finish(out, answer.lines.as_slice(), answer.status),
@@ -45,12 +58,14 @@ fn publish<S: Shelf, O: Sink>(alloc: Global, shelf: &mut S, out: &mut O, answer:
 
 /// Runs the program for the words behind its name, and says how it ended.
 ///
-/// `solve PROBLEM` reads the file of that name from the shelf, and writes to the sink `edition 0`, the verdict, and the
-/// plan, where there is one, one line each; with `--plan OUT` the plan is put under that name before. What is refused is
-/// told in one line; for refused words that is clap's text. The gate is not used so far.
+/// `solve PROBLEM` reads the file of that name from the shelf, and writes to the sink `edition 0`,
+/// the verdict, and the plan, where there is one, one line each; with `--plan OUT` the plan is put
+/// under that name before. What is refused is told in one line; for refused words that is clap's
+/// text. The gate is not used so far.
 ///
-/// The status is 0 where a plan of least cost was found, 1 where no plan is valid, 2 where the words or the file are
-/// refused, 4 where a reading of the file, the putting of the plan or a write failed, and 5 where memory ran out.
+/// The status is 0 where a plan of least cost was found, 1 where no plan is valid, 2 where the
+/// words or the file are refused, 4 where a reading of the file, the putting of the plan or a write
+/// failed, and 5 where memory ran out.
 pub fn dispatch<R, S: Shelf, O: Sink, G: Gate>(
     _rt: &R,
     alloc: Global,
@@ -59,33 +74,53 @@ pub fn dispatch<R, S: Shelf, O: Sink, G: Gate>(
     out: &mut O,
     _gate: &G,
 ) -> Done
-    ensures statuses { ((result.status ≡ 0) ⊎ (result.status ≡ 1)) ⊎ ((result.status ≡ 2) ⊎ ((result.status ≡ 4) ⊎ (result.status ≡ 5))) }
+    ensures statuses { ((result.status ≡ 0) ⊎ (result.status ≡ 1))
+        ⊎ ((result.status ≡ 2) ⊎ ((result.status ≡ 4) ⊎ (result.status ≡ 5))) }
 
-    // An answer's journal is legal; an optimal plan is valid and none costs less; an infeasible problem has no valid plan.
-    ensures answered { (result.status ≡ 0) ⊎ (result.status ≡ 1) → Answers (map (λ word. string_bytes word) words.now)
-        (outside (S.holds shelf.old) (S.reading_faults shelf.old) (S.putting_faults shelf.old) (O.faults out.old) (O.written out.old))
-        (outside (S.holds shelf.new) (S.reading_faults shelf.new) (S.putting_faults shelf.new) (O.faults out.new) (O.written out.new)) result.status result.journal.items }
+    // An answer's journal is legal; an optimal plan is valid and none costs less; an infeasible
+    // problem has no valid plan.
+    ensures answered { (result.status ≡ 0) ⊎ (result.status ≡ 1)
+        → Answers (map (λ word. string_bytes word) words.now)
+        (outside (S.holds shelf.old) (S.reading_faults shelf.old) (S.putting_faults shelf.old)
+        (O.faults out.old) (O.written out.old))
+        (outside (S.holds shelf.new) (S.reading_faults shelf.new) (S.putting_faults shelf.new)
+        (O.faults out.new) (O.written out.new)) result.status result.journal.items }
     ensures refused { result.status ≡ 2 → Refuses (map (λ word. string_bytes word) words.now)
-        (outside (S.holds shelf.old) (S.reading_faults shelf.old) (S.putting_faults shelf.old) (O.faults out.old) (O.written out.old))
-        (outside (S.holds shelf.new) (S.reading_faults shelf.new) (S.putting_faults shelf.new) (O.faults out.new) (O.written out.new)) result.journal.items }
+        (outside (S.holds shelf.old) (S.reading_faults shelf.old) (S.putting_faults shelf.old)
+        (O.faults out.old) (O.written out.old))
+        (outside (S.holds shelf.new) (S.reading_faults shelf.new) (S.putting_faults shelf.new)
+        (O.faults out.new) (O.written out.new)) result.journal.items }
     ensures failed { result.status ≡ 4 → Fails (map (λ word. string_bytes word) words.now)
-        (outside (S.holds shelf.old) (S.reading_faults shelf.old) (S.putting_faults shelf.old) (O.faults out.old) (O.written out.old))
-        (outside (S.holds shelf.new) (S.reading_faults shelf.new) (S.putting_faults shelf.new) (O.faults out.new) (O.written out.new)) result.journal.items }
+        (outside (S.holds shelf.old) (S.reading_faults shelf.old) (S.putting_faults shelf.old)
+        (O.faults out.old) (O.written out.old))
+        (outside (S.holds shelf.new) (S.reading_faults shelf.new) (S.putting_faults shelf.new)
+        (O.faults out.new) (O.written out.new)) result.journal.items }
     ensures memory { result.status ≡ 5 → GivesUp (map (λ word. string_bytes word) words.now)
-        (outside (S.holds shelf.old) (S.reading_faults shelf.old) (S.putting_faults shelf.old) (O.faults out.old) (O.written out.old))
-        (outside (S.holds shelf.new) (S.reading_faults shelf.new) (S.putting_faults shelf.new) (O.faults out.new) (O.written out.new)) result.journal.items }
+        (outside (S.holds shelf.old) (S.reading_faults shelf.old) (S.putting_faults shelf.old)
+        (O.faults out.old) (O.written out.old))
+        (outside (S.holds shelf.new) (S.reading_faults shelf.new) (S.putting_faults shelf.new)
+        (O.faults out.new) (O.written out.new)) result.journal.items }
 
     // A fault shows in the status, ends the reading, and no other count changes.
-    ensures reading_fault { (name : List ℕ) → S.reading_faults shelf.old name < S.reading_faults shelf.new name → (result.status ≡ 4) ⊎ (result.status ≡ 5) }
+    ensures reading_fault { (name : List ℕ) → S.reading_faults shelf.old name
+        < S.reading_faults shelf.new name → (result.status ≡ 4) ⊎ (result.status ≡ 5) }
     ensures reading_ends { FailsOfOne (S.reading_faults shelf.old) (S.reading_faults shelf.new) }
-    ensures putting_fault { (name : List ℕ) → S.putting_faults shelf.old name < S.putting_faults shelf.new name → result.status ≡ 4 }
-    ensures write_fault { O.faults out.old < O.faults out.new → (result.status ≢ 0) × (result.status ≢ 1) }
+    ensures putting_fault { (name : List ℕ) → S.putting_faults shelf.old name
+        < S.putting_faults shelf.new name → result.status ≡ 4 }
+    ensures write_fault { O.faults out.old < O.faults out.new → (result.status ≢ 0)
+        × (result.status ≢ 1) }
     ensures write_counted { O.faults out.old ≤ O.faults out.new }
-    ensures reading_counts { (name : List ℕ) → CountsReading (map (λ word. string_bytes word) words.now) (S.reading_faults shelf.old) (S.reading_faults shelf.new) name }
-    ensures putting_counts { (name : List ℕ) → CountsPutting (map (λ word. string_bytes word) words.now) (S.holds shelf.old) (S.putting_faults shelf.old) (S.putting_faults shelf.new) name }
+    ensures reading_counts { (name : List ℕ)
+        → CountsReading (map (λ word. string_bytes word) words.now) (S.reading_faults shelf.old)
+        (S.reading_faults shelf.new) name }
+    ensures putting_counts { (name : List ℕ)
+        → CountsPutting (map (λ word. string_bytes word) words.now) (S.holds shelf.old)
+        (S.putting_faults shelf.old) (S.putting_faults shelf.new) name }
 
     // Each name under which there is nothing to put holds what it held.
-    ensures held { (name : List ℕ) → (IsDuePut (map (λ word. string_bytes word) words.now) (S.holds shelf.old) name → ⊥) → S.holds shelf.new name ≡ S.holds shelf.old name }
+    ensures held { (name : List ℕ)
+        → (IsDuePut (map (λ word. string_bytes word) words.now) (S.holds shelf.old) name → ⊥)
+        → S.holds shelf.new name ≡ S.holds shelf.old name }
 {
     match run(alloc, words, shelf) {
         Ok(answer) => {

@@ -33,10 +33,17 @@ fn run_solve<S: Shelf>(
     problem: &Text,
     plan: Option<&Text>,
 ) -> Result<Answer, Cause>
-    ensures ok { IfOk result (λ answer. (budget : ℕ) → AnswersSolve (S.holds shelf.old) problem.now budget (option_map (λ name. name.now) plan.entry) answer) }
-    ensures no { IfErr result (StopsSolve (S.holds shelf.old) (S.reading_faults shelf.old) (S.reading_faults shelf.new) problem.now) }
+    ensures ok { IfOk result
+        (λ answer. (budget : ℕ)
+        → AnswersSolve (S.holds shelf.old) problem.now budget
+        (option_map (λ name. name.now) plan.entry) answer) }
+    ensures no { IfErr result
+        (StopsSolve (S.holds shelf.old) (S.reading_faults shelf.old) (S.reading_faults shelf.new)
+        problem.now) }
     ensures status { IfOk result (λ answer. IsAnswerStatus answer.status) }
-    ensures reads { ReadsOne problem.now (S.reading_faults shelf.old) (S.reading_faults shelf.new) (S.putting_faults shelf.old) (S.putting_faults shelf.new) (S.holds shelf.old) (S.holds shelf.new) (IsErrAnd result IsReadingFault) }
+    ensures reads { ReadsOne problem.now (S.reading_faults shelf.old) (S.reading_faults shelf.new)
+        (S.putting_faults shelf.old) (S.putting_faults shelf.new) (S.holds shelf.old)
+        (S.holds shelf.new) (IsErrAnd result IsReadingFault) }
 {
     let problem = problem_file(alloc, shelf, problem.as_str())?;
     solve(alloc, &problem, plan)
@@ -50,10 +57,15 @@ fn judge_file<S: Shelf>(
     fixings: &[Fixing],
     solution: &str,
 ) -> Result<Answer, Cause>
-    ensures ok { IfOk result (IsJudgedFile (S.holds shelf.old) problem.now fixings.now solution.now) }
-    ensures no { IfErr result (StopsSolution (S.holds shelf.old) (S.reading_faults shelf.old) (S.reading_faults shelf.new) solution.now) }
+    ensures ok { IfOk result
+        (IsJudgedFile (S.holds shelf.old) problem.now fixings.now solution.now) }
+    ensures no { IfErr result
+        (StopsSolution (S.holds shelf.old) (S.reading_faults shelf.old) (S.reading_faults shelf.new)
+        solution.now) }
     ensures status { IfOk result (λ answer. IsAnswerStatus answer.status) }
-    ensures reads { ReadsOne solution.now (S.reading_faults shelf.old) (S.reading_faults shelf.new) (S.putting_faults shelf.old) (S.putting_faults shelf.new) (S.holds shelf.old) (S.holds shelf.new) (IsErrAnd result IsReadingFault) }
+    ensures reads { ReadsOne solution.now (S.reading_faults shelf.old) (S.reading_faults shelf.new)
+        (S.putting_faults shelf.old) (S.putting_faults shelf.new) (S.holds shelf.old)
+        (S.holds shelf.new) (IsErrAnd result IsReadingFault) }
 {
     let (plan, stated) = solution_file(alloc, shelf, solution)?;
     Ok(judge(alloc, problem, fixings, &plan, stated)?)
@@ -67,10 +79,15 @@ fn judge_with<S: Shelf>(
     name: &Text,
     solution: &str,
 ) -> Result<Answer, Cause>
-    ensures ok { IfOk result (IsJudgedBy (S.holds shelf.old) problem.now (Some name.now) solution.now) }
-    ensures no { IfErr result (StopsJudging (S.holds shelf.old) (S.reading_faults shelf.old) (S.reading_faults shelf.new) problem.now (Some name.now) solution.now) }
+    ensures ok { IfOk result
+        (IsJudgedBy (S.holds shelf.old) problem.now (Some name.now) solution.now) }
+    ensures no { IfErr result
+        (StopsJudging (S.holds shelf.old) (S.reading_faults shelf.old) (S.reading_faults shelf.new)
+        problem.now (Some name.now) solution.now) }
     ensures status { IfOk result (λ answer. IsAnswerStatus answer.status) }
-    ensures reads { Reads (IsOfTwo (Some name.now) solution.now) (S.reading_faults shelf.old) (S.reading_faults shelf.new) (S.putting_faults shelf.old) (S.putting_faults shelf.new) (S.holds shelf.old) (S.holds shelf.new) (IsErrAnd result IsReadingFault) }
+    ensures reads { Reads (IsOfTwo (Some name.now) solution.now) (S.reading_faults shelf.old)
+        (S.reading_faults shelf.new) (S.putting_faults shelf.old) (S.putting_faults shelf.new)
+        (S.holds shelf.old) (S.holds shelf.new) (IsErrAnd result IsReadingFault) }
 {
     match fixings_file(alloc, shelf, problem, name.as_str()) {
         Ok(mut editions) => judge_file(alloc, shelf, problem, editions.fixings(), solution),
@@ -86,10 +103,17 @@ fn judge_files<S: Shelf>(
     fixings: Option<&Text>,
     solution: &str,
 ) -> Result<Answer, Cause>
-    ensures ok { IfOk result (IsJudgedBy (S.holds shelf.old) problem.now (option_map (λ name. name.now) fixings.entry) solution.now) }
-    ensures no { IfErr result (StopsJudging (S.holds shelf.old) (S.reading_faults shelf.old) (S.reading_faults shelf.new) problem.now (option_map (λ name. name.now) fixings.entry) solution.now) }
+    ensures ok { IfOk result
+        (IsJudgedBy (S.holds shelf.old) problem.now (option_map (λ name. name.now) fixings.entry)
+        solution.now) }
+    ensures no { IfErr result
+        (StopsJudging (S.holds shelf.old) (S.reading_faults shelf.old) (S.reading_faults shelf.new)
+        problem.now (option_map (λ name. name.now) fixings.entry) solution.now) }
     ensures status { IfOk result (λ answer. IsAnswerStatus answer.status) }
-    ensures reads { Reads (IsOfTwo (option_map (λ name. name.now) fixings.entry) solution.now) (S.reading_faults shelf.old) (S.reading_faults shelf.new) (S.putting_faults shelf.old) (S.putting_faults shelf.new) (S.holds shelf.old) (S.holds shelf.new) (IsErrAnd result IsReadingFault) }
+    ensures reads { Reads (IsOfTwo (option_map (λ name. name.now) fixings.entry) solution.now)
+        (S.reading_faults shelf.old) (S.reading_faults shelf.new) (S.putting_faults shelf.old)
+        (S.putting_faults shelf.new) (S.holds shelf.old) (S.holds shelf.new)
+        (IsErrAnd result IsReadingFault) }
 {
     match fixings {
         Some(name) => judge_with(alloc, shelf, problem, name, solution),
@@ -105,10 +129,18 @@ fn run_verify<S: Shelf>(
     solution: &Text,
     fixings: Option<&Text>,
 ) -> Result<Answer, Cause>
-    ensures ok { IfOk result (AnswersVerify (S.holds shelf.old) problem.now solution.now (option_map (λ name. name.now) fixings.entry)) }
-    ensures no { IfErr result (StopsVerify (S.holds shelf.old) (S.reading_faults shelf.old) (S.reading_faults shelf.new) problem.now (option_map (λ name. name.now) fixings.entry) solution.now) }
+    ensures ok { IfOk result
+        (AnswersVerify (S.holds shelf.old) problem.now solution.now
+        (option_map (λ name. name.now) fixings.entry)) }
+    ensures no { IfErr result
+        (StopsVerify (S.holds shelf.old) (S.reading_faults shelf.old) (S.reading_faults shelf.new)
+        problem.now (option_map (λ name. name.now) fixings.entry) solution.now) }
     ensures status { IfOk result (λ answer. IsAnswerStatus answer.status) }
-    ensures reads { Reads (IsOfThree problem.now (option_map (λ name. name.now) fixings.entry) solution.now) (S.reading_faults shelf.old) (S.reading_faults shelf.new) (S.putting_faults shelf.old) (S.putting_faults shelf.new) (S.holds shelf.old) (S.holds shelf.new) (IsErrAnd result IsReadingFault) }
+    ensures reads { Reads
+        (IsOfThree problem.now (option_map (λ name. name.now) fixings.entry) solution.now)
+        (S.reading_faults shelf.old) (S.reading_faults shelf.new) (S.putting_faults shelf.old)
+        (S.putting_faults shelf.new) (S.holds shelf.old) (S.holds shelf.new)
+        (IsErrAnd result IsReadingFault) }
 {
     match problem_file(alloc, shelf, problem.as_str()) {
         Ok(problem) => judge_files(alloc, shelf, &problem, fixings, solution.as_str()),
@@ -119,13 +151,18 @@ fn run_verify<S: Shelf>(
 /// Does what a task asks for.
 fn run_task<S: Shelf>(alloc: Global, shelf: &mut S, task: &Task) -> Result<Answer, Cause>
     ensures ok { IfOk result (AnswersTask (S.holds shelf.old) task.now) }
-    ensures no { IfErr result (StopsTask (S.holds shelf.old) (S.reading_faults shelf.old) (S.reading_faults shelf.new) task.now) }
+    ensures no { IfErr result
+        (StopsTask (S.holds shelf.old) (S.reading_faults shelf.old) (S.reading_faults shelf.new)
+        task.now) }
     ensures status { IfOk result (λ answer. IsAnswerStatus answer.status) }
 
-    ensures counts { (name : List ℕ) → CountsTask task.now (S.reading_faults shelf.old) (S.reading_faults shelf.new) name }
+    ensures counts { (name : List ℕ)
+        → CountsTask task.now (S.reading_faults shelf.old) (S.reading_faults shelf.new) name }
     ensures one { FailsOfOne (S.reading_faults shelf.old) (S.reading_faults shelf.new) }
-    ensures failed { (name : List ℕ) → S.reading_faults shelf.old name < S.reading_faults shelf.new name → IsErrAnd result IsReadingFault }
-    ensures puttings { (name : List ℕ) → S.putting_faults shelf.new name ≡ S.putting_faults shelf.old name }
+    ensures failed { (name : List ℕ) → S.reading_faults shelf.old name
+        < S.reading_faults shelf.new name → IsErrAnd result IsReadingFault }
+    ensures puttings { (name : List ℕ) → S.putting_faults shelf.new name
+        ≡ S.putting_faults shelf.old name }
     ensures held { (name : List ℕ) → S.holds shelf.new name ≡ S.holds shelf.old name }
 {
     match task {
@@ -140,14 +177,21 @@ fn run_task<S: Shelf>(alloc: Global, shelf: &mut S, task: &Task) -> Result<Answe
 
 /// The answer to the words, from the files of the shelf.
 pub(crate) fn run<S: Shelf>(alloc: Global, words: &[String], shelf: &mut S) -> Result<Answer, Cause>
-    ensures ok { IfOk result (IsAnswer (map (λ word. string_bytes word) words.now) (S.holds shelf.old)) }
-    ensures no { IfErr result (Stops (map (λ word. string_bytes word) words.now) (S.holds shelf.old) (S.reading_faults shelf.old) (S.reading_faults shelf.new)) }
+    ensures ok { IfOk result
+        (IsAnswer (map (λ word. string_bytes word) words.now) (S.holds shelf.old)) }
+    ensures no { IfErr result
+        (Stops (map (λ word. string_bytes word) words.now) (S.holds shelf.old)
+        (S.reading_faults shelf.old) (S.reading_faults shelf.new)) }
     ensures status { IfOk result (λ answer. IsAnswerStatus answer.status) }
 
-    ensures counts { (name : List ℕ) → CountsReading (map (λ word. string_bytes word) words.now) (S.reading_faults shelf.old) (S.reading_faults shelf.new) name }
+    ensures counts { (name : List ℕ)
+        → CountsReading (map (λ word. string_bytes word) words.now) (S.reading_faults shelf.old)
+        (S.reading_faults shelf.new) name }
     ensures one { FailsOfOne (S.reading_faults shelf.old) (S.reading_faults shelf.new) }
-    ensures failed { (name : List ℕ) → S.reading_faults shelf.old name < S.reading_faults shelf.new name → IsErrAnd result IsReadingFault }
-    ensures puttings { (name : List ℕ) → S.putting_faults shelf.new name ≡ S.putting_faults shelf.old name }
+    ensures failed { (name : List ℕ) → S.reading_faults shelf.old name
+        < S.reading_faults shelf.new name → IsErrAnd result IsReadingFault }
+    ensures puttings { (name : List ℕ) → S.putting_faults shelf.new name
+        ≡ S.putting_faults shelf.old name }
     ensures held { (name : List ℕ) → S.holds shelf.new name ≡ S.holds shelf.old name }
 {
     let task = task_of(alloc, words)?;

@@ -67,7 +67,9 @@ fn status_of(solved: &Solved) -> u8
 
 /// The answer to a problem.
 pub(crate) fn solve(alloc: Global, problem: &Problem, plan: Option<&Text>) -> Result<Answer, Cause>
-    ensures ok { IfOk result (λ answer. (budget : ℕ) → IsSolved problem.now budget (option_map (λ n. n.now) plan.entry) answer) }
+    ensures ok { IfOk result
+        (λ answer. (budget : ℕ) → IsSolved problem.now budget (option_map (λ n. n.now) plan.entry)
+        answer) }
     ensures no { RefusesChoices problem.now result }
     ensures status { IfOk result (λ answer. IsAnswerStatus answer.status) }
 {

@@ -34,7 +34,8 @@ fn check_listings(rule: Rule, t: u64, o: u64, values: &[Value]) -> Result<(), Pl
 
 /// Tests a rule on the successors of an operation of a train of so many.
 fn check_successors(rule: Rule, count: u64, t: u64, o: u64, values: &[Value]) -> Result<(), Place>
-    ensures { result ≡ verdict rule (claims_from (successor_claims count t o) 0 (map view values.now)) }
+    ensures { result ≡ verdict rule
+        (claims_from (successor_claims count t o) 0 (map view values.now)) }
 {
     let limit = u64::from(GREATEST_NUMBER);
     let successor = Want::Index { count, limit };
@@ -71,7 +72,8 @@ fn check_operation(rule: Rule, count: u64, t: u64, o: u64, value: &Value) -> Res
 /// Tests a rule on the operations of a train.
 #[tactic(auto, using(json_claims::proofs::Verdicts::verdict_append))]
 fn check_operations(rule: Rule, t: u64, values: &[Value]) -> Result<(), Place>
-    ensures { result ≡ verdict rule (claims_from (operation_claims (length values.now) t) 0 (map view values.now)) }
+    ensures { result ≡ verdict rule
+        (claims_from (operation_claims (length values.now) t) 0 (map view values.now)) }
 {
     for (o, value) in values.iter().enumerate() {
         check_operation(rule, values.len() as u64, t, o as u64, value)?;

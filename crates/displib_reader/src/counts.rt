@@ -10,7 +10,8 @@ use serde_json::Value;
 
 /// How many operations the trains have. More than 64 bits count are more than memory holds.
 fn operations_given(trains: &[Value]) -> Result<u64, Memory>
-    ensures { IfOk result (λ n. n ≡ sum_by (λ train. length (members_in (Some train))) (map view trains.now)) }
+    ensures { IfOk result
+        (λ n. n ≡ sum_by (λ train. length (members_in (Some train))) (map view trains.now)) }
 {
     let mut count: u64 = 0;
     for train in trains {

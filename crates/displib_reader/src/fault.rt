@@ -24,7 +24,8 @@ pub enum ProblemNo {
     /// A value of the wrong kind stands there, or none where one is needed.
     #[error("a value of the wrong kind, or none where one is needed: {0:?}")]
     Shape(Place),
-    /// A number stands there that is not whole, from 0 to 2^64 - 1 and without fraction, exponent and sign.
+    /// A number stands there that is not whole, from 0 to 2^64 - 1 and without fraction, exponent
+    /// and sign.
     #[error("not a whole number: {0:?}")]
     NotWhole(Place),
     /// A whole number above 2147483647 stands there.

@@ -13,7 +13,8 @@ use std::alloc::Global;
 /// Adds a name, where it is new.
 #[tactic(auto, using(crate::proofs::Once::inserted_name, crate::proofs::Once::known_name))]
 fn add_name(alloc: Global, names: &mut IndexSet<String>, name: &str) -> Result<(), Memory>
-    ensures { OnOk result (map string_bytes names.new.keys ≡ with_name (map string_bytes names.old.keys) name.now) }
+    ensures { OnOk result
+        (map string_bytes names.new.keys ≡ with_name (map string_bytes names.old.keys) name.now) }
 {
     if !names.contains(name) {
         names.insert(String::from_str(alloc, name)?)?;
@@ -42,7 +43,9 @@ fn add_names_of_operation(
     names: &mut IndexSet<String>,
     operation: &Value,
 ) -> Result<(), Memory>
-    ensures { OnOk result (map string_bytes names.new.keys ≡ with_names (map string_bytes names.old.keys) (names_of_operation (view operation.now))) }
+    ensures { OnOk result
+        (map string_bytes names.new.keys
+        ≡ with_names (map string_bytes names.old.keys) (names_of_operation (view operation.now))) }
 {
     for listing in members_at(operation, "resources") {
         add_name_of_listing(alloc, names, listing)?;
@@ -57,7 +60,9 @@ fn add_names_of_train(
     names: &mut IndexSet<String>,
     train: &Value,
 ) -> Result<(), Memory>
-    ensures { OnOk result (map string_bytes names.new.keys ≡ with_names (map string_bytes names.old.keys) (names_of_train (view train.now))) }
+    ensures { OnOk result
+        (map string_bytes names.new.keys
+        ≡ with_names (map string_bytes names.old.keys) (names_of_train (view train.now))) }
 {
     for operation in members(train) {
         add_names_of_operation(alloc, names, operation)?;

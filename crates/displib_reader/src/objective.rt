@@ -12,7 +12,8 @@ use serde_json::Value;
 
 /// How many operations the train has whose number this is, none where there is no such train.
 fn count_at(trains: &[Value], number: Option<&Value>) -> u64
-    ensures { result ≡ count_at (map view trains.now) (whole_in (option_map (λ v. view v.now) number.entry)) }
+    ensures { result ≡ count_at (map view trains.now)
+        (whole_in (option_map (λ v. view v.now) number.entry)) }
 {
     let Some(t) = number.and_then(Value::as_u64) else {
         return 0;
@@ -76,7 +77,8 @@ fn check_costs(rule: Rule, c: u64, value: &Value) -> Result<(), Place>
 /// Tests a rule on the components.
 #[tactic(auto, using(json_claims::proofs::Verdicts::verdict_append))]
 fn check_components(rule: Rule, trains: &[Value], values: &[Value]) -> Result<(), Place>
-    ensures { result ≡ verdict rule (claims_from (component_claims (map view trains.now)) 0 (map view values.now)) }
+    ensures { result ≡ verdict rule
+        (claims_from (component_claims (map view trains.now)) 0 (map view values.now)) }
 {
     for (c, value) in values.iter().enumerate() {
         check_component(rule, trains, c as u64, value)?;

@@ -16,7 +16,8 @@ use std::alloc::Global;
 /// than there is.
 #[tactic(auto, using(crate::proofs::Once::name_place))]
 fn place_of(names: &IndexSet<String>, name: &str) -> Result<u32, Memory>
-    ensures { IfOk result (λ place. place ≡ position_or_len (bytes_eq name.now) (map string_bytes names.now.keys)) }
+    ensures { IfOk result
+        (λ place. place ≡ position_or_len (bytes_eq name.now) (map string_bytes names.now.keys)) }
 {
     let place = names.get_index_of(name).unwrap_or(names.len());
     match u32::try_from(place) {
@@ -41,7 +42,8 @@ fn read_listings(
     names: &IndexSet<String>,
     values: &[Value],
 ) -> Result<List<Listing>, Unread>
-    ensures { Gives result (each (listing_of (map string_bytes names.now.keys)) (map view values.now)) }
+    ensures { Gives result
+        (each (listing_of (map string_bytes names.now.keys)) (map view values.now)) }
 {
     let mut listings = Vec::new(alloc);
     for value in values {

@@ -137,15 +137,15 @@ fn problem_of(alloc: Global, value: &Value) -> Result<Problem, ProblemNo>
 
 /// Reads a problem from its JSON text in the DISPLIB 2025 format.
 ///
-/// Numbers are whole, from 0 to 2147483647. `null` counts as absent, but for a member of a list. Keys
-/// that the format does not name are ignored, and a successor that is named twice counts once.
+/// Numbers are whole, from 0 to 2147483647. `null` counts as absent, but for a member of a list.
+/// Keys that the format does not name are ignored, and a successor that is named twice counts once.
 /// Resources are numbered in order of first appearance.
 ///
 /// # Errors
 ///
 /// The first rule that the text breaks, in the order of the variants of `ProblemNo`: each rule is
-/// tested over the whole text before the next one, and names the first place, train or component that
-/// breaks it. But `Memory` may come in place of any answer.
+/// tested over the whole text before the next one, and names the first place, train or component
+/// that breaks it. But `Memory` may come in place of any answer.
 pub fn read_problem(alloc: Global, bytes: &[u8]) -> Result<Problem, ProblemNo>
     ensures ok { IfOk result (IsReadAs bytes.now) }
     ensures no { IfErr result (IsRefused bytes.now) }

@@ -1,5 +1,5 @@
-// The worked examples of the format, each refusal with its place and its printed text, and the order
-// of the rules.
+// The worked examples of the format, each refusal with its place and its printed text, and the
+// order of the rules.
 use crate::read_problem;
 use std::alloc::Global;
 use std::process::Abort;

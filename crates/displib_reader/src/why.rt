@@ -65,7 +65,8 @@ impl Kind {
 
 /// Adds the place of an operation.
 fn write_operation(text: &mut String, t: u64, o: u64) -> Result<(), Memory>
-    ensures { OnOk result (Adds (string_bytes text.old) (string_bytes text.new) (operation_text t o)) }
+    ensures { OnOk result
+        (Adds (string_bytes text.old) (string_bytes text.new) (operation_text t o)) }
 {
     write!(text, "/trains/{t}/{o}")?;
     Ok(())
@@ -74,7 +75,8 @@ fn write_operation(text: &mut String, t: u64, o: u64) -> Result<(), Memory>
 /// Adds the place of a listing.
 #[tactic(auto, using(plain_values::proofs::Added::joined))]
 fn write_listing(text: &mut String, t: u64, o: u64, k: u64) -> Result<(), Memory>
-    ensures { OnOk result (Adds (string_bytes text.old) (string_bytes text.new) (listing_text t o k)) }
+    ensures { OnOk result
+        (Adds (string_bytes text.old) (string_bytes text.new) (listing_text t o k)) }
 {
     write_operation(text, t, o)?;
     write_member(text, "/resources/", k)?;
@@ -83,7 +85,8 @@ fn write_listing(text: &mut String, t: u64, o: u64, k: u64) -> Result<(), Memory
 
 /// Adds a word and a number.
 fn write_member(text: &mut String, word: &str, number: u64) -> Result<(), Memory>
-    ensures { OnOk result (Adds (string_bytes text.old) (string_bytes text.new) (word.now ++ decimal number)) }
+    ensures { OnOk result
+        (Adds (string_bytes text.old) (string_bytes text.new) (word.now ++ decimal number)) }
 {
     write!(text, "{word}{number}")?;
     Ok(())
@@ -91,7 +94,8 @@ fn write_member(text: &mut String, word: &str, number: u64) -> Result<(), Memory
 
 /// Adds a word and the number of a component.
 fn write_index(text: &mut String, word: &str, number: u32) -> Result<(), Memory>
-    ensures { OnOk result (Adds (string_bytes text.old) (string_bytes text.new) (word.now ++ decimal number)) }
+    ensures { OnOk result
+        (Adds (string_bytes text.old) (string_bytes text.new) (word.now ++ decimal number)) }
 {
     write!(text, "{word}{number}")?;
     Ok(())
@@ -115,7 +119,8 @@ fn write_key(text: &mut String, key: &str) -> Result<(), Memory>
 
 /// Adds a word and a place.
 fn write_at(text: &mut String, word: &str, place: Place) -> Result<(), Memory>
-    ensures { OnOk result (Adds (string_bytes text.old) (string_bytes text.new) (word.now ++ place_text place)) }
+    ensures { OnOk result
+        (Adds (string_bytes text.old) (string_bytes text.new) (word.now ++ place_text place)) }
 {
     text.push_str(word)?;
     place.write(text)?;
@@ -126,7 +131,8 @@ impl Place {
     /// Adds the place as a JSON pointer; the root is written `/`.
     #[tactic(auto, using(plain_values::proofs::Added::joined))]
     fn write(self, text: &mut String) -> Result<(), Memory>
-        ensures { OnOk result (Adds (string_bytes text.old) (string_bytes text.new) (place_text self)) }
+        ensures { OnOk result
+            (Adds (string_bytes text.old) (string_bytes text.new) (place_text self)) }
     {
         match self {
             Place::Root => write!(text, "/")?,
@@ -155,10 +161,11 @@ impl Place {
 }
 
 impl ProblemNo {
-    /// Adds the text that is printed for the refusal: its name, then its numbers and places, with one
-    /// space between. Where memory runs out the text is as before.
+    /// Adds the text that is printed for the refusal: its name, then its numbers and places, with
+    /// one space between. Where memory runs out the text is as before.
     pub fn write(&self, text: &mut String) -> Result<(), Memory>
-        ensures ok { OnOk result (string_bytes text.new ≡ string_bytes text.old ++ why_text self.now) }
+        ensures ok { OnOk result
+            (string_bytes text.new ≡ string_bytes text.old ++ why_text self.now) }
         ensures err { OnErr result (string_bytes text.new ≡ string_bytes text.old) }
     {
         let mut why = String::new(*text.allocator());
@@ -169,7 +176,8 @@ impl ProblemNo {
 
     /// Adds the text that is printed for the refusal.
     fn add(&self, text: &mut String) -> Result<(), Memory>
-        ensures { OnOk result (Adds (string_bytes text.old) (string_bytes text.new) (why_text self.now)) }
+        ensures { OnOk result
+            (Adds (string_bytes text.old) (string_bytes text.new) (why_text self.now)) }
     {
         match *self {
             ProblemNo::NotJson => write!(text, "NotJson")?,

@@ -6,7 +6,8 @@ use crate::ticket::Ticket;
 use std::alloc::{AllocError, Global};
 use std::collections::BTreeMap;
 
-/// The count of one name: what was counted in calls, and a link for each closed feed that had failed.
+/// The count of one name: what was counted in calls, and a link for each closed feed that had
+/// failed.
 #[derive(Drop)]
 pub struct FaultCount {
     pub is_known: bool,
@@ -53,11 +54,13 @@ impl FaultCounts {
         }
     }
 
-    /// Makes a place for the name's count, and sees that the count can rise. A count at its last value has no room.
+    /// Makes a place for the name's count, and sees that the count can rise. A count at its last
+    /// value has no room.
     #[tactic(auto, using(std::proofs::lemmas::Map::Text::text_keys))]
     pub fn make_room(&mut self, alloc: Global, name: &str) -> Result<(), AllocError>
         ensures room { OnOk result (HasRoom self.new name.now) }
-        ensures counts { (other : List ℕ) → fault_count self.new other ≡ fault_count self.old other }
+        ensures counts { (other : List ℕ) → fault_count self.new other
+            ≡ fault_count self.old other }
         ensures names { (other : List ℕ) → Knows self.new other ↔ Knows self.old other }
     {
         if let Some(count) = self.counts.get(name) {
@@ -83,7 +86,8 @@ impl FaultCounts {
         requires { HasRoom self.old name.now }
         ensures known { Knows self.new name.now }
         ensures names { (other : List ℕ) → Knows self.old other → Knows self.new other }
-        ensures counts { (other : List ℕ) → fault_count self.new other ≡ fault_count self.old other }
+        ensures counts { (other : List ℕ) → fault_count self.new other
+            ≡ fault_count self.old other }
     {
         if let Some(count) = self.counts.get_mut(name) {
             count.is_known = true;
@@ -97,7 +101,8 @@ impl FaultCounts {
         ensures known { Knows self.new name.now }
         ensures names { (other : List ℕ) → Knows self.old other → Knows self.new other }
         ensures counted { fault_count self.new name.now ≡ fault_count self.old name.now + 1 }
-        ensures other_counts { (other : List ℕ) → other ≢ name.now → fault_count self.new other ≡ fault_count self.old other }
+        ensures other_counts { (other : List ℕ) → other ≢ name.now → fault_count self.new other
+            ≡ fault_count self.old other }
     {
         if let Some(count) = self.counts.get_mut(name) {
             count.counted += 1;
@@ -110,8 +115,10 @@ impl FaultCounts {
     pub fn add_closed(&mut self, ticket: Ticket)
         requires { Knows self.old (string_bytes ticket.name) }
         ensures names { (other : List ℕ) → Knows self.old other ↔ Knows self.new other }
-        ensures counted { fault_count self.new (string_bytes ticket.name) ≡ fault_count self.old (string_bytes ticket.name) + 1 }
-        ensures other_counts { (other : List ℕ) → other ≢ string_bytes ticket.name → fault_count self.new other ≡ fault_count self.old other }
+        ensures counted { fault_count self.new (string_bytes ticket.name)
+            ≡ fault_count self.old (string_bytes ticket.name) + 1 }
+        ensures other_counts { (other : List ℕ) → other ≢ string_bytes ticket.name
+            → fault_count self.new other ≡ fault_count self.old other }
     {
         let Ticket { name, link } = ticket;
         if let Some(count) = self.counts.get_mut(name.as_str()) {

@@ -14,8 +14,8 @@ use disp_model::{Change, Copied, Fixing, Memory, Problem, Refusal, Reply};
 use std::alloc::Global;
 use std::marker::Model;
 
-/// A problem and the changes that are accepted, in their order. They are an edition's: each was accepted
-/// behind the ones before it.
+/// A problem and the changes that are accepted, in their order. They are an edition's: each was
+/// accepted behind the ones before it.
 #[derive(Drop)]
 pub struct Editions {
     problem: Problem,
@@ -71,8 +71,8 @@ impl Editions {
         self.changes.as_slice()
     }
 
-    /// The fixings that stand, in order. It takes no memory, and time linear in the changes where one was
-    /// taken back since the last call.
+    /// The fixings that stand, in order. It takes no memory, and time linear in the changes where
+    /// one was taken back since the last call.
     pub fn fixings(&mut self) -> &[Fixing]
         ensures* rests { sem 𝓛 (RestsAs self.entry) }
         ensures all { result.now ≡ standing_of self.old.changes }
@@ -83,9 +83,10 @@ impl Editions {
         self.kept.standing.as_slice()
     }
 
-    /// Asks for a change. An accepted one is added behind the others, and makes the edition of their number;
-    /// nothing else changes them. A fixing takes time linear in the operations of its train, their successors
-    /// and that train's own fixings that stand, a withdrawal in those fixings alone.
+    /// Asks for a change. An accepted one is added behind the others, and makes the edition of
+    /// their number; nothing else changes them. A fixing takes time linear in the operations of its
+    /// train, their successors and that train's own fixings that stand, a withdrawal in those
+    /// fixings alone.
     pub fn ask(&mut self, change: Change) -> Result<Reply, Memory>
         ensures reply { IfOk result (λ reply.
             IsReply self.old.problem self.old.changes change reply) }
@@ -166,7 +167,8 @@ impl Editions {
 
     /// Adds a withdrawal of this fixing that is accepted.
     fn accept_withdrawal(&mut self, by: u32, number: u64, fixing: Fixing) -> Result<(), Memory>
-        requires accepted { IsReply self.old.problem self.old.changes (Withdraw number) (Accepted by) }
+        requires accepted { IsReply self.old.problem self.old.changes (Withdraw number)
+            (Accepted by) }
         requires there { change_at self.old.changes number ≡ Some (Fix fixing) }
         ensures ok { OnOk result
             (self.new ≡ with_changes self.old (self.old.changes ++ Withdraw number ∷ [])) }

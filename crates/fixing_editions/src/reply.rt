@@ -50,8 +50,8 @@ fn reply_to_new(
     Ok(counted(changes))
 }
 
-/// The reply to a fixing that starts an operation which is not fixed to start, with the time before which
-/// it is fixed not to.
+/// The reply to a fixing that starts an operation which is not fixed to start, with the time before
+/// which it is fixed not to.
 fn reply_from_earliest(
     alloc: Global,
     problem: &Problem,

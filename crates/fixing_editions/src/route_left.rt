@@ -20,7 +20,8 @@ fn allows(wish: Wish, next: u32) -> bool
     }
 }
 
-/// Whether a way of wanted operations may end at the operation, where none is wanted of those so far.
+/// Whether a way of wanted operations may end at the operation, where none is wanted of those so
+/// far.
 fn can_end(operation: &Operation, wish: Wish, count: usize) -> bool
     ensures { IsTrue result ↔ CanEnd operation.now wish count }
 {
@@ -39,11 +40,12 @@ fn can_go_on(operation: &Operation, wish: Wish, held: &[Option<usize>], count: u
         && held[*next as usize] == Some(count))
 }
 
-/// Whether the operation has a way with all that is wanted of the operations so far, by what is held of its
-/// successors.
+/// Whether the operation has a way with all that is wanted of the operations so far, by what is
+/// held of its successors.
 fn has_way(operation: &Operation, wish: Wish, held: &[Option<usize>], count: usize) -> bool
     requires { All (λ s. s < length held.now) operation.now.next }
-    ensures { IsTrue result ↔ (CanEnd operation.now wish count ⊎ CanGoOn operation.now wish held.now count) }
+    ensures { IsTrue result
+        ↔ (CanEnd operation.now wish count ⊎ CanGoOn operation.now wish held.now count) }
 {
     can_end(operation, wish, count) || can_go_on(operation, wish, held, count)
 }
@@ -67,9 +69,9 @@ fn holding(holds: bool, count: usize) -> Option<usize>
     if holds { Some(count) } else { None }
 }
 
-/// Whether a way to the exit has all that is wanted, by an order of the train's operations from the exit
-/// back. Of each operation it keeps how many wanted ones it has on a way, where it has a way with all of
-/// those so far.
+/// Whether a way to the exit has all that is wanted, by an order of the train's operations from the
+/// exit back. Of each operation it keeps how many wanted ones it has on a way, where it has a way
+/// with all of those so far.
 fn sweep(alloc: Global, train: &[Operation], wishes: &[Wish], order: &[u32]) -> Result<bool, Memory>
     requires inside { IsInside train.now }
     requires acyclic { IsAcyclic train.now }
@@ -91,8 +93,8 @@ fn sweep(alloc: Global, train: &[Operation], wishes: &[Wish], order: &[u32]) -> 
     Ok(holds)
 }
 
-/// Whether some route of the train agrees with its fixings and one more. Takes time linear in the train's
-/// operations, their successors and its fixings.
+/// Whether some route of the train agrees with its fixings and one more. Takes time linear in the
+/// train's operations, their successors and its fixings.
 pub(crate) fn has_route(
     alloc: Global,
     train: &[Operation],

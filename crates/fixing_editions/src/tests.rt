@@ -12,7 +12,15 @@ use std::test::Fail;
 
 /// An operation that lasts so long, with what it lists and what may come next.
 fn lasting(alloc: Global, min: u32, listings: &[Listing], next: &[u32]) -> Result<Operation, Memory>
-    ensures { IfOk result (λ o. o ≡ record { lower = 0; upper = None; min = min; listings = listings.now; next = next.now }) }
+    ensures { IfOk result
+        (λ o. o ≡ record {
+          lower = 0;
+          upper = None;
+          min = min;
+          listings = listings.now;
+          next =
+              next.now;
+        }) }
 {
     Ok(Operation {
         lower: 0,
@@ -25,7 +33,16 @@ fn lasting(alloc: Global, min: u32, listings: &[Listing], next: &[u32]) -> Resul
 
 /// A train that holds the resource for so long, then reaches its exit.
 fn holding(alloc: Global, min: u32) -> Result<Train, Memory>
-    ensures { IfOk result (λ t. t ≡ record { lower = 0; upper = None; min = min; listings = record { resource = 0; release = 0 } ∷ []; next = 1 ∷ [] } ∷ record { lower = 0; upper = None; min = 0; listings = []; next = [] } ∷ []) }
+    ensures { IfOk result
+        (λ t. t ≡ record {
+          lower = 0;
+          upper = None;
+          min = min;
+          listings =
+              record { resource = 0; release = 0 } ∷ [];
+          next = 1 ∷ [];
+        }
+        ∷ record { lower = 0; upper = None; min = 0; listings = []; next = [] } ∷ []) }
 {
     let listing = Listing {
         resource: 0,

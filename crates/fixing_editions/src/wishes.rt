@@ -19,7 +19,8 @@ pub(crate) enum Wish {
 /// What a wish and a fixing of the same operation ask together, where some route may meet both.
 fn joined(wish: Wish, fixing: &Fixing) -> Option<Wish>
     ensures some { IfSome result (λ both. Joins wish fixing.now both) }
-    ensures none { IfNone result ((route : List ℕ) → Meets route (op_of fixing.now) wish → Agrees route fixing.now → ⊥) }
+    ensures none { IfNone result ((route : List ℕ) → Meets route (op_of fixing.now) wish
+        → Agrees route fixing.now → ⊥) }
 {
     match (*fixing, wish) {
         (Fixing::Started { .. }, Wish::Free) => Some(Wish::Visited),
@@ -56,7 +57,8 @@ fn op_of(fixing: &Fixing) -> u64
     }
 }
 
-/// Adds what a fixing asks to the wishes of its train, and says whether some route may meet them all.
+/// Adds what a fixing asks to the wishes of its train, and says whether some route may meet them
+/// all.
 fn add(wishes: &mut Vec<Wish>, fixing: &Fixing) -> bool
     ensures added { IsTrue result → Adds wishes.old.items fixing.now wishes.new.items }
     ensures none { IsFalse result → Clashes wishes.old.items fixing.now }
@@ -77,8 +79,8 @@ fn add(wishes: &mut Vec<Wish>, fixing: &Fixing) -> bool
     }
 }
 
-/// What the fixings ask of each operation of their train, of so many operations, where some route may meet
-/// them all.
+/// What the fixings ask of each operation of their train, of so many operations, where some route
+/// may meet them all.
 pub(crate) fn wishes_of(
     alloc: Global,
     count: usize,

@@ -143,10 +143,11 @@ fn see_end<F: Feed>(feed: &mut F, line: &mut LineBuf) -> Result<(), FileNo>
 ///
 /// # Errors
 ///
-/// `Line` with the number of the first line that asks for no change (an empty one and `show` too), has more
-/// than 256 bytes, asks for a change that is refused, or is the line 1048577, and why: the changes then are
-/// those of the lines before, and no line behind is read. `Failed` exactly where the feed failed; then, and
-/// where memory ran out, the changes are those of the first so many lines.
+/// `Line` with the number of the first line that asks for no change (an empty one and `show` too),
+/// has more than 256 bytes, asks for a change that is refused, or is the line 1048577, and why: the
+/// changes then are those of the lines before, and no line behind is read. `Failed` exactly where
+/// the feed failed; then, and where memory ran out, the changes are those of the first so many
+/// lines.
 pub fn take_fixings<F: Feed>(feed: &mut F, editions: &mut Editions) -> Result<(), FileNo>
     requires new { editions.old.changes ≡ [] }
     requires open { F.has_ended feed.old ≡ false }

@@ -80,8 +80,8 @@ fn stopped(alloc: Global, edition: u32, spent: u64, bound: u64) -> Result<String
     Ok(text)
 }
 
-/// The line of an entry in the journal, with its LF. A growth of the tree has no line: the bytes are
-/// none then.
+/// The line of an entry in the journal, with its LF. A growth of the tree has no line: the bytes
+/// are none then.
 pub fn write_entry(alloc: Global, entry: &Entry) -> Result<Vec<u8>, Memory>
     ensures text { IfOk result (λ bytes. bytes.items ≡ entry_text entry.now) }
 {

@@ -1,6 +1,6 @@
 // The lines of feeds and of the journal. `read_request` answers what a line asks exactly where the
-// line is that request's text (`specs/Requests.antt`). `write_entry` gives the line of an entry of the
-// history, byte for byte (`specs/Entries.antt`).
+// line is that request's text (`specs/Requests.antt`). `write_entry` gives the line of an entry of
+// the history, byte for byte (`specs/Entries.antt`).
 #![tactic(auto)]
 
 mod entry;

@@ -10,7 +10,8 @@ use std::alloc::Global;
 
 /// Adds the feed and the number of a line.
 pub(crate) fn push_line(text: &mut String, feed: u32, line: u64) -> Result<(), Memory>
-    ensures { OnOk result (Adds (string_bytes text.old) (string_bytes text.new) (line_text feed line)) }
+    ensures { OnOk result
+        (Adds (string_bytes text.old) (string_bytes text.new) (line_text feed line)) }
 {
     write!(text, "feed {feed} line {line} ")?;
     Ok(())
@@ -18,7 +19,8 @@ pub(crate) fn push_line(text: &mut String, feed: u32, line: u64) -> Result<(), M
 
 /// Adds the line that asks for a fixing.
 fn push_fixing(text: &mut String, fixing: Fixing) -> Result<(), Memory>
-    ensures { OnOk result (Adds (string_bytes text.old) (string_bytes text.new) (fixing_text fixing)) }
+    ensures { OnOk result
+        (Adds (string_bytes text.old) (string_bytes text.new) (fixing_text fixing)) }
 {
     match fixing {
         Fixing::Started {
@@ -79,7 +81,8 @@ fn refusal_text(alloc: Global, refusal: Refusal) -> Result<String, Memory>
 ///
 /// Where memory runs out the text is as before.
 pub fn push_refusal(text: &mut String, refusal: Refusal) -> Result<(), Memory>
-    ensures ok { OnOk result (Adds (string_bytes text.old) (string_bytes text.new) (refusal_text refusal)) }
+    ensures ok { OnOk result
+        (Adds (string_bytes text.old) (string_bytes text.new) (refusal_text refusal)) }
     ensures err { OnErr result (string_bytes text.new ≡ string_bytes text.old) }
 {
     let alloc = *text.allocator();
@@ -90,7 +93,8 @@ pub fn push_refusal(text: &mut String, refusal: Refusal) -> Result<(), Memory>
 
 /// Adds the reply to a change.
 pub(crate) fn push_reply(text: &mut String, reply: Reply) -> Result<(), Memory>
-    ensures { OnOk result (Adds (string_bytes text.old) (string_bytes text.new) (reply_text reply)) }
+    ensures { OnOk result
+        (Adds (string_bytes text.old) (string_bytes text.new) (reply_text reply)) }
 {
     match reply {
         Reply::Accepted(number) => write!(text, "accepted {number}")?,
@@ -139,7 +143,8 @@ fn push_best(text: &mut String, best: Option<u64>) -> Result<(), Memory>
 
 /// Adds where the search stands.
 pub(crate) fn push_standing(text: &mut String, standing: Standing) -> Result<(), Memory>
-    ensures { OnOk result (Adds (string_bytes text.old) (string_bytes text.new) (standing_text standing)) }
+    ensures { OnOk result
+        (Adds (string_bytes text.old) (string_bytes text.new) (standing_text standing)) }
 {
     let Standing {
         edition,
@@ -154,7 +159,8 @@ pub(crate) fn push_standing(text: &mut String, standing: Standing) -> Result<(),
 
 /// Adds a verdict.
 pub(crate) fn push_verdict(text: &mut String, verdict: Verdict) -> Result<(), Memory>
-    ensures { OnOk result (Adds (string_bytes text.old) (string_bytes text.new) (verdict_text verdict)) }
+    ensures { OnOk result
+        (Adds (string_bytes text.old) (string_bytes text.new) (verdict_text verdict)) }
 {
     match verdict {
         Verdict::Optimal(cost) => write!(text, "optimal {cost}")?,

@@ -47,9 +47,9 @@ fn asked(line: &[u8]) -> Option<Change>
 }
 
 /// What a line, without its end, asks: `started TRAIN OP TIME`, `chosen TRAIN OP SUCC`,
-/// `notbefore TRAIN OP TIME`, `withdraw N` or `show`, with one space between two fields and none before
-/// or behind. A number is decimal, without needless zeros, and at most 18446744073709551615. Every other
-/// line is unreadable, the empty line too. It takes no memory.
+/// `notbefore TRAIN OP TIME`, `withdraw N` or `show`, with one space between two fields and none
+/// before or behind. A number is decimal, without needless zeros, and at most 18446744073709551615.
+/// Every other line is unreadable, the empty line too. It takes no memory.
 pub fn read_request(line: &[u8]) -> Request
     ensures exact { (request : Request) → (result ≡ request) ↔ Reads line.now request }
 {

@@ -33,8 +33,8 @@ fn started(time: u64) -> Fixing {
     }
 }
 
-/// What is answered to a file of these bytes, whose calls of these numbers break, and the fixings that
-/// stand then.
+/// What is answered to a file of these bytes, whose calls of these numbers break, and the fixings
+/// that stand then.
 fn taken(
     alloc: Global,
     bytes: &[u8],

@@ -71,7 +71,8 @@ impl<A: Allocator> Least<A> {
 
     /// A cell with nothing put, and its first pass.
     pub fn new(alloc: A) -> Result<(Least<A>, CellPass), Memory>
-        ensures { IfOk result (λ made. (own_cell made.1 ≡ cell_of made.0) × (known made.1 ≡ knows_nothing)) }
+        ensures { IfOk result (λ made. (own_cell made.1 ≡ cell_of made.0)
+            × (known made.1 ≡ knows_nothing)) }
     {
         let (table, seat) = Table::of_words(alloc, &[OPENING], &())?;
         Ok((Least { table }, CellPass { seat }))
@@ -80,8 +81,10 @@ impl<A: Allocator> Least<A> {
     /// A second pass, for another thread, which begins with what this one knows.
     pub fn split(&self, pass: &mut CellPass) -> CellPass
         requires { own_cell pass.old ≡ cell_of self.now }
-        ensures cell { (own_cell pass.new ≡ own_cell pass.old) × (own_cell result ≡ own_cell pass.old) }
-        ensures known { (known pass.new ≡ halved (known pass.old)) × (known result ≡ halved (known pass.old)) }
+        ensures cell { (own_cell pass.new ≡ own_cell pass.old)
+            × (own_cell result ≡ own_cell pass.old) }
+        ensures known { (known pass.new ≡ halved (known pass.old))
+            × (known result ≡ halved (known pass.old)) }
     {
         let seat = self.table.shared.split_seat::<Halves>(&mut pass.seat);
         CellPass { seat }
@@ -109,20 +112,24 @@ impl<A: Allocator> Least<A> {
         self.table.shared.fetch_min::<Put>(&mut pass.seat, 0, code);
     }
 
-    /// The newest edition and its least cost, `None` where that is saturated, as one load found them.
+    /// The newest edition and its least cost, `None` where that is saturated, as one load found
+    /// them.
     pub fn least(&self, pass: &mut CellPass) -> (u32, Option<u64>)
         requires { own_cell pass.old ≡ cell_of self.now }
         ensures cell { own_cell pass.new ≡ own_cell pass.old }
-        ensures found { (code : ℕ) × (result ≡ (edition_in code, cost_in code)) × (known pass.new ≡ with_found (known pass.old) code) × Stands (known pass.old) code }
+        ensures found { (code : ℕ) × (result ≡ (edition_in code, cost_in code))
+            × (known pass.new ≡ with_found (known pass.old) code) × Stands (known pass.old) code }
     {
         let found = self.table.shared.load::<Find>(&mut pass.seat, 0);
         answer_of(found)
     }
 
-    /// Ends the cell, and answers the least of all that was put. A pass that is whole knows all that was put.
+    /// Ends the cell, and answers the least of all that was put. A pass that is whole knows all
+    /// that was put.
     pub fn close(self, pass: CellPass) -> (u32, Option<u64>)
         requires { own_cell pass ≡ cell_of self }
-        ensures { (code : ℕ) × (result ≡ (edition_in code, cost_in code)) × Stands (known pass) code }
+        ensures { (code : ℕ) × (result ≡ (edition_in code, cost_in code))
+            × Stands (known pass) code }
     {
         let Least { table } = self;
         let CellPass { seat } = pass;

@@ -1,8 +1,9 @@
 //! The least cost of the newest edition, in one atomic word that any number of threads share.
 //!
-//! The word is the least of its opening value and of all codes that were put, and `close` answers it.
-//! What `least` answers is at most each code that its pass has read or put: a pass never reads back up.
-//! A pass that no other is left beside knows the word exactly. No call waits, and only `new` takes memory.
+//! The word is the least of its opening value and of all codes that were put, and `close` answers
+//! it. What `least` answers is at most each code that its pass has read or put: a pass never reads
+//! back up. A pass that no other is left beside knows the word exactly. No call waits, and only
+//! `new` takes memory.
 #![tactic(auto)]
 
 mod cell;

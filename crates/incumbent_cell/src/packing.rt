@@ -1,4 +1,5 @@
-//! An edition and a cost in one number. A newer edition has the smaller code, and in one edition the smaller cost has.
+//! An edition and a cost in one number. A newer edition has the smaller code, and in one edition
+//! the smaller cost has.
 ghost use Rattle.std.specs.Prelude.{◌≡◌, ℕ, ◌^◌, ◌<◌, ◌≤◌, ◌↔◌};
 ghost use Rattle.incumbent_cell.specs.Code.{packed, edition_in, cost_in, told_cost, IsNoWorse};
 
@@ -15,7 +16,9 @@ pub fn code_of(edition: u32, cost: u64) -> u64
     requires { edition ≤ 65535 }
     ensures value { result ≡ packed edition cost }
     ensures bound { result < 2 ^ 63 }
-    ensures order { (other_edition other_cost : ℕ) → other_edition ≤ 65535 → (result ≤ packed other_edition other_cost) ↔ IsNoWorse edition cost other_edition other_cost }
+    ensures order { (other_edition other_cost : ℕ) → other_edition ≤ 65535
+        → (result ≤ packed other_edition other_cost)
+        ↔ IsNoWorse edition cost other_edition other_cost }
 {
     u64::from(NEWEST - edition) * SPAN + cost.min(SATURATED)
 }
@@ -24,7 +27,8 @@ pub fn code_of(edition: u32, cost: u64) -> u64
 pub fn answer_of(code: u64) -> (u32, Option<u64>)
     requires { code < 2 ^ 63 }
     ensures value { result ≡ (edition_in code, cost_in code) }
-    ensures undoes { (edition cost : ℕ) → edition ≤ 65535 → code ≡ packed edition cost → result ≡ (edition, told_cost cost) }
+    ensures undoes { (edition cost : ℕ) → edition ≤ 65535 → code ≡ packed edition cost → result
+        ≡ (edition, told_cost cost) }
 {
     let cost = code % SPAN;
     let edition = NEWEST - (code / SPAN) as u32;

@@ -89,7 +89,8 @@ pub fn text_at<'a>(value: &'a Value, key: &str) -> Option<&'a str>
 /// The values of an array.
 #[tactic(auto, using(crate::proofs::Values::values_of_view))]
 pub fn elements(value: &Value) -> Option<&[Value]>
-    ensures { option_map (λ s. map view s.now) result ≡ option_map values_of (as_array (view value.now)) }
+    ensures { option_map (λ s. map view s.now) result
+        ≡ option_map values_of (as_array (view value.now)) }
 {
     match value.as_array() {
         Some(values) => Some(values.as_slice()),

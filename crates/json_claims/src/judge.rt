@@ -86,7 +86,8 @@ fn judge<P: Copy>(
     needed: bool,
     found: Option<&Value>,
 ) -> Result<(), P>
-    ensures { result ≡ judged rule (claim place want needed (option_map (λ v. view v.now) found.entry)) }
+    ensures { result ≡ judged rule
+        (claim place want needed (option_map (λ v. view v.now) found.entry)) }
 {
     let broken = match rule {
         Rule::Shape => is_misshapen(want, needed, found),
@@ -99,14 +100,16 @@ fn judge<P: Copy>(
 
 /// Tests a rule where a value is needed.
 pub fn need<P: Copy>(rule: Rule, place: P, want: Want, found: Option<&Value>) -> Result<(), P>
-    ensures { result ≡ judged rule (needed_claim place want (option_map (λ v. view v.now) found.entry)) }
+    ensures { result ≡ judged rule
+        (needed_claim place want (option_map (λ v. view v.now) found.entry)) }
 {
     judge(rule, place, want, true, found)
 }
 
 /// Tests a rule where a value may be absent.
 pub fn allow<P: Copy>(rule: Rule, place: P, want: Want, found: Option<&Value>) -> Result<(), P>
-    ensures { result ≡ judged rule (optional place want (option_map (λ v. view v.now) found.entry)) }
+    ensures { result ≡ judged rule
+        (optional place want (option_map (λ v. view v.now) found.entry)) }
 {
     judge(rule, place, want, false, found)
 }

@@ -1,9 +1,10 @@
 //! What a format in JSON asks of a text, and how its parts are read.
 //!
-//! A format states claims in document order, each on what stands at one place, and names places by a type of its own.
-//! `need` and `allow` judge one claim by one rule, so that a walk along the claims ends at the first place that breaks it.
-//! `field` and what stands beside it read numbers, texts and lists at keys: `null` counts as absent.
-//! `read_json` gives the JSON value of bytes, or says that there is none.
+//! A format states claims in document order, each on what stands at one place, and names places by
+//! a type of its own. `need` and `allow` judge one claim by one rule, so that a walk along the
+//! claims ends at the first place that breaks it. `field` and what stands beside it read numbers,
+//! texts and lists at keys: `null` counts as absent. `read_json` gives the JSON value of bytes, or
+//! says that there is none.
 #![tactic(auto)]
 
 mod fields;

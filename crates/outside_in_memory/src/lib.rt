@@ -1,7 +1,7 @@
 //! The outside world in memory, for tests: shelves, feeds and sinks that tell all that they hold.
 //!
-//! `MemShelf`, `MemFeed` and `MemSink` fail in the calls that they are told to, and in no other; `SteadyShelf`,
-//! `SteadyFeed` and `SteadySink` never fail, but for want of memory.
+//! `MemShelf`, `MemFeed` and `MemSink` fail in the calls that they are told to, and in no other;
+//! `SteadyShelf`, `SteadyFeed` and `SteadySink` never fail, but for want of memory.
 #![tactic(auto)]
 
 mod broken_write;

@@ -43,7 +43,8 @@ impl MemFeed {
     /// What the feed is closed with, where a call has failed.
     pub(crate) fn into_fault(self) -> Option<Ticket>
         ensures none { IfNone result (fault_count self ≡ 0) }
-        ensures some { IfSome result (λ ticket. (0 < fault_count self) × (string_bytes ticket.name ≡ feed_name self)) }
+        ensures some { IfSome result (λ ticket. (0 < fault_count self)
+            × (string_bytes ticket.name ≡ feed_name self)) }
     {
         match self.state {
             FeedState::Broken => Some(self.ticket),
@@ -65,19 +66,25 @@ impl Feed for MemFeed {
     ghost has_ended = { λ feed. has_ended feed };
 
     fn line(&mut self, into: &mut LineBuf) -> FeedLine
-        ensures got { result ≡ FeedLine.Got → Gives (Some (lines_left self.old)) (Some (lines_left self.new)) into.new }
-        ensures long { result ≡ FeedLine.Long → Skips (Some (lines_left self.old)) (Some (lines_left self.new)) }
-        ensures end { result ≡ FeedLine.End → (has_ended self.old ≡ true) ⊎ NoneLeft (Some (lines_left self.old)) }
-        ensures kept { is_last result ≡ true → Some (lines_left self.new) ≡ Some (lines_left self.old) }
+        ensures got { result ≡ FeedLine.Got
+            → Gives (Some (lines_left self.old)) (Some (lines_left self.new)) into.new }
+        ensures long { result ≡ FeedLine.Long
+            → Skips (Some (lines_left self.old)) (Some (lines_left self.new)) }
+        ensures end { result ≡ FeedLine.End → (has_ended self.old ≡ true)
+            ⊎ NoneLeft (Some (lines_left self.old)) }
+        ensures kept { is_last result ≡ true → Some (lines_left self.new)
+            ≡ Some (lines_left self.old) }
         ensures ended { has_ended self.new ≡ is_last result }
         ensures over { has_ended self.old ≡ true → result ≡ FeedLine.End }
-        ensures failed { (result ≡ FeedLine.Failed) ↔ (fault_count self.old < fault_count self.new) }
+        ensures failed { (result ≡ FeedLine.Failed)
+            ↔ (fault_count self.old < fault_count self.new) }
         ensures counted { fault_count self.old ≤ fault_count self.new }
         ensures name { feed_name self.new ≡ feed_name self.old }
 
         // It fails exactly in the calls of the list, while it has not ended.
         ensures breaks { (result ≡ FeedLine.Failed)
-            ↔ ((has_ended self.old ≡ false) × Contains (broken_calls self.old) (call_count self.old + 1)) }
+            ↔ ((has_ended self.old ≡ false)
+            × Contains (broken_calls self.old) (call_count self.old + 1)) }
         ensures calls { is_last result ≡ false → call_count self.new ≡ call_count self.old + 1 }
         ensures list { broken_calls self.new ≡ broken_calls self.old }
     {

@@ -28,8 +28,10 @@ impl MemFile {
         ensures too_long { IsErrOf result FetchNo.TooLong → limit < length self.old.bytes.items }
 
         // It breaks exactly in the readings of the list.
-        ensures failed { IsErrOf result FetchNo.Failed → Contains self.old.broken.items (self.old.calls + 1) }
-        ensures broken { Contains self.old.broken.items (self.old.calls + 1) → IsErrOf result FetchNo.Failed ⊎ IsErrOf result FetchNo.Memory }
+        ensures failed { IsErrOf result FetchNo.Failed
+            → Contains self.old.broken.items (self.old.calls + 1) }
+        ensures broken { Contains self.old.broken.items (self.old.calls + 1)
+            → IsErrOf result FetchNo.Failed ⊎ IsErrOf result FetchNo.Memory }
 
         ensures counted { IsCounted result self.old.calls self.new.calls }
         ensures held { self.new.bytes ≡ self.old.bytes }
@@ -66,8 +68,10 @@ impl MemFile {
         ensures first { IfOk result (λ feed. call_count feed ≡ 0) }
 
         // It breaks exactly in the readings of the list.
-        ensures failed { IsErrOf result FeedNo.Failed → Contains self.old.broken.items (self.old.calls + 1) }
-        ensures broken { Contains self.old.broken.items (self.old.calls + 1) → IsErrOf result FeedNo.Failed ⊎ IsErrOf result FeedNo.Memory }
+        ensures failed { IsErrOf result FeedNo.Failed
+            → Contains self.old.broken.items (self.old.calls + 1) }
+        ensures broken { Contains self.old.broken.items (self.old.calls + 1)
+            → IsErrOf result FeedNo.Failed ⊎ IsErrOf result FeedNo.Memory }
 
         ensures counted { IsOpeningCounted result self.old.calls self.new.calls }
         ensures held { self.new.bytes ≡ self.old.bytes }

@@ -19,7 +19,9 @@ fn first_line(bytes: &[u8]) -> &[u8]
 fn line_from(bytes: &[u8], at: usize) -> Option<&[u8]>
     requires { at ≤ length bytes.now }
     ensures none { IfNone result (lines_of (drop at bytes.now) ≡ []) }
-    ensures line { IfSome result (λ line. lines_of (drop at bytes.now) ≡ line.now ∷ lines_of (drop (at + length line.now) bytes.now)) }
+    ensures line { IfSome result
+        (λ line. lines_of (drop at bytes.now)
+        ≡ line.now ∷ lines_of (drop (at + length line.now) bytes.now)) }
     ensures within { IfSome result (λ line. at + length line.now ≤ length bytes.now) }
     ensures some { IfSome result (λ line. 0 < length line.now) }
 {
@@ -70,9 +72,12 @@ impl MemLines {
 
     /// The next line. It never fails.
     pub fn next(&mut self, into: &mut LineBuf) -> FeedLine
-        ensures got { result ≡ FeedLine.Got → Gives (Some (lines_left self.old)) (Some (lines_left self.new)) into.new }
-        ensures long { result ≡ FeedLine.Long → Skips (Some (lines_left self.old)) (Some (lines_left self.new)) }
-        ensures end { result ≡ FeedLine.End → (lines_left self.old ≡ []) × (lines_left self.new ≡ []) }
+        ensures got { result ≡ FeedLine.Got
+            → Gives (Some (lines_left self.old)) (Some (lines_left self.new)) into.new }
+        ensures long { result ≡ FeedLine.Long
+            → Skips (Some (lines_left self.old)) (Some (lines_left self.new)) }
+        ensures end { result ≡ FeedLine.End → (lines_left self.old ≡ [])
+            × (lines_left self.new ≡ []) }
         ensures steady { result ≢ FeedLine.Failed }
         ensures at { self.old.at ≤ self.new.at }
         ensures on { (result ≡ FeedLine.End) ⊎ (self.old.at < self.new.at) }

@@ -11,8 +11,9 @@ use fault_counts::FaultCounts;
 use std::alloc::{AllocError, Global};
 use std::collections::BTreeMap;
 
-/// Files in memory, which it tells. A reading fails where there is no such file, and in the calls that it is told to;
-/// a putting fails in the calls that it is told to, and then the name's file stays.
+/// Files in memory, which it tells. A reading fails where there is no such file, and in the calls
+/// that it is told to; a putting fails in the calls that it is told to, and then the name's file
+/// stays.
 #[derive(Drop)]
 pub struct MemShelf {
     alloc: Global,
@@ -54,8 +55,10 @@ impl MemShelf {
         ensures calls { OnOk result (call_count self.new name.now ≡ 0) }
         ensures others { (other : List ℕ) → other ≢ name.now → KeepsFile self.old self.new other }
         ensures err { OnErr result ((other : List ℕ) → KeepsFile self.old self.new other) }
-        ensures faults { (other : List ℕ) → reading_faults self.new other ≡ reading_faults self.old other }
-        ensures put_faults { (other : List ℕ) → putting_faults self.new other ≡ putting_faults self.old other }
+        ensures faults { (other : List ℕ) → reading_faults self.new other
+            ≡ reading_faults self.old other }
+        ensures put_faults { (other : List ℕ) → putting_faults self.new other
+            ≡ putting_faults self.old other }
         ensures names { (other : List ℕ) → KnowsName self.new other ↔ KnowsName self.old other }
         ensures puts { KeepsPuts self.old self.new }
     {
@@ -90,23 +93,28 @@ impl MemShelf {
         ensures err { OnErr result (broken_puts self.new ≡ broken_puts self.old) }
         ensures puts { put_count self.new ≡ put_count self.old }
         ensures files { (name : List ℕ) → KeepsFile self.old self.new name }
-        ensures faults { (name : List ℕ) → reading_faults self.new name ≡ reading_faults self.old name }
-        ensures put_faults { (name : List ℕ) → putting_faults self.new name ≡ putting_faults self.old name }
+        ensures faults { (name : List ℕ) → reading_faults self.new name
+            ≡ reading_faults self.old name }
+        ensures put_faults { (name : List ℕ) → putting_faults self.new name
+            ≡ putting_faults self.old name }
         ensures names { (name : List ℕ) → KnowsName self.new name ↔ KnowsName self.old name }
     {
         self.broken_puts = calls.to_vec(self.alloc)?;
         Ok(())
     }
 
-    /// Makes the calls of these numbers fail in each later feed of the name's file, counted from 1, if there is one.
+    /// Makes the calls of these numbers fail in each later feed of the name's file, counted from 1,
+    /// if there is one.
     #[tactic(auto, using(std::proofs::lemmas::Map::Text::text_keys))]
     pub fn break_lines(&mut self, name: &str, calls: &[u64]) -> Result<(), AllocError>
-        ensures lines { OnOk result (OnSome (held_file self.old name.now) (broken_lines self.new name.now ≡ calls.now)) }
+        ensures lines { OnOk result
+            (OnSome (held_file self.old name.now) (broken_lines self.new name.now ≡ calls.now)) }
         ensures others { (other : List ℕ) → other ≢ name.now → KeepsFile self.old self.new other }
         ensures file { held_file self.new name.now ≡ held_file self.old name.now }
         ensures broken { broken_calls self.new name.now ≡ broken_calls self.old name.now }
         ensures calls { call_count self.new name.now ≡ call_count self.old name.now }
-        ensures err { OnErr result (broken_lines self.new name.now ≡ broken_lines self.old name.now) }
+        ensures err { OnErr result
+            (broken_lines self.new name.now ≡ broken_lines self.old name.now) }
         ensures rest { self.new ≡ record self.old { files = self.new.files } }
     {
         let calls = calls.to_vec(self.alloc)?;
@@ -154,24 +162,36 @@ impl Shelf for MemShelf {
 
     #[tactic(auto, using(std::proofs::lemmas::Map::Text::text_keys))]
     fn fetch(&mut self, alloc: Global, name: &str, limit: u64) -> Result<Vec<u8>, FetchNo>
-        ensures bytes { IfOk result (λ bytes. IfSome (Some (held_file self.old name.now)) (λ file. file ≡ Some bytes.items)) }
+        ensures bytes { IfOk result
+            (λ bytes. IfSome (Some (held_file self.old name.now))
+            (λ file. file ≡ Some bytes.items)) }
         ensures within { IfOk result (λ bytes. length bytes.items ≤ limit) }
         ensures too_long { IsErrOf result FetchNo.TooLong →
-            IfSome (Some (held_file self.old name.now)) (λ file. IsSomeAnd file (λ bytes. limit < length bytes)) }
-        ensures failed { IsErrOf result FetchNo.Failed ↔ (reading_faults self.old name.now < reading_faults self.new name.now) }
+            IfSome (Some (held_file self.old name.now))
+            (λ file. IsSomeAnd file (λ bytes. limit < length bytes)) }
+        ensures failed { IsErrOf result FetchNo.Failed
+            ↔ (reading_faults self.old name.now < reading_faults self.new name.now) }
         ensures counted { reading_faults self.old name.now ≤ reading_faults self.new name.now }
-        ensures other_counts { (other : List ℕ) → other ≢ name.now → reading_faults self.new other ≡ reading_faults self.old other }
-        ensures putting_counts { (other : List ℕ) → putting_faults self.new other ≡ putting_faults self.old other }
-        ensures held { (other : List ℕ) → Some (held_file self.new other) ≡ Some (held_file self.old other) }
+        ensures other_counts { (other : List ℕ) → other ≢ name.now → reading_faults self.new other
+            ≡ reading_faults self.old other }
+        ensures putting_counts { (other : List ℕ) → putting_faults self.new other
+            ≡ putting_faults self.old other }
+        ensures held { (other : List ℕ) → Some (held_file self.new other)
+            ≡ Some (held_file self.old other) }
         ensures known { IsErrOf result FetchNo.Memory ⊎ KnowsName self.new name.now }
-        ensures still_known { (other : List ℕ) → KnowsName self.old other → KnowsName self.new other }
-        ensures memory { IsErrOf result FetchNo.Memory → (other : List ℕ) → KnowsName self.new other → KnowsName self.old other }
+        ensures still_known { (other : List ℕ) → KnowsName self.old other
+            → KnowsName self.new other }
+        ensures memory { IsErrOf result FetchNo.Memory → (other : List ℕ) → KnowsName self.new other
+            → KnowsName self.old other }
 
         // It fails exactly where there is no file, and in the calls of the list.
         ensures breaks { IsErrOf result FetchNo.Failed → NextBreaks self.old name.now }
-        ensures broken { NextBreaks self.old name.now → IsErrOf result FetchNo.Failed ⊎ IsErrOf result FetchNo.Memory }
-        ensures calls { OnSome (held_file self.old name.now) (IsCounted result (call_count self.old name.now) (call_count self.new name.now)) }
-        ensures once { IsErrOf result FetchNo.Failed → reading_faults self.new name.now ≡ reading_faults self.old name.now + 1 }
+        ensures broken { NextBreaks self.old name.now → IsErrOf result FetchNo.Failed
+            ⊎ IsErrOf result FetchNo.Memory }
+        ensures calls { OnSome (held_file self.old name.now)
+            (IsCounted result (call_count self.old name.now) (call_count self.new name.now)) }
+        ensures once { IsErrOf result FetchNo.Failed → reading_faults self.new name.now
+            ≡ reading_faults self.old name.now + 1 }
         ensures list { broken_calls self.new name.now ≡ broken_calls self.old name.now }
         ensures line_lists { broken_lines self.new name.now ≡ broken_lines self.old name.now }
         ensures others { (other : List ℕ) → other ≢ name.now → KeepsFile self.old self.new other }
@@ -201,25 +221,36 @@ impl Shelf for MemShelf {
 
     #[tactic(auto, using(std::proofs::lemmas::Map::Text::text_keys))]
     fn put(&mut self, alloc: Global, name: &str, bytes: &[u8]) -> Result<(), PutNo>
-        ensures bytes { IsOk result → IfSome (Some (held_file self.new name.now)) (λ file. file ≡ Some bytes.now) }
-        ensures failed { IsErrOf result PutNo.Failed ↔ (putting_faults self.old name.now < putting_faults self.new name.now) }
+        ensures bytes { IsOk result
+            → IfSome (Some (held_file self.new name.now)) (λ file. file ≡ Some bytes.now) }
+        ensures failed { IsErrOf result PutNo.Failed
+            ↔ (putting_faults self.old name.now < putting_faults self.new name.now) }
         ensures counted { putting_faults self.old name.now ≤ putting_faults self.new name.now }
-        ensures other_counts { (other : List ℕ) → other ≢ name.now → putting_faults self.new other ≡ putting_faults self.old other }
-        ensures reading_counts { (other : List ℕ) → reading_faults self.new other ≡ reading_faults self.old other }
-        ensures held { (other : List ℕ) → other ≢ name.now → Some (held_file self.new other) ≡ Some (held_file self.old other) }
+        ensures other_counts { (other : List ℕ) → other ≢ name.now → putting_faults self.new other
+            ≡ putting_faults self.old other }
+        ensures reading_counts { (other : List ℕ) → reading_faults self.new other
+            ≡ reading_faults self.old other }
+        ensures held { (other : List ℕ) → other ≢ name.now → Some (held_file self.new other)
+            ≡ Some (held_file self.old other) }
         ensures known { IsErrOf result PutNo.Memory ⊎ KnowsName self.new name.now }
-        ensures still_known { (other : List ℕ) → KnowsName self.old other → KnowsName self.new other }
-        ensures memory { IsErrOf result PutNo.Memory → (other : List ℕ) → KnowsName self.new other → KnowsName self.old other }
-        ensures memory_held { IsErrOf result PutNo.Memory → Some (held_file self.new name.now) ≡ Some (held_file self.old name.now) }
+        ensures still_known { (other : List ℕ) → KnowsName self.old other
+            → KnowsName self.new other }
+        ensures memory { IsErrOf result PutNo.Memory → (other : List ℕ) → KnowsName self.new other
+            → KnowsName self.old other }
+        ensures memory_held { IsErrOf result PutNo.Memory → Some (held_file self.new name.now)
+            ≡ Some (held_file self.old name.now) }
 
         // It fails exactly in the calls of the list, and then the file stays.
         ensures breaks { IsErrOf result PutNo.Failed → NextPutBreaks self.old }
-        ensures broken { NextPutBreaks self.old → IsErrOf result PutNo.Failed ⊎ IsErrOf result PutNo.Memory }
+        ensures broken { NextPutBreaks self.old → IsErrOf result PutNo.Failed
+            ⊎ IsErrOf result PutNo.Memory }
         ensures stays { IsErrOf result PutNo.Failed → KeepsFile self.old self.new name.now }
         ensures memory_file { IsErrOf result PutNo.Memory → KeepsFile self.old self.new name.now }
-        ensures once { IsErrOf result PutNo.Failed → putting_faults self.new name.now ≡ putting_faults self.old name.now + 1 }
+        ensures once { IsErrOf result PutNo.Failed → putting_faults self.new name.now
+            ≡ putting_faults self.old name.now + 1 }
         ensures afresh { IsOk result → HasNoBreaks self.new name.now }
-        ensures calls { (IsErrOf result PutNo.Memory → put_count self.new ≡ put_count self.old) × (IsErrOf result PutNo.Memory ⊎ (put_count self.new ≡ put_count self.old + 1)) }
+        ensures calls { (IsErrOf result PutNo.Memory → put_count self.new ≡ put_count self.old)
+            × (IsErrOf result PutNo.Memory ⊎ (put_count self.new ≡ put_count self.old + 1)) }
         ensures list { broken_puts self.new ≡ broken_puts self.old }
         ensures others { (other : List ℕ) → other ≢ name.now → KeepsFile self.old self.new other }
     {
@@ -244,30 +275,42 @@ impl Shelf for MemShelf {
     #[tactic(auto, using(std::proofs::lemmas::Map::Text::text_keys))]
     fn feed(&mut self, alloc: Global, name: &str) -> Result<MemFeed, FeedNo>
         ensures name { IfOk result (λ feed. feed_name feed ≡ name.now) }
-        ensures lines { IfOk result (λ feed. HasLinesOf (Some (held_file self.old name.now)) (Some (lines_left feed))) }
+        ensures lines { IfOk result
+            (λ feed. HasLinesOf (Some (held_file self.old name.now)) (Some (lines_left feed))) }
         ensures open { IfOk result (λ feed. has_ended feed ≡ false) }
         ensures unbroken { IfOk result (λ feed. fault_count feed ≡ 0) }
-        ensures failed { IsErrOf result FeedNo.Failed ↔ (reading_faults self.old name.now < reading_faults self.new name.now) }
+        ensures failed { IsErrOf result FeedNo.Failed
+            ↔ (reading_faults self.old name.now < reading_faults self.new name.now) }
         ensures counted { reading_faults self.old name.now ≤ reading_faults self.new name.now }
-        ensures other_counts { (other : List ℕ) → other ≢ name.now → reading_faults self.new other ≡ reading_faults self.old other }
-        ensures putting_counts { (other : List ℕ) → putting_faults self.new other ≡ putting_faults self.old other }
-        ensures held { (other : List ℕ) → Some (held_file self.new other) ≡ Some (held_file self.old other) }
+        ensures other_counts { (other : List ℕ) → other ≢ name.now → reading_faults self.new other
+            ≡ reading_faults self.old other }
+        ensures putting_counts { (other : List ℕ) → putting_faults self.new other
+            ≡ putting_faults self.old other }
+        ensures held { (other : List ℕ) → Some (held_file self.new other)
+            ≡ Some (held_file self.old other) }
         ensures known { IsErrOf result FeedNo.Memory ⊎ KnowsName self.new name.now }
-        ensures still_known { (other : List ℕ) → KnowsName self.old other → KnowsName self.new other }
-        ensures memory { IsErrOf result FeedNo.Memory → (other : List ℕ) → KnowsName self.new other → KnowsName self.old other }
+        ensures still_known { (other : List ℕ) → KnowsName self.old other
+            → KnowsName self.new other }
+        ensures memory { IsErrOf result FeedNo.Memory → (other : List ℕ) → KnowsName self.new other
+            → KnowsName self.old other }
 
         // It fails exactly where there is no file, and in the readings of the list.
         ensures breaks { IsErrOf result FeedNo.Failed → NextBreaks self.old name.now }
-        ensures broken { NextBreaks self.old name.now → IsErrOf result FeedNo.Failed ⊎ IsErrOf result FeedNo.Memory }
-        ensures calls { OnSome (held_file self.old name.now) (IsOpeningCounted result (call_count self.old name.now) (call_count self.new name.now)) }
+        ensures broken { NextBreaks self.old name.now → IsErrOf result FeedNo.Failed
+            ⊎ IsErrOf result FeedNo.Memory }
+        ensures calls { OnSome (held_file self.old name.now)
+            (IsOpeningCounted result (call_count self.old name.now)
+            (call_count self.new name.now)) }
         ensures list { broken_calls self.new name.now ≡ broken_calls self.old name.now }
         ensures others { (other : List ℕ) → other ≢ name.now → KeepsFile self.old self.new other }
 
         // The feed fails in the calls that the file's list names.
-        ensures line_list { IfOk result (λ feed. broken_lines self.old name.now ≡ feed_broken feed) }
+        ensures line_list { IfOk result
+            (λ feed. broken_lines self.old name.now ≡ feed_broken feed) }
         ensures first_line { IfOk result (λ feed. feed_calls feed ≡ 0) }
 
-        ensures once { IsErrOf result FeedNo.Failed → reading_faults self.new name.now ≡ reading_faults self.old name.now + 1 }
+        ensures once { IsErrOf result FeedNo.Failed → reading_faults self.new name.now
+            ≡ reading_faults self.old name.now + 1 }
         ensures line_lists { broken_lines self.new name.now ≡ broken_lines self.old name.now }
         ensures puts { KeepsPuts self.old self.new }
     {
@@ -291,14 +334,21 @@ impl Shelf for MemShelf {
 
     fn close(&mut self, feed: MemFeed)
         requires { KnowsName self.old (feed_name feed) }
-        ensures failed { (0 < fault_count feed) ↔ (reading_faults self.old (feed_name feed) < reading_faults self.new (feed_name feed)) }
-        ensures counted { reading_faults self.old (feed_name feed) ≤ reading_faults self.new (feed_name feed) }
-        ensures other_counts { (other : List ℕ) → other ≢ feed_name feed → reading_faults self.new other ≡ reading_faults self.old other }
-        ensures putting_counts { (other : List ℕ) → putting_faults self.new other ≡ putting_faults self.old other }
-        ensures held { (other : List ℕ) → Some (held_file self.new other) ≡ Some (held_file self.old other) }
+        ensures failed { (0 < fault_count feed)
+            ↔ (reading_faults self.old (feed_name feed)
+            < reading_faults self.new (feed_name feed)) }
+        ensures counted { reading_faults self.old (feed_name feed)
+            ≤ reading_faults self.new (feed_name feed) }
+        ensures other_counts { (other : List ℕ) → other ≢ feed_name feed
+            → reading_faults self.new other ≡ reading_faults self.old other }
+        ensures putting_counts { (other : List ℕ) → putting_faults self.new other
+            ≡ putting_faults self.old other }
+        ensures held { (other : List ℕ) → Some (held_file self.new other)
+            ≡ Some (held_file self.old other) }
         ensures known { (other : List ℕ) → KnowsName self.new other ↔ KnowsName self.old other }
 
-        ensures once { 0 < fault_count feed → reading_faults self.new (feed_name feed) ≡ reading_faults self.old (feed_name feed) + 1 }
+        ensures once { 0 < fault_count feed → reading_faults self.new (feed_name feed)
+            ≡ reading_faults self.old (feed_name feed) + 1 }
         ensures files { (other : List ℕ) → KeepsFile self.old self.new other }
         ensures puts { KeepsPuts self.old self.new }
     {

@@ -59,19 +59,27 @@ impl Sink for MemSink {
     ghost faults = { λ sink. fault_count sink };
 
     fn write(&mut self, bytes: &[u8]) -> Result<(), WriteNo>
-        ensures ok { OnOk result (Some (written_bytes self.new) ≡ append_known (Some (written_bytes self.old)) bytes.now) }
-        ensures part { IsErrOf result WriteNo.Failed → WritesPart (Some (written_bytes self.old)) (Some (written_bytes self.new)) bytes.now }
-        ensures memory { IsErrOf result WriteNo.Memory → Some (written_bytes self.new) ≡ Some (written_bytes self.old) }
-        ensures failed { IsErrOf result WriteNo.Failed ↔ (fault_count self.old < fault_count self.new) }
+        ensures ok { OnOk result
+            (Some (written_bytes self.new)
+            ≡ append_known (Some (written_bytes self.old)) bytes.now) }
+        ensures part { IsErrOf result WriteNo.Failed
+            → WritesPart (Some (written_bytes self.old)) (Some (written_bytes self.new)) bytes.now }
+        ensures memory { IsErrOf result WriteNo.Memory → Some (written_bytes self.new)
+            ≡ Some (written_bytes self.old) }
+        ensures failed { IsErrOf result WriteNo.Failed
+            ↔ (fault_count self.old < fault_count self.new) }
         ensures counted { fault_count self.old ≤ fault_count self.new }
 
         // It breaks exactly in the calls of the list, after so many bytes.
         ensures unbroken { OnOk result (next_break self.old ≡ None) }
         ensures broken { IsErrOf result WriteNo.Failed → IsSomeAnd (next_break self.old) (λ sent.
             written_bytes self.new ≡ written_bytes self.old ++ take sent bytes.now) }
-        ensures once { IsErrOf result WriteNo.Failed → fault_count self.new ≡ fault_count self.old + 1 }
-        ensures calls { IsErrOf result WriteNo.Memory ⊎ (call_count self.new ≡ call_count self.old + 1) }
-        ensures uncalled { IsErrOf result WriteNo.Memory → call_count self.new ≡ call_count self.old }
+        ensures once { IsErrOf result WriteNo.Failed → fault_count self.new ≡ fault_count self.old
+            + 1 }
+        ensures calls { IsErrOf result WriteNo.Memory
+            ⊎ (call_count self.new ≡ call_count self.old + 1) }
+        ensures uncalled { IsErrOf result WriteNo.Memory → call_count self.new
+            ≡ call_count self.old }
         ensures list { broken_writes self.new ≡ broken_writes self.old }
     {
         let Some(call) = self.calls.checked_add(1) else {

@@ -7,8 +7,8 @@ use disp_outside::{FeedNo, FetchNo, PutNo, Shelf};
 use std::alloc::{AllocError, Global};
 use std::collections::BTreeMap;
 
-/// Files in memory, which it tells. Each name holds a file, an empty one at first, and nothing fails, but for want of
-/// memory.
+/// Files in memory, which it tells. Each name holds a file, an empty one at first, and nothing
+/// fails, but for want of memory.
 #[derive(Drop)]
 pub struct SteadyShelf {
     alloc: Global,
@@ -32,8 +32,10 @@ impl SteadyShelf {
     #[tactic(auto, using(std::proofs::lemmas::Map::Text::text_keys))]
     pub fn place(&mut self, name: &str, bytes: &[u8]) -> Result<(), AllocError>
         ensures placed { OnOk result (held_bytes self.new name.now ≡ bytes.now) }
-        ensures others { (other : List ℕ) → other ≢ name.now → held_bytes self.new other ≡ held_bytes self.old other }
-        ensures err { OnErr result ((other : List ℕ) → held_bytes self.new other ≡ held_bytes self.old other) }
+        ensures others { (other : List ℕ) → other ≢ name.now → held_bytes self.new other
+            ≡ held_bytes self.old other }
+        ensures err { OnErr result ((other : List ℕ) → held_bytes self.new other
+            ≡ held_bytes self.old other) }
     {
         let key = String::from_str(self.alloc, name)?;
         let file = bytes.to_vec(self.alloc)?;

@@ -1,8 +1,9 @@
 //! Plain values that every crate above speaks of, and the one answer where memory runs out.
 //!
-//! `List` and `Text` are seen as lists of their items and bytes, and a `Copied` value's copy equals it.
-//! `push_text` adds a text at the end of another, and leaves it as it was where memory runs out.
-//! `read_number` gives the number that decimal digits write, or says which of two rules they break.
+//! `List` and `Text` are seen as lists of their items and bytes, and a `Copied` value's copy equals
+//! it. `push_text` adds a text at the end of another, and leaves it as it was where memory runs
+//! out. `read_number` gives the number that decimal digits write, or says which of two rules they
+//! break.
 #![tactic(auto)]
 
 mod copied;

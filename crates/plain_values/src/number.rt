@@ -42,7 +42,8 @@ fn is_decimal(bytes: &[u8]) -> bool
 /// The number with one more digit, where it is at most so much.
 fn with_digit(number: u128, byte: u8, most: u128) -> Option<u128>
     requires { digit_value byte < 10 }
-    ensures { MatchOption result (most < number * 10 + digit_value byte) (λ n. (n ≡ number * 10 + digit_value byte) × (n ≤ most)) }
+    ensures { MatchOption result (most < number * 10 + digit_value byte)
+        (λ n. (n ≡ number * 10 + digit_value byte) × (n ≤ most)) }
 {
     let next = number
         .checked_mul(10)?
@@ -54,7 +55,8 @@ fn with_digit(number: u128, byte: u8, most: u128) -> Option<u128>
 #[tactic(auto, using(crate::proofs::Digits::more, crate::proofs::Digits::above))]
 fn value(bytes: &[u8], most: u128) -> Option<u128>
     requires { AreDigits bytes.now }
-    ensures { MatchOption result (most < value_of bytes.now) (λ n. (n ≡ value_of bytes.now) × (n ≤ most)) }
+    ensures { MatchOption result (most < value_of bytes.now)
+        (λ n. (n ≡ value_of bytes.now) × (n ≤ most)) }
 {
     let mut number = 0;
     for byte in bytes {
@@ -71,7 +73,8 @@ fn value(bytes: &[u8], most: u128) -> Option<u128>
 ///
 /// # Errors
 ///
-/// `NotNumber` exactly where the bytes are no such number, `TooLarge` exactly where it is above `most`.
+/// `NotNumber` exactly where the bytes are no such number, `TooLarge` exactly where it is above
+/// `most`.
 pub fn read_number(bytes: &[u8], most: u128) -> Result<u128, NumberNo>
     ensures ok { IfOk result (IsNumber bytes.now most) }
     ensures not_number { IsErrOf result NumberNo.NotNumber ↔ (IsDecimal bytes.now → ⊥) }

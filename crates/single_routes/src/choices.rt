@@ -29,7 +29,8 @@ fn are_straight(trains: &[Train]) -> bool
 
 /// Adds a train's claims by an operation.
 fn push_listings(claims: &mut Vec<Claim>, train: u32, listings: &[Listing]) -> Result<(), Memory>
-    ensures ok { OnOk result (claims.new.items ≡ claims.old.items ++ listing_claims train listings.now) }
+    ensures ok { OnOk result
+        (claims.new.items ≡ claims.old.items ++ listing_claims train listings.now) }
 {
     for listing in listings {
         claims.push(Claim {
@@ -42,7 +43,8 @@ fn push_listings(claims: &mut Vec<Claim>, train: u32, listings: &[Listing]) -> R
 
 /// Adds the claims of a train.
 fn push_train(claims: &mut Vec<Claim>, train: u32, operations: &[Operation]) -> Result<(), Memory>
-    ensures ok { OnOk result (claims.new.items ≡ claims.old.items ++ train_claims train operations.now) }
+    ensures ok { OnOk result
+        (claims.new.items ≡ claims.old.items ++ train_claims train operations.now) }
 {
     for operation in operations {
         push_listings(claims, train, operation.listings.as_slice())?;

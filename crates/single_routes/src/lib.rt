@@ -1,7 +1,7 @@
 // Solves problems without choices: no operation has two successors, and no two trains list one
 // resource. Then each train has one route and no two trains meet, so the plan of earliest starts is
-// the best one where it is valid, and otherwise no plan is valid. `solve_single` answers it with the
-// tree that shows the verdict.
+// the best one where it is valid, and otherwise no plan is valid. `solve_single` answers it with
+// the tree that shows the verdict.
 #![tactic(auto)]
 
 mod choices;

@@ -10,7 +10,8 @@ use std::alloc::Global;
 
 /// Adds the events of a train's stops.
 fn push_stops(events: &mut Vec<Event>, train: u32, stops: &[Stop]) -> Result<(), Memory>
-    ensures ok { OnOk result (events.new.items ≡ events.old.items ++ map (event_at train) stops.now) }
+    ensures ok { OnOk result
+        (events.new.items ≡ events.old.items ++ map (event_at train) stops.now) }
 {
     for stop in stops {
         events.push(Event {

@@ -28,7 +28,8 @@ fn mark_successors(alloc: Global, train: &[Operation]) -> Result<Vec<bool>, Memo
     requires straight { IsStraight train.now }
     requires inside { All (λ o. All (λ s. s < length train.now) o.next) train.now }
     ensures count { IfOk result (λ marks. length marks.items ≡ length train.now) }
-    ensures marked { IfOk result (λ marks. (o : ℕ) → o < length train.now → IsTrue (slice_index_or marks.items o false) ↔ ((p : ℕ) × IsSuccessor train.now p o)) }
+    ensures marked { IfOk result (λ marks. (o : ℕ) → o < length train.now
+        → IsTrue (slice_index_or marks.items o false) ↔ ((p : ℕ) × IsSuccessor train.now p o)) }
 {
     let mut marks = vec![in alloc; false; train.len()]?;
     for operation in train {
@@ -39,8 +40,10 @@ fn mark_successors(alloc: Global, train: &[Operation]) -> Result<Vec<bool>, Memo
 
 /// The first operation without a mark.
 fn first_unmarked(marks: &[bool]) -> Option<usize>
-    ensures some { IfSome result (λ o. (o < length marks.now) × (slice_index_or marks.now o false ≡ false)) }
-    ensures none { IfNone result ((o : ℕ) → o < length marks.now → IsTrue (slice_index_or marks.now o false)) }
+    ensures some { IfSome result
+        (λ o. (o < length marks.now) × (slice_index_or marks.now o false ≡ false)) }
+    ensures none { IfNone result
+        ((o : ℕ) → o < length marks.now → IsTrue (slice_index_or marks.now o false)) }
 {
     for (place, mark) in marks.iter().enumerate() {
         if !*mark {

@@ -45,8 +45,8 @@ fn solve_straight(alloc: Global, problem: &Problem) -> Result<Solved, Memory>
 }
 
 /// Solves a problem without choices: each train runs its one route at its earliest starts, or some
-/// operation cannot start in time. Takes time linear in operations, listings and walks, and sorts the
-/// events.
+/// operation cannot start in time. Takes time linear in operations, listings and walks, and sorts
+/// the events.
 pub fn solve_single(alloc: Global, problem: &Problem) -> Result<Solved, SingleNo>
     ensures choices { result ≡ Err Choices → HasChoices problem.now }
     ensures none { IfOk result (λ solved. HasChoices problem.now → ⊥) }

@@ -55,7 +55,8 @@ pub(crate) fn places_of(alloc: Global, count: usize, stops: &[Stop]) -> Result<V
     requires within { All (λ s. s.op < count) stops.now }
     requires fits { length stops.now ≤ MOST_OPERATIONS }
     ensures count { IfOk result (λ places. length places.items ≡ count) }
-    ensures places { IfOk result (λ places. All (λ s. HasPlace stops.now places.items s.op) stops.now) }
+    ensures places { IfOk result
+        (λ places. All (λ s. HasPlace stops.now places.items s.op) stops.now) }
 {
     let mut places = vec![in alloc; 0u32; count]?;
     for (place, stop) in stops.iter().enumerate() {

@@ -41,7 +41,8 @@ fn is_late(train: &[Operation], stop: &Stop) -> bool
 /// The place of the first late stop.
 fn late_place(train: &[Operation], stops: &[Stop]) -> Option<usize>
     requires { All (λ s. s.op < length train.now) stops.now }
-    ensures late { IfSome result (λ place. (s : Stop) × (slice_get stops.now place ≡ Some s) × IsLate train.now s) }
+    ensures late { IfSome result (λ place. (s : Stop) × (slice_get stops.now place ≡ Some s)
+        × IsLate train.now s) }
     ensures none { IfNone result (IsInTime train.now stops.now) }
 {
     for (place, stop) in stops.iter().enumerate() {

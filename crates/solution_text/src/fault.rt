@@ -15,11 +15,12 @@ pub enum SolutionNo {
     /// A value of the wrong kind stands there, or none where one is needed.
     #[error("a value of the wrong kind, or none where one is needed: {0:?}")]
     Shape(SolutionPlace),
-    /// A number stands there that is not whole, from 0 to 2^64 - 1 and without fraction, exponent and sign.
+    /// A number stands there that is not whole, from 0 to 2^64 - 1 and without fraction, exponent
+    /// and sign.
     #[error("not a whole number: {0:?}")]
     NotWhole(SolutionPlace),
-    /// A train or operation above 2147483647, a time above 2^62 or an objective value above 2^63 - 1
-    /// stands there.
+    /// A train or operation above 2147483647, a time above 2^62 or an objective value above 2^63 -
+    /// 1 stands there.
     #[error("a number above its limit: {0:?}")]
     TooLarge(SolutionPlace),
     /// There are so many events, more than 1048575.

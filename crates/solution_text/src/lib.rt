@@ -2,8 +2,8 @@
 // stated for them. What `write_solution` writes is stated in `specs/Texts.antt`, byte for byte.
 // `read_solution` answers the plan and the stated value of the JSON value that `serde_json` reads
 // (`specs/PlanOf.antt`) exactly where no rule is broken, and otherwise names the first rule that is
-// broken and the place; each text has one answer beside want of memory. `SolutionNo::write` gives the
-// text that is printed for a refusal.
+// broken and the place; each text has one answer beside want of memory. `SolutionNo::write` gives
+// the text that is printed for a refusal.
 #![tactic(auto)]
 
 mod claims;

@@ -115,8 +115,8 @@ fn solution_of(alloc: Global, value: &Value) -> Result<(Plan, Option<u64>), Solu
 /// text, and the objective value where one is stated.
 ///
 /// Numbers are whole: a train or operation from 0 to 2147483647, a time to 2^62, an objective value
-/// to 2^63 - 1. `null` counts as absent, but for a member of the list. Keys that the format does not
-/// name are ignored.
+/// to 2^63 - 1. `null` counts as absent, but for a member of the list. Keys that the format does
+/// not name are ignored.
 ///
 /// # Errors
 ///

@@ -23,7 +23,8 @@ impl EventKey {
 impl SolutionPlace {
     /// Adds the place as a JSON pointer; the root is written `/`.
     fn write(self, text: &mut String) -> Result<(), Memory>
-        ensures { OnOk result (Adds (string_bytes text.old) (string_bytes text.new) (place_text self)) }
+        ensures { OnOk result
+            (Adds (string_bytes text.old) (string_bytes text.new) (place_text self)) }
     {
         match self {
             SolutionPlace::Root => write!(text, "/")?,
@@ -41,7 +42,8 @@ impl SolutionPlace {
 
 /// Adds a word and a place.
 fn write_at(text: &mut String, word: &str, place: SolutionPlace) -> Result<(), Memory>
-    ensures { OnOk result (Adds (string_bytes text.old) (string_bytes text.new) (word.now ++ place_text place)) }
+    ensures { OnOk result
+        (Adds (string_bytes text.old) (string_bytes text.new) (word.now ++ place_text place)) }
 {
     text.push_str(word)?;
     place.write(text)?;
@@ -52,7 +54,8 @@ impl SolutionNo {
     /// Adds the text that is printed for the refusal: its name, then its place or count, with one
     /// space between. Where memory runs out the text is as before.
     pub fn write(&self, text: &mut String) -> Result<(), Memory>
-        ensures ok { OnOk result (string_bytes text.new ≡ string_bytes text.old ++ why_text self.now) }
+        ensures ok { OnOk result
+            (string_bytes text.new ≡ string_bytes text.old ++ why_text self.now) }
         ensures err { OnErr result (string_bytes text.new ≡ string_bytes text.old) }
     {
         let mut why = String::new(*text.allocator());
@@ -63,7 +66,8 @@ impl SolutionNo {
 
     /// Adds the text that is printed for the refusal.
     fn add(&self, text: &mut String) -> Result<(), Memory>
-        ensures { OnOk result (Adds (string_bytes text.old) (string_bytes text.new) (why_text self.now)) }
+        ensures { OnOk result
+            (Adds (string_bytes text.old) (string_bytes text.new) (why_text self.now)) }
     {
         match *self {
             SolutionNo::NotJson => write!(text, "NotJson")?,

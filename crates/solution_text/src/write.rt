@@ -10,7 +10,8 @@ use std::alloc::Global;
 
 /// Adds a number in decimal.
 fn push_number(text: &mut String, number: u64) -> Result<(), Memory>
-    ensures ok { OnOk result (Adds (string_bytes text.old) (string_bytes text.new) (decimal number)) }
+    ensures ok { OnOk result
+        (Adds (string_bytes text.old) (string_bytes text.new) (decimal number)) }
 {
     write!(text, "{number}")?;
     Ok(())
@@ -18,7 +19,8 @@ fn push_number(text: &mut String, number: u64) -> Result<(), Memory>
 
 /// Adds the number of a train or an operation in decimal.
 fn push_index(text: &mut String, index: u32) -> Result<(), Memory>
-    ensures ok { OnOk result (Adds (string_bytes text.old) (string_bytes text.new) (decimal index)) }
+    ensures ok { OnOk result
+        (Adds (string_bytes text.old) (string_bytes text.new) (decimal index)) }
 {
     write!(text, "{index}")?;
     Ok(())
@@ -26,7 +28,8 @@ fn push_index(text: &mut String, index: u32) -> Result<(), Memory>
 
 /// Adds the text of an event.
 fn push_event(text: &mut String, event: &Event) -> Result<(), Memory>
-    ensures ok { OnOk result (Adds (string_bytes text.old) (string_bytes text.new) (event_text event.now)) }
+    ensures ok { OnOk result
+        (Adds (string_bytes text.old) (string_bytes text.new) (event_text event.now)) }
 {
     push_text(text, "{\"operation\":")?;
     push_index(text, event.operation)?;
@@ -40,7 +43,8 @@ fn push_event(text: &mut String, event: &Event) -> Result<(), Memory>
 
 /// Adds the texts of events that stand behind another one.
 fn push_next_events(text: &mut String, plan: &[Event]) -> Result<(), Memory>
-    ensures ok { OnOk result (Adds (string_bytes text.old) (string_bytes text.new) (flat_map next_event_text plan.now)) }
+    ensures ok { OnOk result
+        (Adds (string_bytes text.old) (string_bytes text.new) (flat_map next_event_text plan.now)) }
 {
     for event in plan {
         push_text(text, ",")?;
@@ -51,7 +55,8 @@ fn push_next_events(text: &mut String, plan: &[Event]) -> Result<(), Memory>
 
 /// Adds the texts of the events, with a comma between each two.
 fn push_events(text: &mut String, plan: &[Event]) -> Result<(), Memory>
-    ensures ok { OnOk result (Adds (string_bytes text.old) (string_bytes text.new) (events_text plan.now)) }
+    ensures ok { OnOk result
+        (Adds (string_bytes text.old) (string_bytes text.new) (events_text plan.now)) }
 {
     let Some((first, others)) = plan.split_first() else {
         return Ok(());

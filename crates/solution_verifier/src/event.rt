@@ -48,7 +48,8 @@ fn is_reached(train: &[Operation], operation: u32) -> bool
 
 /// Whether an operation is an entry of its train, or its train has an event before it.
 fn starts_well(train: &[Operation], before: Option<Event>, operation: u32) -> bool
-    ensures { IsTrue result ↔ MatchOption before (Any (λ p. Contains p.next operation) train.now → ⊥) (λ _. ⊤) }
+    ensures { IsTrue result
+        ↔ MatchOption before (Any (λ p. Contains p.next operation) train.now → ⊥) (λ _. ⊤) }
 {
     before.is_some() || !is_reached(train, operation)
 }
@@ -68,7 +69,8 @@ fn is_successor(train: &[Operation], before: Option<Event>, operation: u32) -> b
 
 /// Whether its train's event before a time, if there is one, has lasted its operation's duration.
 fn has_lasted(train: &[Operation], before: Option<Event>, time: u64) -> bool
-    ensures { IsTrue result ↔ IfSome before (λ d. d.time + duration_of train.now d.operation ≤ time) }
+    ensures { IsTrue result
+        ↔ IfSome before (λ d. d.time + duration_of train.now d.operation ≤ time) }
 {
     let Some(before) = before else {
         return true;
@@ -100,8 +102,8 @@ fn is_in_order(stood: &[Event], time: u64) -> bool
     }
 }
 
-/// Judges an event by the rules that it keeps by itself and with its own train. The events before it
-/// are those that stood.
+/// Judges an event by the rules that it keeps by itself and with its own train. The events before
+/// it are those that stood.
 pub(crate) fn judge(problem: &Problem, stood: &[Event], event: &Event) -> Result<(), Fault>
     ensures { IsJudged problem.now stood.now event.now result }
 {

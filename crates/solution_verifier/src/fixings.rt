@@ -65,7 +65,8 @@ fn is_met(events: &[Event], fixing: &Fixing) -> bool
 
 /// Judges whether the events meet each fixing.
 pub(crate) fn judge_fixings(fixings: &[Fixing], events: &[Event]) -> Result<(), Fault>
-    ensures { MatchResult result (λ _. All (IsMet events.now) fixings.now) (IsUnmetFault fixings.now events.now) }
+    ensures { MatchResult result (λ _. All (IsMet events.now) fixings.now)
+        (IsUnmetFault fixings.now events.now) }
 {
     for (place, fixing) in fixings.iter().enumerate() {
         if !is_met(events, fixing) {

@@ -54,7 +54,10 @@ fn held_resource(
     end: Option<u128>,
     time: u64,
 ) -> Option<u32>
-    ensures { MatchOption result (All (λ l. Any (λ k. k.resource ≡ l.resource) others.now → HasPassed end l.release time) listings.now) (IsFirstListing listings.now (λ l. Any (λ k. k.resource ≡ l.resource) others.now → HasPassed end l.release time)) }
+    ensures { MatchOption result
+        (All (λ l. Any (λ k. k.resource ≡ l.resource) others.now → HasPassed end l.release time)
+        listings.now) (IsFirstListing listings.now
+        (λ l. Any (λ k. k.resource ≡ l.resource) others.now → HasPassed end l.release time)) }
 {
     for listing in listings {
         if lists(others, listing.resource) && !has_passed(end, listing.release, time) {
@@ -66,7 +69,9 @@ fn held_resource(
 
 /// When an event has ended of itself: an exit after its duration, no other.
 fn own_end(problem: &Problem, event: &Event) -> Option<u128>
-    ensures { result ≡ ended (next_of (train_at problem.now event.now.train) event.now.operation) (event.now.time + duration_of (train_at problem.now event.now.train) event.now.operation) [] }
+    ensures { result ≡ ended (next_of (train_at problem.now event.now.train) event.now.operation)
+        (event.now.time + duration_of (train_at problem.now event.now.train) event.now.operation)
+        [] }
 {
     match operation_of(problem, event) {
         Some(operation) if operation.next.as_slice().is_empty() => {
@@ -77,13 +82,15 @@ fn own_end(problem: &Problem, event: &Event) -> Option<u128>
     }
 }
 
-/// The first event before a bound that the event at a place holds a resource against. Once all that it
-/// lists is released it holds nothing against any later event.
+/// The first event before a bound that the event at a place holds a resource against. Once all that
+/// it lists is released it holds nothing against any later event.
 fn first_held(problem: &Problem, events: &[Event], place: usize, bound: usize) -> Option<Clash>
     requires place { place < bound }
     requires bound { bound ≤ length events.now }
     requires order { RisesUntil events.now bound }
-    ensures { MatchOption result ((k : ℕ) → place < k → k < bound → Passes problem.now events.now place k) (IsFirstHeldOf problem.now events.now place bound) }
+    ensures { MatchOption result
+        ((k : ℕ) → place < k → k < bound → Passes problem.now events.now place k)
+        (IsFirstHeldOf problem.now events.now place bound) }
 {
     let holder = events[place];
     let listings = listings_of(problem, &holder);
@@ -113,7 +120,8 @@ fn first_held(problem: &Problem, events: &[Event], place: usize, bound: usize) -
 pub(crate) fn first_clash(problem: &Problem, events: &[Event], bound: usize) -> Option<Clash>
     requires bound { bound ≤ length events.now }
     requires order { RisesUntil events.now bound }
-    ensures { MatchOption result ((h k : ℕ) → h < k → k < bound → Passes problem.now events.now h k) (IsFirstClash problem.now events.now bound) }
+    ensures { MatchOption result ((h k : ℕ) → h < k → k < bound → Passes problem.now events.now h k)
+        (IsFirstClash problem.now events.now bound) }
 {
     let mut found = None;
     let mut limit = bound;

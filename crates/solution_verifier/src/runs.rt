@@ -13,7 +13,8 @@ use disp_model::{Event, Operation, Problem};
 fn judge_clashes(problem: &Problem, events: &[Event], bound: usize) -> Result<(), Fault>
     requires bound { bound ≤ length events.now }
     requires rules { (k : ℕ) → k < bound → KeepsRules problem.now events.now k }
-    ensures { MatchResult result (λ _. (k : ℕ) → k < bound → IsSound problem.now events.now k) (IsEventFault problem.now events.now) }
+    ensures { MatchResult result (λ _. (k : ℕ) → k < bound → IsSound problem.now events.now k)
+        (IsEventFault problem.now events.now) }
 {
     match first_clash(problem, events, bound) {
         Some(clash) => Err(Fault::Held(clash.holder as u64, clash.event as u64, clash.resource)),
@@ -23,7 +24,8 @@ fn judge_clashes(problem: &Problem, events: &[Event], bound: usize) -> Result<()
 
 /// Judges each event by the events before it.
 pub(crate) fn judge_events(problem: &Problem, events: &[Event]) -> Result<(), Fault>
-    ensures { MatchResult result (λ _. (k : ℕ) → IsSound problem.now events.now k) (IsEventFault problem.now events.now) }
+    ensures { MatchResult result (λ _. (k : ℕ) → IsSound problem.now events.now k)
+        (IsEventFault problem.now events.now) }
 {
     for (place, event) in events.iter().enumerate() {
         if let Err(fault) = judge(problem, &events[..place], event) {
@@ -49,7 +51,8 @@ fn ends_at_exit(train: &[Operation], last: Option<Event>) -> bool
 
 /// Judges whether each train's run ends at an exit.
 pub(crate) fn judge_ends(problem: &Problem, events: &[Event]) -> Result<(), Fault>
-    ensures { MatchResult result (λ _. (t : ℕ) → t < length problem.now.trains → IsComplete problem.now events.now t) (IsOpenFault problem.now events.now) }
+    ensures { MatchResult result (λ _. (t : ℕ) → t < length problem.now.trains
+        → IsComplete problem.now events.now t) (IsOpenFault problem.now events.now) }
 {
     let trains = problem.trains.as_slice();
     for (place, train) in trains.iter().enumerate() {

@@ -12,7 +12,15 @@ use std::test::Fail;
 
 /// An operation that lasts so long, with what it lists and what may come next.
 fn lasting(alloc: Global, min: u32, listings: &[Listing], next: &[u32]) -> Result<Operation, Memory>
-    ensures { IfOk result (λ o. o ≡ record { lower = 0; upper = None; min = min; listings = listings.now; next = next.now }) }
+    ensures { IfOk result
+        (λ o. o ≡ record {
+          lower = 0;
+          upper = None;
+          min = min;
+          listings = listings.now;
+          next =
+              next.now;
+        }) }
 {
     Ok(Operation {
         lower: 0,
@@ -25,7 +33,13 @@ fn lasting(alloc: Global, min: u32, listings: &[Listing], next: &[u32]) -> Resul
 
 /// What an operation costs for each unit of time before it starts.
 fn each_unit(train: u32, operation: u32, coeff: u32) -> Component
-    ensures { result ≡ record { train = train; operation = operation; threshold = 0; increment = 0; coeff = coeff } }
+    ensures { result ≡ record {
+      train = train;
+      operation = operation;
+      threshold = 0;
+      increment = 0;
+      coeff = coeff;
+    } }
 {
     Component {
         train,
@@ -44,7 +58,16 @@ fn name(alloc: Global, text: &str) -> Result<Text, Memory>
 
 /// A train that holds a resource for so long, then reaches its exit.
 fn holding(alloc: Global, min: u32, release: u32) -> Result<Train, Memory>
-    ensures { IfOk result (λ t. t ≡ record { lower = 0; upper = None; min = min; listings = record { resource = 0; release = release } ∷ []; next = 1 ∷ [] } ∷ record { lower = 0; upper = None; min = 0; listings = []; next = [] } ∷ []) }
+    ensures { IfOk result
+        (λ t. t ≡ record {
+          lower = 0;
+          upper = None;
+          min = min;
+          listings =
+              record { resource = 0; release = release } ∷ [];
+          next = 1 ∷ [];
+        }
+        ∷ record { lower = 0; upper = None; min = 0; listings = []; next = [] } ∷ []) }
 {
     let listing = Listing {
         resource: 0,
@@ -71,7 +94,24 @@ fn two_trains(alloc: Global, release: u32) -> Result<Problem, Memory>
 
 /// A train that holds one resource, then another, then reaches its exit.
 fn swapping(alloc: Global, first: u32, second: u32) -> Result<Train, Memory>
-    ensures { IfOk result (λ t. t ≡ record { lower = 0; upper = None; min = 10; listings = record { resource = first; release = 0 } ∷ []; next = 1 ∷ [] } ∷ record { lower = 0; upper = None; min = 0; listings = record { resource = second; release = 0 } ∷ []; next = 2 ∷ [] } ∷ record { lower = 0; upper = None; min = 0; listings = []; next = [] } ∷ []) }
+    ensures { IfOk result
+        (λ t. t ≡ record {
+          lower = 0;
+          upper = None;
+          min = 10;
+          listings =
+              record { resource = first; release = 0 } ∷ [];
+          next = 1 ∷ [];
+        }
+        ∷ record {
+          lower = 0;
+          upper = None;
+          min = 0;
+          listings =
+              record { resource = second; release = 0 } ∷ [];
+          next = 2 ∷ [];
+        }
+        ∷ record { lower = 0; upper = None; min = 0; listings = []; next = [] } ∷ []) }
 {
     let first = Listing {
         resource: first,

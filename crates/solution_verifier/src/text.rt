@@ -68,14 +68,15 @@ fn fault_text(alloc: Global, problem: &Problem, fault: &Fault) -> Result<String,
 }
 
 impl Fault {
-    /// Adds the fault's text at the end: the name of its variant, its numbers, and a resource by its name
-    /// in the problem as JSON, with one space between, as `Held 0 1 "r"`.
+    /// Adds the fault's text at the end: the name of its variant, its numbers, and a resource by
+    /// its name in the problem as JSON, with one space between, as `Held 0 1 "r"`.
     ///
     /// # Errors
     ///
     /// Where memory runs out the text is as before.
     pub fn write(&self, problem: &Problem, text: &mut String) -> Result<(), Memory>
-        ensures ok { OnOk result (string_bytes text.new ≡ string_bytes text.old ++ fault_text problem.now self.now) }
+        ensures ok { OnOk result
+            (string_bytes text.new ≡ string_bytes text.old ++ fault_text problem.now self.now) }
         ensures err { OnErr result (string_bytes text.new ≡ string_bytes text.old) }
     {
         let alloc = *text.allocator();

@@ -19,7 +19,8 @@ fn are_above(rank: u32, ranks: &[u32], numbers: &[u32]) -> bool
 fn first_not_rising(train: &[Operation], ranks: &[u32]) -> Option<usize>
     requires inside { AreInside train.now }
     requires long { length ranks.now ≡ length train.now }
-    ensures found { IfSome result (λ o. (o < length train.now) × RisesBefore train.now ranks.now o) }
+    ensures found { IfSome result
+        (λ o. (o < length train.now) × RisesBefore train.now ranks.now o) }
     ensures none { IfNone result (Rises train.now ranks.now) }
 {
     for (o, operation) in train.iter().enumerate() {
@@ -55,7 +56,8 @@ fn never_falls(train: &[Operation], ranks: &[u32]) -> bool
 /// Marks an operation, and adds it if it was not marked.
 fn visit_one(number: u32, marks: &mut [bool], ahead: &mut Vec<u32>) -> Result<(), Memory>
     requires inside { number < length marks.old }
-    ensures ok { OnOk result (Visits (number ∷ []) marks.old marks.new ahead.old.items ahead.new.items) }
+    ensures ok { OnOk result
+        (Visits (number ∷ []) marks.old marks.new ahead.old.items ahead.new.items) }
 {
     if !marks[number as usize] {
         ahead.push(number)?;
@@ -67,7 +69,8 @@ fn visit_one(number: u32, marks: &mut [bool], ahead: &mut Vec<u32>) -> Result<()
 /// Marks the operations, and adds those that were not marked.
 fn visit(numbers: &[u32], marks: &mut [bool], ahead: &mut Vec<u32>) -> Result<(), Memory>
     requires inside { All (λ s. s < length marks.old) numbers.now }
-    ensures ok { OnOk result (Visits numbers.now marks.old marks.new ahead.old.items ahead.new.items) }
+    ensures ok { OnOk result
+        (Visits numbers.now marks.old marks.new ahead.old.items ahead.new.items) }
 {
     for number in numbers {
         visit_one(*number, marks, ahead)?;
@@ -138,8 +141,8 @@ fn first_by_search(alloc: Global, train: &[Operation]) -> Result<Option<u32>, Me
 }
 
 /// The least operation that lies on a cycle, in time that grows with the operations and their
-/// successors: the ranks tell it, and are tested. Were they wrong, a search from each operation in turn
-/// would decide.
+/// successors: the ranks tell it, and are tested. Were they wrong, a search from each operation in
+/// turn would decide.
 pub(crate) fn first_on_cycle(alloc: Global, train: &[Operation]) -> Result<Option<u32>, Memory>
     requires inside { AreInside train.now }
     requires small { length train.now < 2 ^ 32 }

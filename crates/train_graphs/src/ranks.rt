@@ -10,8 +10,8 @@ struct Stop {
     tried: u32,
 }
 
-/// How far a search in depth has come (Tarjan 1972). Nothing is proved of what it finds but how long
-/// its ranks are: who uses them tests them.
+/// How far a search in depth has come (Tarjan 1972). Nothing is proved of what it finds but how
+/// long its ranks are: who uses them tests them.
 #[derive(Drop)]
 struct Search {
     /// When each operation was met, counted from 1 on, or 0.
@@ -155,9 +155,9 @@ fn finish(search: &mut Search, train: &[Operation]) -> Result<(), Memory>
     Ok(())
 }
 
-/// A rank for each operation, in time that grows with the operations and their successors. Those on one
-/// cycle have the same rank, and a successor on no cycle with the operation has a higher one. (Of this
-/// nothing is proved but that there are so many.)
+/// A rank for each operation, in time that grows with the operations and their successors. Those on
+/// one cycle have the same rank, and a successor on no cycle with the operation has a higher one.
+/// (Of this nothing is proved but that there are so many.)
 pub(crate) fn ranks_of(alloc: Global, train: &[Operation]) -> Result<Vec<u32>, Memory>
     requires small { length train.now < 2 ^ 32 }
     ensures { IfOk result (λ ranks. vec_len ranks ≡ length train.now) }

@@ -1,4 +1,5 @@
-// Faults of small trains, and the greatest cost. What a reader finds by these calls is tested there.
+// Faults of small trains, and the greatest cost. What a reader finds by these calls is tested
+// there.
 use crate::{first_loop, first_not_entered, first_not_left, greatest_sum};
 use disp_model::{Component, GREATEST_NUMBER, List, Operation, Train};
 use std::test::Fail;

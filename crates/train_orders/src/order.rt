@@ -78,7 +78,8 @@ fn finish(search: &mut Search, train: &[Operation]) -> Result<(), Memory>
     requires acyclic { IsAcyclic train.now }
     requires searches { Searches train.now search.old }
     ensures searches { OnOk result (Searches train.now search.new) }
-    ensures opened { OnOk result ((o : ℕ) → IsOpened search.old.opened.items o → IsOpened search.new.opened.items o) }
+    ensures opened { OnOk result ((o : ℕ) → IsOpened search.old.opened.items o
+        → IsOpened search.new.opened.items o) }
     ensures ends { OnOk result (search.new.path.items ≡ []) }
 {
     while let Some(at) = search.path.last().copied() {
@@ -95,7 +96,8 @@ fn visit(search: &mut Search, train: &[Operation], start: u32) -> Result<(), Mem
     requires empty { search.old.path.items ≡ [] }
     requires start { start < length train.now }
     ensures searches { OnOk result (Searches train.now search.new) }
-    ensures opened { OnOk result ((o : ℕ) → IsOpened search.old.opened.items o → IsOpened search.new.opened.items o) }
+    ensures opened { OnOk result ((o : ℕ) → IsOpened search.old.opened.items o
+        → IsOpened search.new.opened.items o) }
     ensures start { OnOk result (IsOpened search.new.opened.items start) }
     ensures ends { OnOk result (search.new.path.items ≡ []) }
 {
@@ -106,8 +108,8 @@ fn visit(search: &mut Search, train: &[Operation], start: u32) -> Result<(), Mem
     finish(search, train)
 }
 
-/// The operations of a train, each behind all of its successors, so that the entry is the last. Takes time
-/// linear in the operations and their successors.
+/// The operations of a train, each behind all of its successors, so that the entry is the last.
+/// Takes time linear in the operations and their successors.
 pub fn order_of(alloc: Global, train: &[Operation]) -> Result<Vec<u32>, Memory>
     requires inside { IsInside train.now }
     requires acyclic { IsAcyclic train.now }

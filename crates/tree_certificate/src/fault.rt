@@ -6,8 +6,8 @@ use std::alloc::{AllocError, AllocFailed};
 /// Why bytes are no tree's text: the first line that breaks a rule. Lines are counted from 1.
 #[derive(Clone, Copy, Debug, PartialEq, Eq)]
 pub enum TreeNo {
-    /// The line is none that may stand there: another kind, another number of fields, a field that is
-    /// no number, or a branch of a route without children.
+    /// The line is none that may stand there: another kind, another number of fields, a field that
+    /// is no number, or a branch of a route without children.
     BadLine(u64),
     /// A number of the line is above its limit.
     TooLarge(u64),

@@ -7,8 +7,8 @@ ghost use Rattle.tree_certificate.specs.TreeTexts.{tree_text, needs_third};
 ghost use Rattle.tree_certificate.specs.TreesRead.{TreeRead, tree_at, read_of};
 ghost use Rattle.tree_certificate.specs.Versions.{Completes, IsText, later_version};
 
-/// What is written of a tree within the limits, each of whose branches has its children, is the text
-/// of its edition, its verdict and its nodes, and is read again as these.
+/// What is written of a tree within the limits, each of whose branches has its children, is the
+/// text of its edition, its verdict and its nodes, and is read again as these.
 pub fn written_is_read()
     ensures is_text { (edition : ℕ) (verdict : Verdict) (tree : List TreeNode) → edition ≤ 65535
         → FitsVerdict verdict → All FitsNode tree → Completes 1 tree

@@ -17,7 +17,8 @@ pub(crate) fn push_op(text: &mut String, op: Op) -> Result<(), Memory>
 
 /// Adds operations in their order.
 fn push_ops(text: &mut String, ops: &[Op]) -> Result<(), Memory>
-    ensures { OnOk result (Adds (string_bytes text.old) (string_bytes text.new) (ops_text ops.now)) }
+    ensures { OnOk result
+        (Adds (string_bytes text.old) (string_bytes text.new) (ops_text ops.now)) }
 {
     for op in ops {
         push_op(text, *op)?;
@@ -37,7 +38,8 @@ fn push_list(text: &mut String, word: &str, ops: &[Op]) -> Result<(), Memory>
 
 /// Adds the line of a walk to a component.
 fn push_walk(text: &mut String, walk: &ComponentWalk) -> Result<(), Memory>
-    ensures { OnOk result (Adds (string_bytes text.old) (string_bytes text.new) (walk_text walk.now)) }
+    ensures { OnOk result
+        (Adds (string_bytes text.old) (string_bytes text.new) (walk_text walk.now)) }
 {
     let component = walk.component;
     write!(text, "walk {component}")?;
@@ -69,7 +71,8 @@ fn push_tos(text: &mut String, walks: &[List<Op>]) -> Result<(), Memory>
 
 /// Adds the lines of a train.
 fn push_train(text: &mut String, listed: &TrainWalks) -> Result<(), Memory>
-    ensures { OnOk result (Adds (string_bytes text.old) (string_bytes text.new) (train_text listed.now)) }
+    ensures { OnOk result
+        (Adds (string_bytes text.old) (string_bytes text.new) (train_text listed.now)) }
 {
     let train = listed.train;
     let count = listed.walks.len();
@@ -116,7 +119,8 @@ fn push_shares(
 
 /// Adds the lines of a leaf.
 pub(crate) fn push_leaf(text: &mut String, leaf: &Leaf) -> Result<(), Memory>
-    ensures { OnOk result (Adds (string_bytes text.old) (string_bytes text.new) (leaf_text leaf.now)) }
+    ensures { OnOk result
+        (Adds (string_bytes text.old) (string_bytes text.new) (leaf_text leaf.now)) }
 {
     match leaf {
         Leaf::NoRoute => push_text(text, "noroute\n"),

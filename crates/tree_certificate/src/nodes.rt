@@ -232,7 +232,8 @@ pub(crate) fn nodes_at(
     third: bool,
     bytes: &[u8],
 ) -> Result<(Vec<TreeNode>, &[u8]), ReadError>
-    ensures { Gives (λ x. (x.0.items, x.1.now)) result (nodes_at third (length bytes.now) 1 bytes.now) }
+    ensures { Gives (λ x. (x.0.items, x.1.now)) result
+        (nodes_at third (length bytes.now) 1 bytes.now) }
 {
     let mut nodes = Vec::new(alloc);
     let mut rest = bytes;

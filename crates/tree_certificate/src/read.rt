@@ -197,7 +197,8 @@ fn answer(alloc: Global, bytes: &[u8]) -> Result<(Option<u32>, Verdict, Tree), T
 /// The first line that breaks a rule, as `TreeNo` says; `Memory` may come in place of any answer.
 pub fn read_tree(alloc: Global, bytes: &[u8]) -> Result<(Option<u32>, Verdict, Tree), TreeNo>
     // What is read is a text of a tree within the limits.
-    ensures found { IfOk result (λ x. (version : Version) × IsText bytes.now version (read_of x.0 x.1 x.2)) }
+    ensures found { IfOk result
+        (λ x. (version : Version) × IsText bytes.now version (read_of x.0 x.1 x.2)) }
     // Each such text is read as what it is the text of.
     ensures only { (version : Version) (read : TreeRead) → IsText bytes.now version read
         → MatchResult result (λ x. read_of x.0 x.1 x.2 ≡ read) (λ why. why ≡ TreeNo.Memory) }

@@ -36,7 +36,8 @@ fn push_branch(text: &mut String, choice: Choice, children: u32) -> Result<(), M
 
 /// Adds the lines of a node.
 fn push_node(text: &mut String, node: &TreeNode) -> Result<(), Memory>
-    ensures { OnOk result (Adds (string_bytes text.old) (string_bytes text.new) (node_text node.now)) }
+    ensures { OnOk result
+        (Adds (string_bytes text.old) (string_bytes text.new) (node_text node.now)) }
 {
     match node {
         TreeNode::Branch { choice, children } => push_branch(text, *choice, *children),

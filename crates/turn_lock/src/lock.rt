@@ -30,7 +30,8 @@ impl<S: History, A: Allocator> Turn<S, A> {
     where
         A: Clone,
         requires { S.entries state ≡ [] }
-        ensures { IfOk result (λ made. (own_lock made.1 ≡ lock_of made.0) × (view made.1 ≡ first_view caller)) }
+        ensures { IfOk result (λ made. (own_lock made.1 ≡ lock_of made.0)
+            × (view made.1 ≡ first_view caller)) }
     {
         let mut slots = Vec::new(alloc.clone()?);
         let Ok(()) = slots.push(Some(state)) else {
@@ -46,8 +47,10 @@ impl<S: History, A: Allocator> Turn<S, A> {
     pub fn split(&self, pass: &mut Pass<S>, caller: u64) -> Pass<S>
         requires lock { own_lock pass.old ≡ lock_of self.now }
         requires first { (view pass.old).first ≡ true }
-        requires new_caller { (caller ≡ (view pass.old).caller → ⊥) × (Contains (view pass.old).given caller → ⊥) }
-        ensures lock { (own_lock pass.new ≡ own_lock pass.old) × (own_lock result ≡ own_lock pass.old) }
+        requires new_caller { (caller ≡ (view pass.old).caller → ⊥)
+            × (Contains (view pass.old).given caller → ⊥) }
+        ensures lock { (own_lock pass.new ≡ own_lock pass.old)
+            × (own_lock result ≡ own_lock pass.old) }
         ensures view { view pass.new ≡ giving (view pass.old) caller }
         ensures given { view result ≡ given_view (view pass.old) caller }
         ensures owns { OwnsPlaces S.named (view result) }
@@ -65,7 +68,8 @@ impl<S: History, A: Allocator> Turn<S, A> {
         ensures lock { own_lock pass.new ≡ own_lock pass.old }
         ensures view { view pass.new ≡ joining (view pass.old) (view other) }
         ensures apart { AreApart (view pass.old).mine (view other).mine }
-        ensures one { StartsWith (longer_of (view pass.old).seen (view other).seen) (shorter_of (view pass.old).seen (view other).seen) }
+        ensures one { StartsWith (longer_of (view pass.old).seen (view other).seen)
+            (shorter_of (view pass.old).seen (view other).seen) }
         ensures owns { OwnsPlaces S.named (view pass.new) }
     {
         let Pass { seat } = other;
@@ -85,7 +89,8 @@ impl<S: History, A: Allocator> Turn<S, A> {
         requires lock { own_lock pass.old ≡ lock_of self.now }
         requires section { MayRun S.entries S.named F.FnOnce section (view pass.old) }
         ensures lock { own_lock pass.new ≡ own_lock pass.old }
-        ensures ran { RunsOnce S.entries S.named F.FnOnce section (view pass.old) result (view pass.new) }
+        ensures ran { RunsOnce S.entries S.named F.FnOnce section (view pass.old) result
+            (view pass.new) }
     {
         for _ in rt.forever() {
             if self.take(&mut pass.seat) {
@@ -96,7 +101,8 @@ impl<S: History, A: Allocator> Turn<S, A> {
         unreachable!()
     }
 
-    /// Runs the section as `with` does where one try gets the turn. `Busy` comes only where that try found it taken.
+    /// Runs the section as `with` does where one try gets the turn. `Busy` comes only where that
+    /// try found it taken.
     pub fn try_with<R, F: FnOnce(&mut S) -> R>(
         &self,
         pass: &mut Pass<S>,
@@ -105,7 +111,9 @@ impl<S: History, A: Allocator> Turn<S, A> {
         requires lock { own_lock pass.old ≡ lock_of self.now }
         requires section { MayRun S.entries S.named F.FnOnce section (view pass.old) }
         ensures lock { own_lock pass.new ≡ own_lock pass.old }
-        ensures ran { IfOk result (λ answer. RunsOnce S.entries S.named F.FnOnce section (view pass.old) answer (view pass.new) × ((view pass.new).tries ≡ (view pass.old).tries)) }
+        ensures ran { IfOk result
+            (λ answer. RunsOnce S.entries S.named F.FnOnce section (view pass.old) answer
+            (view pass.new) × ((view pass.new).tries ≡ (view pass.old).tries)) }
         ensures busy { IfErr result (λ _. view pass.new ≡ missed (view pass.old)) }
     {
         let taken = self.take(&mut pass.seat);
@@ -133,7 +141,8 @@ impl<S: History, A: Allocator> Turn<S, A> {
         requires last { IsLast (view pass) }
         ensures seen { S.entries result ≡ (view pass).seen }
         ensures count { (view pass).count ≤ length (S.entries result) }
-        ensures places { (place : ℕ) → place < length (S.entries result) → Contains (view pass).mine place }
+        ensures places { (place : ℕ) → place < length (S.entries result)
+            → Contains (view pass).mine place }
     {
         let Turn { table } = self;
         let Pass { seat } = pass;

@@ -14,7 +14,8 @@ pub struct View<E> {
     pub caller: u64,
     /// The entries that it knows the history to begin with.
     pub seen: LinkedList<E>,
-    /// The places in the history of the entries that its caller made, and of those that joined passes brought.
+    /// The places in the history of the entries that its caller made, and of those that joined
+    /// passes brought.
     pub mine: LinkedList<u64>,
     /// The count of entries that it read last.
     pub count: u64,

@@ -37,9 +37,11 @@ fn note<R: Wait>(
     requires lock { own_lock pass ≡ lock_of lock.now }
     requires caller { (view pass).caller ≡ by }
     ensures lock { own_lock result.0 ≡ lock_of lock.now }
-    ensures role { ((view result.0).first ≡ (view pass).first) × ((view result.0).caller ≡ by) × ((view result.0).given ≡ (view pass).given) × ((view result.0).back ≡ (view pass).back) }
+    ensures role { ((view result.0).first ≡ (view pass).first) × ((view result.0).caller ≡ by)
+        × ((view result.0).given ≡ (view pass).given) × ((view result.0).back ≡ (view pass).back) }
     ensures none { IsNone value → (view result.0).mine ≡ (view pass).mine }
-    ensures one { IsTrue result.1 → (place : ℕ) × ((view result.0).mine ≡ (view pass).mine ++ place ∷ []) }
+    ensures one { IsTrue result.1 → (place : ℕ)
+        × ((view result.0).mine ≡ (view pass).mine ++ place ∷ []) }
 {
     let added = lock.with(rt, &mut pass, |log| log.note(by, value));
     (pass, added)

@@ -25,8 +25,10 @@ impl<S: History, A: Allocator> Turn<S, A> {
         requires named { caller ≡ C.caller }
         requires table { seat.old.table_id ≡ lock_of self.now }
         requires first { (seat.old.me.0.first ≡ true) × (seat.old.me.0.spent ≡ false) }
-        requires new_caller { (caller ≡ seat.old.me.0.caller → ⊥) × (Contains seat.old.me.0.given caller → ⊥) }
-        ensures table { (seat.new.table_id ≡ seat.old.table_id) × (result.table_id ≡ seat.old.table_id) }
+        requires new_caller { (caller ≡ seat.old.me.0.caller → ⊥)
+            × (Contains seat.old.me.0.given caller → ⊥) }
+        ensures table { (seat.new.table_id ≡ seat.old.table_id)
+            × (result.table_id ≡ seat.old.table_id) }
         ensures left { seat.new.me ≡ (giving seat.old.me.0 caller, seat.old.me.1) }
         ensures right { result.me ≡ (given_view seat.old.me.0 caller, []) }
     {
@@ -38,7 +40,8 @@ impl<S: History, A: Allocator> Turn<S, A> {
         requires table { seat.old.table_id ≡ lock_of self.now }
         requires idle { (seat.old.me.0.holding ≡ false) × (seat.old.me.0.spent ≡ false) }
         ensures table { seat.new.table_id ≡ seat.old.table_id }
-        ensures turn { MatchBool result (Took S.entries S.named seat.old.me seat.new.me) (Missed S.entries S.named seat.old.me seat.new.me) }
+        ensures turn { MatchBool result (Took S.entries S.named seat.old.me seat.new.me)
+            (Missed S.entries S.named seat.old.me seat.new.me) }
     {
         self.table.shared.compare_exchange::<Take>(seat, LOCK, 0, 1) == 0
     }
@@ -51,11 +54,14 @@ impl<S: History, A: Allocator> Turn<S, A> {
     ) -> R
         requires table { seat.old.table_id ≡ lock_of self.now }
         requires turn { HasTurn seat.old.me.0 }
-        requires carries { (state : S) × (seat.old.me.1 ≡ (0, Some state) ∷ []) × (S.entries state ≡ seat.old.me.0.held) }
+        requires carries { (state : S) × (seat.old.me.1 ≡ (0, Some state) ∷ [])
+            × (S.entries state ≡ seat.old.me.0.held) }
         requires begins { Begins S.named seat.old.me.0 seat.old.me.0.held }
         requires section { MayRun S.entries S.named F.FnOnce section seat.old.me.0 }
         ensures table { (seat.new.table_id ≡ seat.old.table_id) × (seat.new.me.1 ≡ []) }
-        ensures ran { (before : S) × (after : S) × FnOnceReturnsAtMut F.FnOnce section before result after × Left S.named seat.old.me.0 (S.entries before) (S.entries after) seat.new.me.0 }
+        ensures ran { (before : S) × (after : S)
+            × FnOnceReturnsAtMut F.FnOnce section before result after
+            × Left S.named seat.old.me.0 (S.entries before) (S.entries after) seat.new.me.0 }
     {
         let mut state = self.take_out(seat);
         let before = state.count();
@@ -70,9 +76,13 @@ impl<S: History, A: Allocator> Turn<S, A> {
     fn give_back(&self, seat: &mut Seat<Option<S>, View<S::Entry>>, grew: bool)
         requires table { seat.old.table_id ≡ lock_of self.now }
         requires turn { HasTurn seat.old.me.0 }
-        requires carries { (state : S) × (seat.old.me.1 ≡ (0, Some state) ∷ []) × (length (S.entries state) < 2 ^ 64) × MatchBool grew (AddsEntry S.named seat.old.me.0.caller seat.old.me.0.held (S.entries state)) (S.entries state ≡ seat.old.me.0.held) }
+        requires carries { (state : S) × (seat.old.me.1 ≡ (0, Some state) ∷ [])
+            × (length (S.entries state) < 2 ^ 64)
+            × MatchBool grew (AddsEntry S.named seat.old.me.0.caller seat.old.me.0.held
+            (S.entries state)) (S.entries state ≡ seat.old.me.0.held) }
         ensures table { (seat.new.table_id ≡ seat.old.table_id) × (seat.new.me.1 ≡ []) }
-        ensures left { (state : S) → seat.old.me.1 ≡ (0, Some state) ∷ [] → GaveBack S.named seat.old.me.0 grew (S.entries state) seat.new.me.0 }
+        ensures left { (state : S) → seat.old.me.1 ≡ (0, Some state) ∷ []
+            → GaveBack S.named seat.old.me.0 grew (S.entries state) seat.new.me.0 }
     {
         self.count_entry(seat, grew);
         self.table.shared.store::<Release>(seat, LOCK, 0);
@@ -83,9 +93,13 @@ impl<S: History, A: Allocator> Turn<S, A> {
     fn count_entry(&self, seat: &mut Seat<Option<S>, View<S::Entry>>, grew: bool)
         requires table { seat.old.table_id ≡ lock_of self.now }
         requires turn { HasTurn seat.old.me.0 }
-        requires carries { (state : S) × (seat.old.me.1 ≡ (0, Some state) ∷ []) × (length (S.entries state) < 2 ^ 64) × MatchBool grew (AddsEntry S.named seat.old.me.0.caller seat.old.me.0.held (S.entries state)) (S.entries state ≡ seat.old.me.0.held) }
+        requires carries { (state : S) × (seat.old.me.1 ≡ (0, Some state) ∷ [])
+            × (length (S.entries state) < 2 ^ 64)
+            × MatchBool grew (AddsEntry S.named seat.old.me.0.caller seat.old.me.0.held
+            (S.entries state)) (S.entries state ≡ seat.old.me.0.held) }
         ensures table { (seat.new.table_id ≡ seat.old.table_id) × (seat.new.me.1 ≡ seat.old.me.1) }
-        ensures counted { (state : S) → seat.old.me.1 ≡ (0, Some state) ∷ [] → HasCounted S.named seat.old.me.0 grew (S.entries state) seat.new.me.0 }
+        ensures counted { (state : S) → seat.old.me.1 ≡ (0, Some state) ∷ []
+            → HasCounted S.named seat.old.me.0 grew (S.entries state) seat.new.me.0 }
     {
         if grew {
             self.table.shared.fetch_add::<Enter>(seat, COUNT, 1);

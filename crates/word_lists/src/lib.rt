@@ -7,7 +7,8 @@ use std::alloc::{AllocError, Global};
 
 /// A list of the words.
 pub fn words_of(alloc: Global, words: &[&str]) -> Result<Vec<String>, AllocError>
-    ensures { IfOk result (λ list. map (λ word. string_bytes word) list.items ≡ map (λ word. word.now) words.now) }
+    ensures { IfOk result (λ list. map (λ word. string_bytes word) list.items
+        ≡ map (λ word. word.now) words.now) }
 {
     let mut list = Vec::new(alloc);
     for word in words {

@@ -25,12 +25,15 @@ fn print_file<S: Shelf, O: Sink>(
     out: &mut O,
     name: &str,
 ) -> Result<(), PrintNo>
-    ensures printed { OnOk result (IfSome (S.holds shelf.old name.now) (λ file. IfSome file (λ bytes.
+    ensures printed { OnOk result
+        (IfSome (S.holds shelf.old name.now) (λ file. IfSome file (λ bytes.
         O.written out.new ≡ append_known (O.written out.old) bytes))) }
     ensures fetch { IsErrOf result (PrintNo.Fetch FetchNo.Failed)
         ↔ (S.reading_faults shelf.old name.now < S.reading_faults shelf.new name.now) }
-    ensures write { IsErrOf result (PrintNo.Write WriteNo.Failed) ↔ (O.faults out.old < O.faults out.new) }
-    ensures others { (other : List ℕ) → other ≢ name.now → S.reading_faults shelf.new other ≡ S.reading_faults shelf.old other }
+    ensures write { IsErrOf result (PrintNo.Write WriteNo.Failed)
+        ↔ (O.faults out.old < O.faults out.new) }
+    ensures others { (other : List ℕ) → other ≢ name.now → S.reading_faults shelf.new other
+        ≡ S.reading_faults shelf.old other }
 {
     let bytes = match shelf.fetch(alloc, name, 9) {
         Ok(bytes) => bytes,
@@ -63,8 +66,10 @@ fn begin<S: Shelf>(
 ) -> Result<FeedLine, FeedNo>
     ensures failed { ((result ≡ Err FeedNo.Failed) ⊎ (result ≡ Ok FeedLine.Failed))
         ↔ (S.reading_faults shelf.old name.now < S.reading_faults shelf.new name.now) }
-    ensures end { result ≡ Ok FeedLine.End → IfSome (S.holds shelf.old name.now) (λ file. IfSome file (λ bytes. lines_of bytes ≡ [])) }
-    ensures others { (other : List ℕ) → other ≢ name.now → S.reading_faults shelf.new other ≡ S.reading_faults shelf.old other }
+    ensures end { result ≡ Ok FeedLine.End
+        → IfSome (S.holds shelf.old name.now) (λ file. IfSome file (λ bytes. lines_of bytes ≡ [])) }
+    ensures others { (other : List ℕ) → other ≢ name.now → S.reading_faults shelf.new other
+        ≡ S.reading_faults shelf.old other }
     ensures held { (other : List ℕ) → S.holds shelf.new other ≡ S.holds shelf.old other }
 {
     let mut feed = shelf.feed(alloc, name)?;

@@ -33,7 +33,15 @@ fn step(
     listings: &[Listing],
     next: &[u32],
 ) -> Result<Operation, Memory>
-    ensures { IfOk result (λ o. o ≡ record { lower = lower; upper = upper; min = min; listings = listings.now; next = next.now }) }
+    ensures { IfOk result
+        (λ o. o ≡ record {
+          lower = lower;
+          upper = upper;
+          min = min;
+          listings = listings.now;
+          next =
+              next.now;
+        }) }
 {
     Ok(Operation {
         lower,
@@ -77,8 +85,8 @@ pub(super) fn nothing(alloc: Global) -> Problem {
     made(List::new(alloc), List::new(alloc), List::new(alloc))
 }
 
-/// One train of two operations, the first of duration 5, which lists a resource twice, and a component
-/// on the second.
+/// One train of two operations, the first of duration 5, which lists a resource twice, and a
+/// component on the second.
 pub(super) fn two_steps(
     alloc: Global,
     upper: Option<u32>,

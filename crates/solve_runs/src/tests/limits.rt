@@ -3,7 +3,8 @@ use super::doubles::solve;
 use std::alloc::Global;
 use std::test::Fail;
 
-// A problem of trains of one operation, or of one train of operations, each after a comma but the first.
+// A problem of trains of one operation, or of one train of operations, each after a comma but the
+// first.
 fn problem_of(
     alloc: Global,
     first: &str,

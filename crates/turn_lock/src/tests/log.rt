@@ -40,7 +40,10 @@ impl Log {
     /// Adds a note by this caller, if there is a value and memory, and says whether it did.
     pub fn note(&mut self, by: u64, value: Option<u32>) -> bool
         ensures none { IsNone value → self.new.notes.items ≡ self.old.notes.items }
-        ensures added { MatchBool result ((n : ℕ) × (self.new.notes.items ≡ self.old.notes.items ++ record { by = Some by; value = n } ∷ [])) (self.new.notes.items ≡ self.old.notes.items) }
+        ensures added { MatchBool result
+            ((n : ℕ) × (self.new.notes.items ≡ self.old.notes.items
+            ++ record { by = Some by; value = n } ∷ []))
+            (self.new.notes.items ≡ self.old.notes.items) }
     {
         let Some(value) = value else {
             return false;

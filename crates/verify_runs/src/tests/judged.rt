@@ -7,7 +7,8 @@ use std::process::Abort;
 use std::test::Fail;
 use word_lists::words_of;
 
-// Two trains that share r: one holds it for 10, the other for 4. Each costs the start of its second operation.
+// Two trains that share r: one holds it for 10, the other for 4. Each costs the start of its second
+// operation.
 pub(crate) const TWO: &str =
     r#"{"trains":[[{"min_duration":10,"resources":[{"resource":"r"}],"successors":[1]},{}],[{"min_duration":4,"resources":[{"resource":"r"}],"successors":[1]},{}]],"objective":[{"type":"op_delay","train":0,"operation":1,"coeff":1},{"type":"op_delay","train":1,"operation":1,"coeff":1}]}"#;
 
