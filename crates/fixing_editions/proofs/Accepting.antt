@@ -18,18 +18,15 @@ use Rattle.disp_model.specs.declared.reply.Refusal.TheVariants.{NoTrain, NoOpera
 use Rattle.disp_model.specs.WellFormed.{RefersInside}
 use Rattle.disp_model.specs.Valid.{train_at}
 use Rattle.disp_model.specs.Changes.{numbered_standing, standing_of, change_at, withdrawn_from}
+use Rattle.disp_model.specs.Node.{root_of}
 use Rattle.disp_model.specs.Walks.{fixed_start, not_before}
+use Rattle.disp_model.specs.Routes.{HasRoute}
 use Rattle.disp_model.specs.Replies.{Row, known_as, fixed_next, IsCounted, IsRouted, RepliesToStart, RepliesToChoice, RepliesToEarliest, RepliesToFixing, RepliesToWithdrawal, IsReply, IsEdition}
 use Rattle.disp_laws.proofs.Tightened.{within_row}
-use Rattle.fixing_editions.specs.Own.{train_of, own_of}
-use Rattle.fixing_editions.specs.Wishes.{HasRouteOf}
+use Rattle.fixing_editions.specs.Own.{train_of, own_of, fixings_with}
 use Rattle.fixing_editions.specs.Answers.{IsFound}
 use Rattle.train_orders.proofs.Places.{get_push_cases}
 use Rattle.fixing_editions.proofs.Owning.{routes_are}
-
-pub inside_of : (problem : Problem) (t : ℕ) → t < length problem.trains → All (λ o. All (λ s. s < length (train_at problem t)) o.next) (train_at problem t)
-inside_of problem t lt =
-    All-weaker (RefersInside (length (train_at problem t)) (length problem.names)) (λ o. All (λ s. s < length (train_at problem t)) o.next) (λ o refers. refers.next) (train_at problem t) (problem.well_formed.references t [] lt)
 
 -- ---- the number of an accepted change
 
@@ -166,13 +163,13 @@ edition_more problem changes change n edition reply is i c here = elim (get_push
 
 -- ---- a fixing that is new
 
-pub routed_none : (problem : Problem) (changes : List Change) (fixing : Fixing) (t : ℕ) (has : Bool) → train_of fixing ≡ t
-    → (IsTrue has ↔ HasRouteOf (train_at problem t) (own_of t (numbered_standing changes)) fixing) → has ≡ false → IsRouted problem changes t fixing (Refused NoRoute)
-routed_none problem changes fixing t has own says not = inl (λ route. false≢true (sym not ∙ says.1 ((routes_are problem t changes fixing own).1 route)), refl)
+pub routed_none : (problem : Problem) (changes : List Change) (fixing : Fixing) (t : ℕ) (has : Bool)
+    → (IsTrue has ↔ HasRoute (root_of problem (fixings_with (own_of t (numbered_standing changes)) fixing)) t) → has ≡ false → IsRouted problem changes t fixing (Refused NoRoute)
+routed_none problem changes fixing t has says not = inl (λ route. false≢true (sym not ∙ says.1 ((routes_are problem t changes fixing).1 route)), refl)
 
-pub routed_counted : (problem : Problem) (changes : List Change) (fixing : Fixing) (t : ℕ) (has : Bool) (reply : Reply) → train_of fixing ≡ t
-    → (IsTrue has ↔ HasRouteOf (train_at problem t) (own_of t (numbered_standing changes)) fixing) → has ≡ true → IsCounted changes reply → IsRouted problem changes t fixing reply
-routed_counted problem changes fixing t has reply own says is counted = inr (λ none. none ((routes_are problem t changes fixing own).0 (says.0 is)), counted)
+pub routed_counted : (problem : Problem) (changes : List Change) (fixing : Fixing) (t : ℕ) (has : Bool) (reply : Reply)
+    → (IsTrue has ↔ HasRoute (root_of problem (fixings_with (own_of t (numbered_standing changes)) fixing)) t) → has ≡ true → IsCounted changes reply → IsRouted problem changes t fixing reply
+routed_counted problem changes fixing t has reply says is counted = inr (λ none. none ((routes_are problem t changes fixing).0 (says.0 is)), counted)
 
 -- ---- the reply to a choice, by the operation that is found
 

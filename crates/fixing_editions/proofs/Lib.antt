@@ -1,8 +1,5 @@
 mod Accepting
-mod Entered
-mod Joining
 mod Keeping
 mod Owning
 mod SmallProblems
 mod Standing
-mod Sweeping

@@ -1,6 +1,6 @@
 -- What each train's own fixings say is what all that stand say of it.
-use Rattle.std.proofs.Common.{◌≡◌, ℕ, max, List, [], ◌∷◌, ◌++◌, Option, Some, Bool, true, false, refl, sym, ap, ◌∙◌, inl, inr, arith}
-use Rattle.std.specs.Prelude.{nat_eq, All, map, ◌↔◌, ◌&&◌}
+use Rattle.std.proofs.Common.{◌≡◌, ℕ, ◌<◌, length, max, List, [], ◌∷◌, ◌++◌, Option, Some, Bool, true, false, refl, sym, ap, ◌∙◌, inl, inr, arith}
+use Rattle.std.specs.Prelude.{nat_eq, All, map, not, IsTrue, ◌↔◌, ◌&&◌}
 use Rattle.std.proofs.lemmas.Bool.{cases_Bool, eqb-true, eqb-false, false≢true}
 use Rattle.std.proofs.lemmas.List.Elements.{All-nil, All-cons, All-head, All-tail, All-push, All-pop}
 use Rattle.disp_model.specs.declared.fixing.Fixing.{Fixing}
@@ -9,14 +9,13 @@ use Rattle.disp_model.specs.declared.fixing.Change.{Change}
 use Rattle.disp_model.specs.declared.problem.Problem.{Problem}
 use Rattle.disp_model.specs.Valid.{train_at}
 use Rattle.disp_model.specs.Changes.{numbered_standing, standing_of}
-use Rattle.disp_model.specs.Node.{root_of}
+use Rattle.disp_model.specs.Node.{Node, root_of}
 use Rattle.disp_model.specs.Walks.{fixed_start, not_before}
 use Rattle.disp_model.specs.Routes.{AgreesWithFixing, AgreesWithDecision, HasRoute}
 use Rattle.disp_model.specs.Replies.{is_same, known_as, fixed_next}
+use Rattle.disp_laws.proofs.RouteSearch.{Decided, has_route_or_not}
 use Rattle.fixing_editions.specs.declared.train_fixings.Numbered.{Numbered}
-use Rattle.fixing_editions.specs.Own.{train_of, own_of, number_in, start_in, next_in, earliest_in}
-use Rattle.fixing_editions.specs.Wishes.{Agrees, HasRouteOf}
-use Rattle.fixing_editions.proofs.Joining.{AgreesWith}
+use Rattle.fixing_editions.specs.Own.{train_of, own_of, fixings_with, number_in, start_in, next_in, earliest_in}
 
 -- ---- numbers
 
@@ -117,51 +116,71 @@ earliest_found t o changes kept is =
 
 -- ---- routes
 
-agrees_own : (route : List ℕ) (t : ℕ) (f : Fixing) → train_of f ≡ t → Agrees route f ↔ AgreesWithFixing t route f
-agrees_own route t (Started u o time) own = (λ h same. h, λ h. h own)
-agrees_own route t (Chosen u o next) own = (λ h same. h, λ h. h own)
-agrees_own route t (NotBefore u o time) own = (λ h. h, λ h. h)
-
 agrees_other : (route : List ℕ) (t : ℕ) (f : Fixing) → (train_of f ≡ t → ⊥) → AgreesWithFixing t route f
 agrees_other route t (Started u o time) other = λ same. absurd (other same)
 agrees_other route t (Chosen u o next) other = λ same. absurd (other same)
 agrees_other route t (NotBefore u o time) other = tt
 
-all_agree : (route : List ℕ) (t : ℕ) (standing : List (ℕ × Fixing)) → All (AgreesWith route) (own_of t standing) → All (AgreesWithFixing t route) (fixings_in standing)
+abbrev own_fixings : List Numbered → List Fixing
+own_fixings kept = map (λ n. n.fixing) kept
+
+all_agree : (route : List ℕ) (t : ℕ) (standing : List (ℕ × Fixing)) → All (AgreesWithFixing t route) (own_fixings (own_of t standing)) → All (AgreesWithFixing t route) (fixings_in standing)
 all_agree route t [] all = All-nil (AgreesWithFixing t route)
 all_agree route t (p ∷ standing) all = elim (cases_Bool (nat_eq (train_of p.1) t)) [
   | inl e ↦
-      let h : All (AgreesWith route) (record { number = p.0; fixing = p.1 } ∷ own_of t standing) = rw e at all in
-      All-cons (AgreesWithFixing t route) p.1 (fixings_in standing) ((agrees_own route t p.1 (eqb-true (train_of p.1) t e)).0 (All-head (AgreesWith route) (record { number = p.0; fixing = p.1 }) (own_of t standing) h))
-      (all_agree route t standing (All-tail (AgreesWith route) (record { number = p.0; fixing = p.1 }) (own_of t standing) h))
+      let h : All (AgreesWithFixing t route) (p.1 ∷ own_fixings (own_of t standing)) = rw e at all in
+      All-cons (AgreesWithFixing t route) p.1 (fixings_in standing) (All-head (AgreesWithFixing t route) p.1 (own_fixings (own_of t standing)) h)
+      (all_agree route t standing (All-tail (AgreesWithFixing t route) p.1 (own_fixings (own_of t standing)) h))
   | inr e ↦
-      let h : All (AgreesWith route) (own_of t standing) = rw e at all in
+      let h : All (AgreesWithFixing t route) (own_fixings (own_of t standing)) = rw e at all in
       All-cons (AgreesWithFixing t route) p.1 (fixings_in standing) (agrees_other route t p.1 (λ same. eqb-false (train_of p.1) t e same)) (all_agree route t standing h)
 ]
 
-own_agree : (route : List ℕ) (t : ℕ) (standing : List (ℕ × Fixing)) → All (AgreesWithFixing t route) (fixings_in standing) → All (AgreesWith route) (own_of t standing)
-own_agree route t [] all = All-nil (AgreesWith route)
+own_agree : (route : List ℕ) (t : ℕ) (standing : List (ℕ × Fixing)) → All (AgreesWithFixing t route) (fixings_in standing) → All (AgreesWithFixing t route) (own_fixings (own_of t standing))
+own_agree route t [] all = All-nil (AgreesWithFixing t route)
 own_agree route t (p ∷ standing) all = elim (cases_Bool (nat_eq (train_of p.1) t)) [
-  | inl e ↦ rw e (All-cons (AgreesWith route) (record { number = p.0; fixing = p.1 }) (own_of t standing) ((agrees_own route t p.1 (eqb-true (train_of p.1) t e)).1 (All-head (AgreesWithFixing t route) p.1 (fixings_in standing) all))
+  | inl e ↦ rw e (All-cons (AgreesWithFixing t route) p.1 (own_fixings (own_of t standing)) (All-head (AgreesWithFixing t route) p.1 (fixings_in standing) all)
       (own_agree route t standing (All-tail (AgreesWithFixing t route) p.1 (fixings_in standing) all)))
   | inr e ↦ rw e (own_agree route t standing (All-tail (AgreesWithFixing t route) p.1 (fixings_in standing) all))
 ]
 
-pub routes_are : (problem : Problem) (t : ℕ) (changes : List Change) (fixing : Fixing) → train_of fixing ≡ t
-    → HasRouteOf (train_at problem t) (own_of t (numbered_standing changes)) fixing ↔ HasRoute (root_of problem (standing_of changes ++ fixing ∷ [])) t
-routes_are problem t changes fixing own = (to, from)
+pub routes_are : (problem : Problem) (t : ℕ) (changes : List Change) (fixing : Fixing)
+    → HasRoute (root_of problem (fixings_with (own_of t (numbered_standing changes)) fixing)) t ↔ HasRoute (root_of problem (standing_of changes ++ fixing ∷ [])) t
+routes_are problem t changes fixing = (to, from)
   where
-    to : HasRouteOf (train_at problem t) (own_of t (numbered_standing changes)) fixing → HasRoute (root_of problem (standing_of changes ++ fixing ∷ [])) t
-    to (route, is, all, agrees) = (
-      route,
-      record {
-        is_route = is;
-        fixings_agree = All-push (AgreesWithFixing t route) (standing_of changes) fixing (all_agree route t (numbered_standing changes) all) ((agrees_own route t fixing own).0 agrees);
-        decisions_agree = All-nil (AgreesWithDecision t route);
-      },
-    )
+    own : List Numbered
+    own = own_of t (numbered_standing changes)
 
-    from : HasRoute (root_of problem (standing_of changes ++ fixing ∷ [])) t → HasRouteOf (train_at problem t) (own_of t (numbered_standing changes)) fixing
+    to : HasRoute (root_of problem (fixings_with own fixing)) t → HasRoute (root_of problem (standing_of changes ++ fixing ∷ [])) t
+    to (route, allowed) =
+        let both = All-pop (AgreesWithFixing t route) (fixings_with own fixing) (own_fixings own) (Some fixing) refl allowed.fixings_agree in
+        (
+          route,
+          record {
+            is_route = allowed.is_route;
+            fixings_agree = All-push (AgreesWithFixing t route) (standing_of changes) fixing (all_agree route t (numbered_standing changes) both.0) both.1;
+            decisions_agree = All-nil (AgreesWithDecision t route);
+          },
+        )
+
+    from : HasRoute (root_of problem (standing_of changes ++ fixing ∷ [])) t → HasRoute (root_of problem (fixings_with own fixing)) t
     from (route, allowed) =
         let both = All-pop (AgreesWithFixing t route) (standing_of changes ++ fixing ∷ []) (standing_of changes) (Some fixing) refl allowed.fixings_agree in
-        (route, allowed.is_route, own_agree route t (numbered_standing changes) both.0, (agrees_own route t fixing own).1 both.1)
+        (
+          route,
+          record {
+            is_route = allowed.is_route;
+            fixings_agree = All-push (AgreesWithFixing t route) (own_fixings own) fixing (own_agree route t (numbered_standing changes) both.0) both.1;
+            decisions_agree = All-nil (AgreesWithDecision t route);
+          },
+        )
+
+-- ---- whether a route is left
+
+pub some_left : (node : Node) (t : ℕ) (none : Bool) → t < length node.problem.trains → (IsTrue none ↔ (HasRoute node t → ⊥)) → IsTrue (not none) ↔ HasRoute node t
+some_left node t true there says = (λ is. absurd (false≢true is), λ has. absurd (says.0 refl has))
+some_left node t false there says = (λ is. by (has_route_or_not node t there), λ has. refl)
+  where
+    by : Decided (HasRoute node t) → HasRoute node t
+    by (inl has) = has
+    by (inr none_has) = absurd (false≢true (says.1 none_has))

@@ -1,5 +1,3 @@
-pub mod Wishes
-pub mod Sweeps
 pub mod Own
 pub mod Edition
 pub mod Answers

@@ -1,5 +1,5 @@
 -- The fixings of one train that stand, each with the number of its change.
-use Rattle.std.specs.Prelude.{ℕ, ◌==◌, max, not, List, [], ◌∷◌, Option, Some, None, if◌then◌else◌}
+use Rattle.std.specs.Prelude.{ℕ, ◌==◌, max, not, List, [], ◌∷◌, ◌++◌, map, Option, Some, None, if◌then◌else◌}
 use Rattle.std.specs.List.{filter}
 use Rattle.disp_model.specs.declared.fixing.Fixing.{Fixing}
 use Rattle.disp_model.specs.declared.fixing.Fixing.TheVariants.{Started, Chosen, NotBefore}
@@ -22,6 +22,10 @@ own_of t (p ∷ standing) =
 abbrev pub number_in : List Numbered → Fixing → Option ℕ
 number_in [] fixing = None
 number_in (n ∷ kept) fixing = if is_same n.fixing fixing then Some n.number else number_in kept fixing
+
+-- the fixings, and one more
+abbrev pub fixings_with : List Numbered → Fixing → List Fixing
+fixings_with kept fixing = map (λ n. n.fixing) kept ++ fixing ∷ []
 
 -- the first, or else the second
 abbrev pub or_else : Option ℕ → Option ℕ → Option ℕ

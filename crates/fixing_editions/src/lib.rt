@@ -9,7 +9,6 @@ mod kept;
 mod reply;
 mod route_left;
 mod train_fixings;
-mod wishes;
 mod withdrawal;
 
 pub use editions::Editions;

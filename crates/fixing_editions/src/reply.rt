@@ -42,8 +42,7 @@ fn reply_to_new(
     requires own { train_of fixing.now ≡ at_train }
     ensures { IfOk result (λ reply. IsRouted problem.now changes.now at_train fixing.now reply) }
 {
-    let train = problem.trains.as_slice()[at_train as usize].as_slice();
-    let has = has_route(alloc, train, kept, fixing)?;
+    let has = has_route(alloc, problem, at_train, kept, fixing)?;
     if !has {
         return Ok(Reply::Refused(Refusal::NoRoute));
     }
