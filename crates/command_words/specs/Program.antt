@@ -5,24 +5,24 @@ use Rattle.clap.specs.Simple.{on_top}
 use Rattle.clap.specs.declared.builder.value_parser.ValueParser.TheVariants.{Signed}
 
 -- a name that must be given, by its place among the words
-abbrev pub needed : List ℕ → Rule
-needed id = record (new_rule id) { required = true; value_names = 1 }
+abbrev pub needed_rule : List ℕ → Rule
+needed_rule id = record (new_rule id) { required = true; value_names = 1 }
 
 -- a name that may be given, behind two dashes and its id
-abbrev pub optional : List ℕ → Rule
-optional id = record (new_rule id) { long = Some id; value_names = 1 }
+abbrev pub optional_rule : List ℕ → Rule
+optional_rule id = record (new_rule id) { long = Some id; value_names = 1 }
 
 -- `--budget`: a number of 32 bits, a million where it is not given
 abbrev pub budget : Rule
-budget = record (optional (codes "budget")) { defaults = codes "1000000" ∷ []; parser = Some (Signed (pos 0) (pos 4294967295)) }
+budget = record (optional_rule (codes "budget")) { defaults = codes "1000000" ∷ []; parser = Some (Signed (pos 0) (pos 4294967295)) }
 
 -- `solve PROBLEM [--budget B] [--plan OUT]`
 abbrev pub solve : App
-solve = with_rule (with_rule (with_rule (new_app (codes "solve")) (needed (codes "problem"))) budget) (optional (codes "plan"))
+solve = with_rule (with_rule (with_rule (new_app (codes "solve")) (needed_rule (codes "problem"))) budget) (optional_rule (codes "plan"))
 
 -- `verify PROBLEM SOLUTION [--fixings F]`
 abbrev pub verify : App
-verify = with_rule (with_rule (with_rule (new_app (codes "verify")) (needed (codes "problem"))) (needed (codes "solution"))) (optional (codes "fixings"))
+verify = with_rule (with_rule (with_rule (new_app (codes "verify")) (needed_rule (codes "problem"))) (needed_rule (codes "solution"))) (optional_rule (codes "fixings"))
 
 -- one of these commands; the words do not begin with the program's name
 abbrev pub program : App

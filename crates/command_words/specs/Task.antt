@@ -17,7 +17,7 @@ abbrev pub Names : List (List ℕ) → List ℕ → List Row → Type 0
 Names words command rows = subcommand_of program words ≡ Some (command, rows)
 
 -- the text is that of a number of 32 bits
-pub record IsNumber (text : List ℕ) (n : ℕ) : Type 0 where
+pub record IsNumberText (text : List ℕ) (n : ℕ) : Type 0 where
   pub numeral : IsNumeral 10 (without_leading_plus text)
   pub value : digits_value 10 (without_leading_plus text) ≡ n
   pub small : n < 2 ^ 32
@@ -25,18 +25,18 @@ pub record IsNumber (text : List ℕ) (n : ℕ) : Type 0 where
 -- the number that a text says, and a million where there is none (there always is one)
 abbrev pub IsBudget : Option (List ℕ) → ℕ → Type 0
 IsBudget None n = n ≡ 1000000
-IsBudget (Some text) n = IsNumber text n ⊎ (((m : ℕ) → IsNumber text m → ⊥) × (n ≡ 1000000))
+IsBudget (Some text) n = IsNumberText text n ⊎ (((m : ℕ) → IsNumberText text m → ⊥) × (n ≡ 1000000))
 
 -- the name that clap finds for an argument that must be given (the empty one where it finds none, which it always does)
-abbrev pub name_in : List ℕ → List Row → List ℕ
-name_in id rows = unwrap_or (first_of id rows) []
+abbrev pub name_found : List ℕ → List Row → List ℕ
+name_found id rows = unwrap_or (first_of id rows) []
 
 -- the values that clap finds for `solve`
 pub record IsSolve (words : List (List ℕ)) (problem : List ℕ) (budget : ℕ) (plan : Option (List ℕ)) : Type 0 where
   pub taken : AreTaken words
   pub rows : List Row
   pub named : Names words (codes "solve") rows
-  pub problem_is : problem ≡ name_in (codes "problem") rows
+  pub problem_is : problem ≡ name_found (codes "problem") rows
   pub budget_is : IsBudget (one_of (codes "budget") rows) budget
   pub plan_is : plan ≡ first_of (codes "plan") rows
 
@@ -45,8 +45,8 @@ pub record IsVerify (words : List (List ℕ)) (problem solution : List ℕ) (fix
   pub taken : AreTaken words
   pub rows : List Row
   pub named : Names words (codes "verify") rows
-  pub problem_is : problem ≡ name_in (codes "problem") rows
-  pub solution_is : solution ≡ name_in (codes "solution") rows
+  pub problem_is : problem ≡ name_found (codes "problem") rows
+  pub solution_is : solution ≡ name_found (codes "solution") rows
   pub fixings_is : fixings ≡ first_of (codes "fixings") rows
 
 -- the words ask for the task

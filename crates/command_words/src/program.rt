@@ -1,22 +1,22 @@
 ghost use Rattle.std.specs.Prelude.{◌≡◌, IfOk, false};
 ghost use Rattle.clap.specs.Words.{app_of, rule_of};
 ghost use Rattle.clap.specs.declared.builder.command.Command.TheViews.{out-Command as fields_of};
-ghost use Rattle.command_words.specs.Program.{needed, optional, budget, solve, verify, program};
+ghost use Rattle.command_words.specs.Program.{needed_rule, optional_rule, budget, solve, verify, program};
 
 use clap::{Arg, Command, value_parser};
 use std::alloc::{AllocError, Global};
 
 /// An argument that must be given, by its place.
-fn needed<'a>(alloc: Global, id: &'a str, shown: &'a str) -> Arg<'a>
-    ensures rule { rule_of result ≡ needed id.entry.now }
+fn needed_rule<'a>(alloc: Global, id: &'a str, shown: &'a str) -> Arg<'a>
+    ensures rule { rule_of result ≡ needed_rule id.entry.now }
     ensures own { result.global ≡ false }
 {
     Arg::new(alloc, id).required(true).value_name(shown)
 }
 
 /// An argument that may be given, behind two dashes and its id.
-fn optional<'a>(alloc: Global, id: &'a str, shown: &'a str) -> Arg<'a>
-    ensures rule { rule_of result ≡ optional id.entry.now }
+fn optional_rule<'a>(alloc: Global, id: &'a str, shown: &'a str) -> Arg<'a>
+    ensures rule { rule_of result ≡ optional_rule id.entry.now }
     ensures own { result.global ≡ false }
 {
     Arg::new(alloc, id).long(id).value_name(shown)
@@ -27,7 +27,7 @@ fn budget<'a>(alloc: Global) -> Arg<'a>
     ensures rule { rule_of result ≡ budget }
     ensures own { result.global ≡ false }
 {
-    optional(alloc, "budget", "B")
+    optional_rule(alloc, "budget", "B")
         .default_value("1000000")
         .value_parser(value_parser!(u32))
         .help("How often the search may branch")
@@ -40,9 +40,9 @@ fn solve<'a>(alloc: Global) -> Result<Command<'a>, AllocError>
 {
     Command::new(alloc, "solve")
         .about("Finds a plan of least cost")
-        .arg(needed(alloc, "problem", "PROBLEM"))?
+        .arg(needed_rule(alloc, "problem", "PROBLEM"))?
         .arg(budget(alloc))?
-        .arg(optional(alloc, "plan", "OUT"))
+        .arg(optional_rule(alloc, "plan", "OUT"))
 }
 
 /// `verify`, with its arguments.
@@ -52,9 +52,9 @@ fn verify<'a>(alloc: Global) -> Result<Command<'a>, AllocError>
 {
     Command::new(alloc, "verify")
         .about("Judges a solution")
-        .arg(needed(alloc, "problem", "PROBLEM"))?
-        .arg(needed(alloc, "solution", "SOLUTION"))?
-        .arg(optional(alloc, "fixings", "F"))
+        .arg(needed_rule(alloc, "problem", "PROBLEM"))?
+        .arg(needed_rule(alloc, "solution", "SOLUTION"))?
+        .arg(optional_rule(alloc, "fixings", "F"))
 }
 
 /// The program's command line.

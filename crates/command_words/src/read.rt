@@ -1,7 +1,7 @@
 ghost use Rattle.std.specs.Prelude.{◌≡◌, ℕ, List, IfOk, IfErr, map, option_map, string_bytes, codes};
 ghost use Rattle.clap.specs.Words.{found_of, rows_of, subcommand_rows_of, subcommand_of, fault_of, first_of, one_of, HasKind};
 ghost use Rattle.command_words.specs.Program.{program};
-ghost use Rattle.command_words.specs.Task.{IsTask, AreTaken, Names, Denies, IsBudget, name_in};
+ghost use Rattle.command_words.specs.Task.{IsTask, AreTaken, Names, Denies, IsBudget, name_found};
 
 use crate::program::program;
 use crate::task::Task;
@@ -66,7 +66,7 @@ fn budget(found: &ArgMatches) -> u32
 
 /// A name that must be given.
 fn name(alloc: Global, found: &ArgMatches, id: &str) -> Result<Text, WordsNo>
-    ensures ok { IfOk result (λ name. name ≡ name_in id.now (rows_of (found_of found.now))) }
+    ensures ok { IfOk result (λ name. name ≡ name_found id.now (rows_of (found_of found.now))) }
     ensures err { IfErr result (λ no. no ≡ WordsNo.Memory) }
 {
     let text = match value(found, id) {

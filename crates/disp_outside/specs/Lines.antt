@@ -8,9 +8,9 @@ put_before byte [] = (byte ∷ []) ∷ []
 put_before byte (line ∷ lines) = (byte ∷ line) ∷ lines
 
 -- the lines of bytes, each with the LF that ends it; the last one may lack it, and then has a byte
-abbrev pub lines_of : List ℕ → List (List ℕ)
-lines_of [] = []
-lines_of (byte ∷ bytes) = if byte == 10 then (byte ∷ []) ∷ lines_of bytes else put_before byte (lines_of bytes)
+abbrev pub feed_lines : List ℕ → List (List ℕ)
+feed_lines [] = []
+feed_lines (byte ∷ bytes) = if byte == 10 then (byte ∷ []) ∷ feed_lines bytes else put_before byte (feed_lines bytes)
 
 -- the line without its LF
 abbrev pub without_end : List ℕ → List ℕ
@@ -21,10 +21,10 @@ abbrev pub text_of : List ℕ → List ℕ
 text_of line = if ends_with_byte 10 line then strip_last 13 (without_end line) else line
 
 -- the first of the lines left is given: it has at most 256 bytes before its LF
-abbrev pub Gives : Option (List (List ℕ)) → Option (List (List ℕ)) → List ℕ → Type 0
-Gives None new text = new ≡ None
-Gives (Some []) new text = ⊥
-Gives (Some (line ∷ lines)) new text = (text ≡ text_of line) × (length (without_end line) ≤ 256) × (new ≡ Some lines)
+abbrev pub GivesLine : Option (List (List ℕ)) → Option (List (List ℕ)) → List ℕ → Type 0
+GivesLine None new text = new ≡ None
+GivesLine (Some []) new text = ⊥
+GivesLine (Some (line ∷ lines)) new text = (text ≡ text_of line) × (length (without_end line) ≤ 256) × (new ≡ Some lines)
 
 -- the first of the lines left is skipped: it has more than 256 bytes before its LF
 abbrev pub Skips : Option (List (List ℕ)) → Option (List (List ℕ)) → Type 0
@@ -41,4 +41,4 @@ NoneLeft (Some lines) = lines ≡ []
 abbrev pub HasLinesOf : Option (Option (List ℕ)) → Option (List (List ℕ)) → Type 0
 HasLinesOf None told = ⊤
 HasLinesOf (Some None) told = ⊥
-HasLinesOf (Some (Some bytes)) told = told ≡ Some (lines_of bytes)
+HasLinesOf (Some (Some bytes)) told = told ≡ Some (feed_lines bytes)

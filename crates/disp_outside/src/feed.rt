@@ -1,7 +1,7 @@
 // Lines of bytes, one after the other.
 ghost use Rattle.std.specs.Prelude.{◌≡◌, ◌≢◌, ◌<◌, ◌≤◌, ◌↔◌, ◌⊎◌, List, ℕ, Bool, true, Option, IsTrue};
 ghost use Rattle.disp_outside.specs.declared.feed.FeedNo.TheVariants.{Memory};
-ghost use Rattle.disp_outside.specs.Lines.{Gives, Skips, NoneLeft};
+ghost use Rattle.disp_outside.specs.Lines.{GivesLine, Skips, NoneLeft};
 ghost use Rattle.disp_outside.specs.FeedLine.{is_last};
 
 use crate::LineBuf;
@@ -55,7 +55,7 @@ pub trait Feed: Send {
     /// The next line, in `into`, which holds anything after any other answer than `Got`. A feed
     /// that has answered `Failed` or `End` answers `End` from then on.
     fn line(&mut self, into: &mut LineBuf) -> FeedLine
-        ensures got { result ≡ FeedLine.Got → Gives (lines self.old) (lines self.new) into.new }
+        ensures got { result ≡ FeedLine.Got → GivesLine (lines self.old) (lines self.new) into.new }
         ensures long { result ≡ FeedLine.Long → Skips (lines self.old) (lines self.new) }
         ensures end { result ≡ FeedLine.End → (has_ended self.old ≡ true)
             ⊎ NoneLeft (lines self.old) }

@@ -1,7 +1,7 @@
 // Reading all that a reader has, up to a limit.
 ghost use Rattle.std.specs.Prelude.{◌≡◌, ◌≤◌, ◌<◌, Some, true, length, take, unwrap_or, vec_len, OnOk, IfOk, IfSome, IfNone, IsErrOf};
 ghost use Rattle.std.specs.Io.KnownBytes.{Consumes, IsAtEnd};
-ghost use Rattle.disp_outside.specs.Reading.{Adds, IsPast};
+ghost use Rattle.disp_outside.specs.Reading.{LosesRead, IsPast};
 
 use crate::FetchNo;
 use crate::turns::MOST_TURNS;
@@ -48,7 +48,8 @@ fn append_some<R: Read>(reader: &mut R, bytes: &mut Vec<u8>, limit: u64) -> Resu
     requires { vec_len bytes.old ≤ limit }
     ensures within { OnOk result (vec_len bytes.new ≤ limit) }
     ensures adds { OnOk result
-        (Adds (R.remaining reader.old) (R.remaining reader.new) bytes.old.items bytes.new.items) }
+        (LosesRead (R.remaining reader.old) (R.remaining reader.new) bytes.old.items
+        bytes.new.items) }
     ensures end { IfOk result (λ is_end. is_end ≡ true → IsAtEnd (R.remaining reader.new)) }
     ensures too_long { IsErrOf result FetchNo.TooLong
         → IsPast limit (vec_len bytes.old) (R.remaining reader.old) }

@@ -14,7 +14,7 @@ use Rattle.dispatch_cli.specs.declared.answer.Answer.{Answer}
 use Rattle.dispatch_cli.specs.declared.cause.Cause.{Cause}
 use Rattle.dispatch_cli.specs.declared.cause.Cause.TheVariants.{Words, Failed, TooLong, NoProblem, NoSolution, BadLine, Choices, Memory}
 use Rattle.dispatch_cli.specs.declared.cause.Input.TheVariants as input
-use Rattle.dispatch_cli.specs.Outside.{Holdings, Counts, Outside, IsFile, HoldsTooMuch, ReadsOne, Reads, Is, IsOfThree}
+use Rattle.dispatch_cli.specs.Outside.{Holdings, Counts, Outside, IsFile, HoldsTooMuch, ReadsOne, ReadsNames, IsName, IsOneOfThree}
 use Rattle.dispatch_cli.specs.Files.{IsProblemFile, IsRefusedLine, AreFixings, HasFixings}
 use Rattle.disp_outside.specs.Lines.{HasLinesOf}
 use Rattle.disp_model.specs.declared.fixing.Fixing.{Fixing}
@@ -22,10 +22,10 @@ use Rattle.fixing_files.specs.declared.take.LineNo.{LineNo}
 use Rattle.dispatch_cli.specs.declared.cause.Input.{Input}
 use Rattle.dispatch_cli.specs.Solving.{IsForChoices}
 use Rattle.dispatch_cli.specs.Answers.{IsAnswer, IsJudgedFile}
-use Rattle.dispatch_cli.specs.Causes.{StopsSolve, StopsSolution, StopsFixings, StopsJudging, StopsVerify, IsBadFile, name_in, TakesProblem, StopsTask, Stops, CountsTask, status_of}
+use Rattle.dispatch_cli.specs.Causes.{StopsSolve, StopsSolution, StopsFixings, StopsJudging, StopsVerify, IsBadFile, input_name, TakesProblem, StopsTask, StopsRun, CountsTask, status_of}
 use Rattle.std.specs.List.{concat}
 use Rattle.dispatch_cli.specs.declared.answer.Put.{Put}
-use Rattle.dispatch_cli.specs.Endings.{Fails, GivesUp, PutsNothing, PutKeeps, PutFails, WriteFails, WriteGivesUp, PutGivesUp, Halts, ReadsWell}
+use Rattle.dispatch_cli.specs.Endings.{EndsFailed, GivesUp, PutsNothing, PutKeeps, PutFails, WriteFails, WriteGivesUp, PutGivesUp, Halts, ReadsWell}
 
 -- the problem of a file is not solved for its choices alone
 pub stops_by_choices : (holds : Holdings) (old new : Counts) (name : List ℕ) (problem : Problem) (cause : Cause) → IsProblemFile holds name problem → IsForChoices problem cause → StopsSolve holds old new name cause
@@ -58,13 +58,13 @@ counts_of_one problem budget plan old new counted others name = record {
 
 -- where files of a verification are read, the counts of other names stay
 pub counts_of_three : (problem solution : List ℕ) (fixings : Option (List ℕ)) (old new : Counts) → ((name : List ℕ) → old name ≤ new name)
-    → ((other : List ℕ) → (IsOfThree problem fixings solution other → ⊥) → new other ≡ old other) → (name : List ℕ) → CountsTask (Verify problem solution fixings) old new name
+    → ((other : List ℕ) → (IsOneOfThree problem fixings solution other → ⊥) → new other ≡ old other) → (name : List ℕ) → CountsTask (Verify problem solution fixings) old new name
 counts_of_three problem solution fixings old new counted others name = record {
   never_falls = counted name;
   stays = λ unread. others name (given unread);
 }
   where
-    given : ((which : Input) → name_in (Verify problem solution fixings) which ≡ Some name → ⊥) → IsOfThree problem fixings solution name → ⊥
+    given : ((which : Input) → input_name (Verify problem solution fixings) which ≡ Some name → ⊥) → IsOneOfThree problem fixings solution name → ⊥
     given unread (inl e) = unread input.Problem (ap Some (sym e))
     given unread (inr (inl e)) = unread input.Fixings e
     given unread (inr (inr e)) = unread input.Solution (ap Some (sym e))
@@ -179,7 +179,7 @@ judged_file_before holds mid problem fixings name answer same h = record {
 
 -- one reading
 pub reads_of_one : (one : List ℕ) (old new : Counts) (old_puts new_puts : Counts) (old_holds new_holds : Holdings) (Fault : Type 0) → ReadsOne one old new old_puts new_puts old_holds new_holds Fault
-    → Reads (Is one) old new old_puts new_puts old_holds new_holds Fault
+    → ReadsNames (IsName one) old new old_puts new_puts old_holds new_holds Fault
 reads_of_one one old new old_puts new_puts old_holds new_holds Fault h = record {
   counted = never_falls one old new h.counted h.others;
   fault = λ name lt. h.fault (subst (λ (n : List ℕ). old n < new n) (is_one name lt) lt);
@@ -198,8 +198,8 @@ reads_of_one one old new old_puts new_puts old_holds new_holds Fault h = record 
 
 -- two readings, of which the first had no fault
 pub reads_then : (One Two : List ℕ → Type 0) (old mid new : Counts) (old_puts mid_puts new_puts : Counts) (old_holds mid_holds new_holds : Holdings) (First Fault : Type 0) → (First → ⊥)
-    → Reads One old mid old_puts mid_puts old_holds mid_holds First → Reads Two mid new mid_puts new_puts mid_holds new_holds Fault
-    → Reads (λ name. One name ⊎ Two name) old new old_puts new_puts old_holds new_holds Fault
+    → ReadsNames One old mid old_puts mid_puts old_holds mid_holds First → ReadsNames Two mid new mid_puts new_puts mid_holds new_holds Fault
+    → ReadsNames (λ name. One name ⊎ Two name) old new old_puts new_puts old_holds new_holds Fault
 reads_then One Two old mid new old_puts mid_puts new_puts old_holds mid_holds new_holds First Fault none first second = record {
   counted = λ name. omega (arith, first.counted name, second.counted name);
   fault = λ name lt. second.fault name (omega (arith, lt, kept name));
@@ -214,7 +214,7 @@ reads_then One Two old mid new old_puts mid_puts new_puts old_holds mid_holds ne
 
 -- readings among more names
 pub reads_among : (Few Many : List ℕ → Type 0) (old new : Counts) (old_puts new_puts : Counts) (old_holds new_holds : Holdings) (Fault : Type 0) → ((name : List ℕ) → Few name → Many name)
-    → Reads Few old new old_puts new_puts old_holds new_holds Fault → Reads Many old new old_puts new_puts old_holds new_holds Fault
+    → ReadsNames Few old new old_puts new_puts old_holds new_holds Fault → ReadsNames Many old new old_puts new_puts old_holds new_holds Fault
 reads_among Few Many old new old_puts new_puts old_holds new_holds Fault more h = record {
   counted = h.counted;
   fault = h.fault;
@@ -225,7 +225,7 @@ reads_among Few Many old new old_puts new_puts old_holds new_holds Fault more h 
 }
 
 -- what stopped a task has stopped the words that ask for it
-pub stops_task : (words : List (List ℕ)) (holds : Holdings) (old new : Counts) (task : Task) (cause : Cause) → IsTask words task → StopsTask holds old new task cause → Stops words holds old new cause
+pub stops_task : (words : List (List ℕ)) (holds : Holdings) (old new : Counts) (task : Task) (cause : Cause) → IsTask words task → StopsTask holds old new task cause → StopsRun words holds old new cause
 stops_task words holds old new task (Words text) asked stops = absurd stops
 stops_task words holds old new task (Failed which) asked stops = record { task = task; asked = asked; stops = stops }
 stops_task words holds old new task (TooLong which) asked stops = record { task = task; asked = asked; stops = stops }
@@ -237,7 +237,7 @@ stops_task words holds old new task Memory asked stops = tt
 
 -- a putting or a write of an answer failed; between the run and the putting no count of puttings changed
 pub fails_of_answer : (words : List (List ℕ)) (old mid new : Outside) (answer : Answer) (journal : List Entry) → IsAnswer words old.holds answer → journal ≡ answer.journal
-    → ReadsWell old new → ((name : List ℕ) → mid.putting name ≡ old.putting name) → mid.faults ≡ old.faults → mid.written ≡ old.written → PutFails answer mid new ⊎ WriteFails answer mid new → Fails words old new journal
+    → ReadsWell old new → ((name : List ℕ) → mid.putting name ≡ old.putting name) → mid.faults ≡ old.faults → mid.written ≡ old.written → PutFails answer mid new ⊎ WriteFails answer mid new → EndsFailed words old new journal
 fails_of_answer words old mid new answer journal is_answer same read puttings faults written (inl h) = inr (inl (record {
   answer = answer;
   is_answer = is_answer;
@@ -289,16 +289,16 @@ not_five : ◌≡◌ {A = ℕ} 5 4 → ⊥
 not_five e = cc
 
 -- of the causes a reading's fault alone has the status 4
-pub fails_of_stop : (words : List (List ℕ)) (old new : Outside) (cause : Cause) (journal : List Entry) (status : ℕ) → Stops words old.holds old.reading new.reading cause
-    → Halts old.faults new.faults old.written new.written cause status → PutsNothing old new → journal ≡ [] → status ≡ 4 → Fails words old new journal
+pub fails_of_stop : (words : List (List ℕ)) (old new : Outside) (cause : Cause) (journal : List Entry) (status : ℕ) → StopsRun words old.holds old.reading new.reading cause
+    → Halts old.faults new.faults old.written new.written cause status → PutsNothing old new → journal ≡ [] → status ≡ 4 → EndsFailed words old new journal
 fails_of_stop words old new cause journal status stops halts puts none is = go cause stops halts halts.statuses
   where
-    two : (status ≡ 2) ⊎ (status ≡ 5) → Fails words old new journal
+    two : (status ≡ 2) ⊎ (status ≡ 5) → EndsFailed words old new journal
     two (inl e) = absurd (not_two (sym e ∙ is))
     two (inr e) = absurd (not_five (sym e ∙ is))
 
-    go : (cause : Cause) → Stops words old.holds old.reading new.reading cause → Halts old.faults new.faults old.written new.written cause status
-        → (status ≡ status_of cause) ⊎ (status ≡ 5) → Fails words old new journal
+    go : (cause : Cause) → StopsRun words old.holds old.reading new.reading cause → Halts old.faults new.faults old.written new.written cause status
+        → (status ≡ status_of cause) ⊎ (status ≡ 5) → EndsFailed words old new journal
     go (Failed which) stops halts e = inl (record {
       which = which;
       stops = stops;

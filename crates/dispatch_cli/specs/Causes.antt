@@ -76,13 +76,13 @@ status_of Memory = 5
 -- ---- what has happened
 
 -- the name that a task gives for an input
-abbrev pub name_in : Task → Input → Option (List ℕ)
-name_in (Solve problem budget plan) input.Problem = Some problem
-name_in (Solve problem budget plan) input.Solution = None
-name_in (Solve problem budget plan) input.Fixings = None
-name_in (Verify problem solution fixings) input.Problem = Some problem
-name_in (Verify problem solution fixings) input.Solution = Some solution
-name_in (Verify problem solution fixings) input.Fixings = fixings
+abbrev pub input_name : Task → Input → Option (List ℕ)
+input_name (Solve problem budget plan) input.Problem = Some problem
+input_name (Solve problem budget plan) input.Solution = None
+input_name (Solve problem budget plan) input.Fixings = None
+input_name (Verify problem solution fixings) input.Problem = Some problem
+input_name (Verify problem solution fixings) input.Solution = Some solution
+input_name (Verify problem solution fixings) input.Fixings = fixings
 
 -- the file of the name is read, and its bytes are such
 pub record IsBadFile (holds : Holdings) (name : List ℕ) (Bad : List ℕ → Type 0) : Type 0 where
@@ -92,7 +92,7 @@ pub record IsBadFile (holds : Holdings) (name : List ℕ) (Bad : List ℕ → Ty
 
 -- the task gives a name for the input, and its file's bytes are such
 abbrev pub IsBadInput : Holdings → Task → Input → (List ℕ → Type 0) → Type 0
-IsBadInput holds task which Bad = (name : List ℕ) × (name_in task which ≡ Some name) × IsBadFile holds name Bad
+IsBadInput holds task which Bad = (name : List ℕ) × (input_name task which ≡ Some name) × IsBadFile holds name Bad
 
 -- the bytes are those of a problem that has choices
 pub record IsReadWithChoices (bytes : List ℕ) : Type 0 where
@@ -111,23 +111,23 @@ IsNoSolution bytes refusal = reading.IsRefused bytes refusal × (refusal ≢ sol
 -- the task gives a name for a problem, and its file is that of this problem
 pub record TakesProblem (holds : Holdings) (task : Task) (problem : Problem) : Type 0 where
   pub name : List ℕ
-  pub named : name_in task input.Problem ≡ Some name
+  pub named : input_name task input.Problem ≡ Some name
   pub file : IsProblemFile holds name problem
 
 -- the files that are read before that of an input are taken
-abbrev pub ComesTo : Holdings → Task → Input → Type 0
-ComesTo holds task input.Problem = Unit {0}
-ComesTo holds task input.Fixings = (problem : Problem) × TakesProblem holds task problem
-ComesTo holds task input.Solution = (problem : Problem) × TakesProblem holds task problem × HasFixings holds problem (name_in task input.Fixings)
+abbrev pub ComesToSolution : Holdings → Task → Input → Type 0
+ComesToSolution holds task input.Problem = Unit {0}
+ComesToSolution holds task input.Fixings = (problem : Problem) × TakesProblem holds task problem
+ComesToSolution holds task input.Solution = (problem : Problem) × TakesProblem holds task problem × HasFixings holds problem (input_name task input.Fixings)
 
 -- the task gives a name for the input, and a reading of it failed
 abbrev pub FailsToRead : Counts → Counts → Task → Input → Type 0
-FailsToRead old new task which = (name : List ℕ) × (name_in task which ≡ Some name) × (old name < new name)
+FailsToRead old new task which = (name : List ℕ) × (input_name task which ≡ Some name) × (old name < new name)
 
 -- the task gives a name for the input, and its file is too long to be read at once; fixings are read line by line
 abbrev pub IsTooLong : Holdings → Task → Input → Type 0
-IsTooLong holds task input.Problem = (name : List ℕ) × (name_in task input.Problem ≡ Some name) × HoldsTooMuch holds name
-IsTooLong holds task input.Solution = (name : List ℕ) × (name_in task input.Solution ≡ Some name) × HoldsTooMuch holds name
+IsTooLong holds task input.Problem = (name : List ℕ) × (input_name task input.Problem ≡ Some name) × HoldsTooMuch holds name
+IsTooLong holds task input.Solution = (name : List ℕ) × (input_name task input.Solution ≡ Some name) × HoldsTooMuch holds name
 IsTooLong holds task input.Fixings = ⊥
 
 -- the task gives a name for fixings, and a line of their file is not taken for the problem
@@ -135,7 +135,7 @@ pub record HasBadLine (holds : Holdings) (task : Task) (number : ℕ) (why : Lin
   pub problem : Problem
   pub takes : TakesProblem holds task problem
   pub name : List ℕ
-  pub named : name_in task input.Fixings ≡ Some name
+  pub named : input_name task input.Fixings ≡ Some name
   pub refused : IsRefusedLine holds problem name number why
 
 -- the task is to solve a problem
@@ -146,10 +146,10 @@ AsksToSolve (Verify problem solution fixings) = ⊥
 -- what stopped a task has happened, and the files before it are taken; only a problem to be solved is refused for its choices
 abbrev pub StopsTask : Holdings → Counts → Counts → Task → Cause → Type 0
 StopsTask holds old new task (Words text) = ⊥
-StopsTask holds old new task (Failed which) = ComesTo holds task which × FailsToRead old new task which
-StopsTask holds old new task (TooLong which) = ComesTo holds task which × IsTooLong holds task which
+StopsTask holds old new task (Failed which) = ComesToSolution holds task which × FailsToRead old new task which
+StopsTask holds old new task (TooLong which) = ComesToSolution holds task which × IsTooLong holds task which
 StopsTask holds old new task (NoProblem refusal) = IsBadInput holds task input.Problem (λ bytes. IsNoProblem bytes refusal)
-StopsTask holds old new task (NoSolution refusal) = ComesTo holds task input.Solution × IsBadInput holds task input.Solution (λ bytes. IsNoSolution bytes refusal)
+StopsTask holds old new task (NoSolution refusal) = ComesToSolution holds task input.Solution × IsBadInput holds task input.Solution (λ bytes. IsNoSolution bytes refusal)
 StopsTask holds old new task (BadLine number why) = HasBadLine holds task number why
 StopsTask holds old new task Choices = AsksToSolve task × IsBadInput holds task input.Problem IsReadWithChoices
 StopsTask holds old new task Memory = Unit {0}
@@ -161,25 +161,25 @@ pub record IsStopped (words : List (List ℕ)) (holds : Holdings) (old new : Cou
   pub stops : StopsTask holds old new task cause
 
 -- what stopped a run has happened
-abbrev pub Stops : List (List ℕ) → Holdings → Counts → Counts → Cause → Type 0
-Stops words holds old new (Words text) = AreRefused words
-Stops words holds old new (Failed which) = IsStopped words holds old new (Failed which)
-Stops words holds old new (TooLong which) = IsStopped words holds old new (TooLong which)
-Stops words holds old new (NoProblem refusal) = IsStopped words holds old new (NoProblem refusal)
-Stops words holds old new (NoSolution refusal) = IsStopped words holds old new (NoSolution refusal)
-Stops words holds old new (BadLine number why) = IsStopped words holds old new (BadLine number why)
-Stops words holds old new Choices = IsStopped words holds old new Choices
-Stops words holds old new Memory = Unit {0}
+abbrev pub StopsRun : List (List ℕ) → Holdings → Counts → Counts → Cause → Type 0
+StopsRun words holds old new (Words text) = AreRefused words
+StopsRun words holds old new (Failed which) = IsStopped words holds old new (Failed which)
+StopsRun words holds old new (TooLong which) = IsStopped words holds old new (TooLong which)
+StopsRun words holds old new (NoProblem refusal) = IsStopped words holds old new (NoProblem refusal)
+StopsRun words holds old new (NoSolution refusal) = IsStopped words holds old new (NoSolution refusal)
+StopsRun words holds old new (BadLine number why) = IsStopped words holds old new (BadLine number why)
+StopsRun words holds old new Choices = IsStopped words holds old new Choices
+StopsRun words holds old new Memory = Unit {0}
 
 -- the count of a name does not fall, and stays where the task does not give the name to be read
 pub record CountsTask (task : Task) (old new : Counts) (name : List ℕ) : Type 0 where
   pub never_falls : old name ≤ new name
-  pub stays : ((which : Input) → name_in task which ≡ Some name → ⊥) → new name ≡ old name
+  pub stays : ((which : Input) → input_name task which ≡ Some name → ⊥) → new name ≡ old name
 
 -- the count of a name does not fall, and stays where the words do not give the name to be read
 pub record CountsReading (words : List (List ℕ)) (old new : Counts) (name : List ℕ) : Type 0 where
   pub never_falls : old name ≤ new name
-  pub stays : ((task : Task) (which : Input) → IsTask words task → name_in task which ≡ Some name → ⊥) → new name ≡ old name
+  pub stays : ((task : Task) (which : Input) → IsTask words task → input_name task which ≡ Some name → ⊥) → new name ≡ old name
 
 -- ---- for private clauses
 

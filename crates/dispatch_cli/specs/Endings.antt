@@ -10,10 +10,10 @@ use Rattle.dispatch_cli.specs.declared.cause.Cause.TheVariants.{Failed, Memory}
 use Rattle.dispatch_cli.specs.declared.cause.Input.{Input}
 use Rattle.dispatch_cli.specs.Outside.{Outside, Holdings, Counts, Writes}
 use Rattle.dispatch_cli.specs.Answers.{IsAnswer, IsPut, IsDuePut, PutsUnder}
-use Rattle.dispatch_cli.specs.Causes.{Stops, IsReadingFault, line_of, due_line, status_of}
+use Rattle.dispatch_cli.specs.Causes.{StopsRun, IsReadingFault, line_of, due_line, status_of}
 
 -- status 0 or 1: what was to be put is held, and the lines of the answer were written
-pub record Answers (words : List (List ℕ)) (old new : Outside) (status : ℕ) (journal : List Entry) : Type 0 where
+pub record EndsAnswered (words : List (List ℕ)) (old new : Outside) (status : ℕ) (journal : List Entry) : Type 0 where
   pub answer : Answer
   pub is_answer : IsAnswer words old.holds answer
   pub status_is : status ≡ answer.status
@@ -27,9 +27,9 @@ pub record PutsNothing (old new : Outside) : Type 0 where
   pub counts : (name : List ℕ) → new.putting name ≡ old.putting name
 
 -- status 2: the words or a file were refused, and the line for it was written, or some of it where a write failed
-pub record Refuses (words : List (List ℕ)) (old new : Outside) (journal : List Entry) : Type 0 where
+pub record EndsRefused (words : List (List ℕ)) (old new : Outside) (journal : List Entry) : Type 0 where
   pub cause : Cause
-  pub stops : Stops words old.holds old.reading new.reading cause
+  pub stops : StopsRun words old.holds old.reading new.reading cause
   pub status : status_of cause ≡ 2
   pub journal_is : journal ≡ []
   pub part : WritesPart old.written new.written (line_of cause)
@@ -39,7 +39,7 @@ pub record Refuses (words : List (List ℕ)) (old new : Outside) (journal : List
 -- a named file could not be read, and the line for it was written, or some of it where a write failed
 pub record CannotRead (words : List (List ℕ)) (old new : Outside) (journal : List Entry) : Type 0 where
   pub which : Input
-  pub stops : Stops words old.holds old.reading new.reading (Failed which)
+  pub stops : StopsRun words old.holds old.reading new.reading (Failed which)
   pub journal_is : journal ≡ []
   pub part : WritesPart old.written new.written (line_of (Failed which))
   pub whole : new.faults ≡ old.faults → Writes old.written new.written (line_of (Failed which))
@@ -72,8 +72,8 @@ pub record CannotWrite (words : List (List ℕ)) (old new : Outside) (journal : 
   pub read : ReadsWell old new
 
 -- status 4: a reading of a named file, a putting under a named one, or a write failed
-abbrev pub Fails : List (List ℕ) → Outside → Outside → List Entry → Type 0
-Fails words old new journal = CannotRead words old new journal ⊎ (CannotPut words old new journal ⊎ CannotWrite words old new journal)
+abbrev pub EndsFailed : List (List ℕ) → Outside → Outside → List Entry → Type 0
+EndsFailed words old new journal = CannotRead words old new journal ⊎ (CannotPut words old new journal ⊎ CannotWrite words old new journal)
 
 -- there is something to put, and its name holds what it held
 abbrev pub PutKeeps : Option Put → Holdings → Holdings → Type 0
@@ -101,7 +101,7 @@ pub record IsDueUnput (words : List (List ℕ)) (old new : Outside) (text : List
 -- the line for what stopped the run is due, or nothing where that was want of memory
 pub record IsDueCause (words : List (List ℕ)) (old new : Outside) (text : List ℕ) (journal : List Entry) : Type 0 where
   pub cause : Cause
-  pub stops : Stops words old.holds old.reading new.reading cause
+  pub stops : StopsRun words old.holds old.reading new.reading cause
   pub text_is : text ≡ due_line cause
   pub journal_is : journal ≡ []
   pub fault : (name : List ℕ) → old.reading name < new.reading name → IsReadingFault cause

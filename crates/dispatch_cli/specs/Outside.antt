@@ -54,7 +54,7 @@ pub record ReadsOne (name : List ℕ) (old new : Counts) (old_puts new_puts : Co
   pub held : (other : List ℕ) → new_holds other ≡ old_holds other
 
 -- names were read, and no others, up to the first fault: no count falls, and where one rises there is a fault; all else stays
-pub record Reads (Given : List ℕ → Type 0) (old new : Counts) (old_puts new_puts : Counts) (old_holds new_holds : Holdings) (Fault : Type 0) : Type 0 where
+pub record ReadsNames (Given : List ℕ → Type 0) (old new : Counts) (old_puts new_puts : Counts) (old_holds new_holds : Holdings) (Fault : Type 0) : Type 0 where
   pub counted : (name : List ℕ) → old name ≤ new name
   pub fault : (name : List ℕ) → old name < new name → Fault
   pub one : FailsOfOne old new
@@ -63,13 +63,13 @@ pub record Reads (Given : List ℕ → Type 0) (old new : Counts) (old_puts new_
   pub held : (other : List ℕ) → new_holds other ≡ old_holds other
 
 -- the name is the one
-abbrev pub Is : List ℕ → List ℕ → Type 0
-Is one name = name ≡ one
+abbrev pub IsName : List ℕ → List ℕ → Type 0
+IsName one name = name ≡ one
 
 -- the name is the one of the file of fixings, if there is one, or that of the solution
-abbrev pub IsOfTwo : Option (List ℕ) → List ℕ → List ℕ → Type 0
-IsOfTwo fixings solution name = (fixings ≡ Some name) ⊎ (name ≡ solution)
+abbrev pub IsOneOfTwo : Option (List ℕ) → List ℕ → List ℕ → Type 0
+IsOneOfTwo fixings solution name = (fixings ≡ Some name) ⊎ (name ≡ solution)
 
 -- or that of the problem
-abbrev pub IsOfThree : List ℕ → Option (List ℕ) → List ℕ → List ℕ → Type 0
-IsOfThree problem fixings solution name = (name ≡ problem) ⊎ IsOfTwo fixings solution name
+abbrev pub IsOneOfThree : List ℕ → Option (List ℕ) → List ℕ → List ℕ → Type 0
+IsOneOfThree problem fixings solution name = (name ≡ problem) ⊎ IsOneOfTwo fixings solution name

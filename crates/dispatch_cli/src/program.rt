@@ -2,7 +2,7 @@ ghost use Rattle.std.specs.Prelude.{◌≡◌, ◌≢◌, ◌≤◌, ◌<◌, �
 ghost use Rattle.dispatch_cli.specs.Outside.{FailsOfOne, outside};
 ghost use Rattle.dispatch_cli.specs.Answers.{IsPut, IsDuePut};
 ghost use Rattle.dispatch_cli.specs.Causes.{CountsReading, IsAnswerStatus};
-ghost use Rattle.dispatch_cli.specs.Endings.{Answers, Refuses, Fails, GivesUp, CountsPutting, Publishes, PutsOnly, PutMisses, PutKeeps};
+ghost use Rattle.dispatch_cli.specs.Endings.{EndsAnswered, EndsRefused, EndsFailed, GivesUp, CountsPutting, Publishes, PutsOnly, PutMisses, PutKeeps};
 
 use crate::answer::{Answer, Put};
 use crate::done::Done;
@@ -80,17 +80,17 @@ pub fn dispatch<R, S: Shelf, O: Sink, G: Gate>(
     // An answer's journal is legal; an optimal plan is valid and none costs less; an infeasible
     // problem has no valid plan.
     ensures answered { (result.status ≡ 0) ⊎ (result.status ≡ 1)
-        → Answers (map (λ word. string_bytes word) words.now)
+        → EndsAnswered (map (λ word. string_bytes word) words.now)
         (outside (S.holds shelf.old) (S.reading_faults shelf.old) (S.putting_faults shelf.old)
         (O.faults out.old) (O.written out.old))
         (outside (S.holds shelf.new) (S.reading_faults shelf.new) (S.putting_faults shelf.new)
         (O.faults out.new) (O.written out.new)) result.status result.journal.items }
-    ensures refused { result.status ≡ 2 → Refuses (map (λ word. string_bytes word) words.now)
+    ensures refused { result.status ≡ 2 → EndsRefused (map (λ word. string_bytes word) words.now)
         (outside (S.holds shelf.old) (S.reading_faults shelf.old) (S.putting_faults shelf.old)
         (O.faults out.old) (O.written out.old))
         (outside (S.holds shelf.new) (S.reading_faults shelf.new) (S.putting_faults shelf.new)
         (O.faults out.new) (O.written out.new)) result.journal.items }
-    ensures failed { result.status ≡ 4 → Fails (map (λ word. string_bytes word) words.now)
+    ensures failed { result.status ≡ 4 → EndsFailed (map (λ word. string_bytes word) words.now)
         (outside (S.holds shelf.old) (S.reading_faults shelf.old) (S.putting_faults shelf.old)
         (O.faults out.old) (O.written out.old))
         (outside (S.holds shelf.new) (S.reading_faults shelf.new) (S.putting_faults shelf.new)

@@ -1,8 +1,8 @@
 ghost use Rattle.std.specs.Prelude.{◌≡◌, ◌<◌, ℕ, List, Some, IfOk, IfErr, IsErrAnd, map, option_map, string_bytes};
 ghost use Rattle.command_words.specs.Task.{IsTask};
-ghost use Rattle.dispatch_cli.specs.Outside.{FailsOfOne, ReadsOne, Reads, IsOfTwo, IsOfThree};
+ghost use Rattle.dispatch_cli.specs.Outside.{FailsOfOne, ReadsOne, ReadsNames, IsOneOfTwo, IsOneOfThree};
 ghost use Rattle.dispatch_cli.specs.Answers.{IsAnswer, AnswersTask, AnswersSolve, AnswersVerify, IsJudgedFile, IsJudgedBy};
-ghost use Rattle.dispatch_cli.specs.Causes.{RefusesWords, Stops, StopsTask, StopsSolve, StopsSolution, StopsJudging, StopsVerify, IsReadingFault, IsAnswerStatus, CountsReading, CountsTask};
+ghost use Rattle.dispatch_cli.specs.Causes.{RefusesWords, StopsRun, StopsTask, StopsSolve, StopsSolution, StopsJudging, StopsVerify, IsReadingFault, IsAnswerStatus, CountsReading, CountsTask};
 
 use crate::answer::Answer;
 use crate::cause::Cause;
@@ -85,7 +85,8 @@ fn judge_with<S: Shelf>(
         (StopsJudging (S.holds shelf.old) (S.reading_faults shelf.old) (S.reading_faults shelf.new)
         problem.now (Some name.now) solution.now) }
     ensures status { IfOk result (λ answer. IsAnswerStatus answer.status) }
-    ensures reads { Reads (IsOfTwo (Some name.now) solution.now) (S.reading_faults shelf.old)
+    ensures reads { ReadsNames (IsOneOfTwo (Some name.now) solution.now)
+        (S.reading_faults shelf.old)
         (S.reading_faults shelf.new) (S.putting_faults shelf.old) (S.putting_faults shelf.new)
         (S.holds shelf.old) (S.holds shelf.new) (IsErrAnd result IsReadingFault) }
 {
@@ -110,7 +111,8 @@ fn judge_files<S: Shelf>(
         (StopsJudging (S.holds shelf.old) (S.reading_faults shelf.old) (S.reading_faults shelf.new)
         problem.now (option_map (λ name. name.now) fixings.entry) solution.now) }
     ensures status { IfOk result (λ answer. IsAnswerStatus answer.status) }
-    ensures reads { Reads (IsOfTwo (option_map (λ name. name.now) fixings.entry) solution.now)
+    ensures reads { ReadsNames
+        (IsOneOfTwo (option_map (λ name. name.now) fixings.entry) solution.now)
         (S.reading_faults shelf.old) (S.reading_faults shelf.new) (S.putting_faults shelf.old)
         (S.putting_faults shelf.new) (S.holds shelf.old) (S.holds shelf.new)
         (IsErrAnd result IsReadingFault) }
@@ -136,8 +138,8 @@ fn run_verify<S: Shelf>(
         (StopsVerify (S.holds shelf.old) (S.reading_faults shelf.old) (S.reading_faults shelf.new)
         problem.now (option_map (λ name. name.now) fixings.entry) solution.now) }
     ensures status { IfOk result (λ answer. IsAnswerStatus answer.status) }
-    ensures reads { Reads
-        (IsOfThree problem.now (option_map (λ name. name.now) fixings.entry) solution.now)
+    ensures reads { ReadsNames
+        (IsOneOfThree problem.now (option_map (λ name. name.now) fixings.entry) solution.now)
         (S.reading_faults shelf.old) (S.reading_faults shelf.new) (S.putting_faults shelf.old)
         (S.putting_faults shelf.new) (S.holds shelf.old) (S.holds shelf.new)
         (IsErrAnd result IsReadingFault) }
@@ -180,7 +182,7 @@ pub(crate) fn run<S: Shelf>(alloc: Global, words: &[String], shelf: &mut S) -> R
     ensures ok { IfOk result
         (IsAnswer (map (λ word. string_bytes word) words.now) (S.holds shelf.old)) }
     ensures no { IfErr result
-        (Stops (map (λ word. string_bytes word) words.now) (S.holds shelf.old)
+        (StopsRun (map (λ word. string_bytes word) words.now) (S.holds shelf.old)
         (S.reading_faults shelf.old) (S.reading_faults shelf.new)) }
     ensures status { IfOk result (λ answer. IsAnswerStatus answer.status) }
 

@@ -13,7 +13,7 @@ use Rattle.disp_model.specs.WellFormed.{IsComponent}
 use Rattle.displib_reader.specs.declared.place.Place.TheVariants as place
 use Rattle.displib_reader.specs.declared.place.ComponentKey.TheVariants as key
 use Rattle.json_claims.specs.Field.{field, text_at, number_at, number_or, members_in, members_at, array_at, each}
-use Rattle.displib_reader.specs.ProblemOf.{is_delay, component_of, components_of, train_of, trains_of, names_in}
+use Rattle.displib_reader.specs.ProblemOf.{is_delay, component_of, components_of, train_read_as, trains_of, names_in}
 use Rattle.json_claims.specs.Claims.{claims_from, whole_in}
 use Rattle.displib_reader.specs.Claims.{component_claims, train_claims, count_at}
 use Rattle.displib_reader.specs.Types.{is_known, first_unknown}
@@ -109,9 +109,9 @@ good_components d linked components has =
       few = subst (λ (l : List Component). length l ≤ MOST_COMPONENTS) same read.3;
     }
 
-count_is : (names : List (List ℕ)) (ds : List Data) (trains : List (List Operation)) → each (train_of names) ds ≡ Some trains → (t : ℕ) (train : List Operation) → slice_get trains t ≡ Some train → length train ≡ count_at ds (Some t)
+count_is : (names : List (List ℕ)) (ds : List Data) (trains : List (List Operation)) → each (train_read_as names) ds ≡ Some trains → (t : ℕ) (train : List Operation) → slice_get trains t ≡ Some train → length train ≡ count_at ds (Some t)
 count_is names ds trains read t train at =
-    let p = each_at (train_of names) ds trains read t train at in
+    let p = each_at (train_read_as names) ds trains read t train at in
     train_length names p.0 train p.2 ∙ ap (λ found. length (members_in found)) (sym p.1)
 
 component_is : (d : Data) → IsLinked d → (trains : List (List Operation)) → trains_of d ≡ Some trains → (c : Component) → IsGoodComponent (members_at (codes "trains") d) c → IsComponent trains c
@@ -122,7 +122,7 @@ component_is d linked trains is c good =
       threshold = good.threshold;
       increment = good.increment;
       coeff = good.coeff;
-      train = omega (arith, good.train, each_length (train_of (names_in d)) ds trains read);
+      train = omega (arith, good.train, each_length (train_read_as (names_in d)) ds trains read);
       operation = λ train at. omega (arith, good.operation, count_is (names_in d) ds trains read c.train train at);
     }
 

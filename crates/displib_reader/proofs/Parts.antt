@@ -15,7 +15,7 @@ use Rattle.displib_reader.specs.declared.place.Place.TheVariants as place
 use Rattle.displib_reader.specs.declared.place.OperationKey.TheVariants.{StartLb, StartUb, MinDuration, Resources, Successors}
 use Rattle.displib_reader.specs.declared.place.ListingKey.TheVariants.{Resource, ReleaseTime}
 use Rattle.json_claims.specs.Field.{field, whole_of, members_at, text_at, number_or, optional_number, array_or_empty, each}
-use Rattle.displib_reader.specs.ProblemOf.{once, listing_of, operation_of}
+use Rattle.displib_reader.specs.ProblemOf.{once, listing_of, operation_read}
 use Rattle.json_claims.specs.Claims.{claims_from}
 use Rattle.displib_reader.specs.Claims.{listing_claims, successor_claims, operation_claims}
 use Rattle.json_claims.proofs.Kept.{AreKept, kept_head, kept_both, default_there, optional_there, index_there, text_there, object_there, list_there, each_kept}
@@ -69,8 +69,8 @@ operation_made : (names : List (List ℕ)) (d : Data) (m : _) (lower min : ℕ) 
     → as_object d ≡ Some m → number_or (codes "start_lb") GREATEST_NUMBER 0 d ≡ Some lower → optional_number (codes "start_ub") GREATEST_NUMBER d ≡ Some upper
     → number_or (codes "min_duration") GREATEST_NUMBER 0 d ≡ Some min → array_or_empty (codes "resources") d ≡ Some resources → each (listing_of names) resources ≡ Some listings
     → array_or_empty (codes "successors") d ≡ Some successors → each (whole_of GREATEST_NUMBER) successors ≡ Some next
-    → operation_of names d ≡ Some (record { lower = lower; upper = upper; min = min; listings = listings; next = once nat_eq next })
-unfolding operation_of
+    → operation_read names d ≡ Some (record { lower = lower; upper = upper; min = min; listings = listings; next = once nat_eq next })
+unfolding operation_read
 operation_made names d m lower min upper resources successors listings next object lower-is upper-is min-is resources-is listings-is successors-is next-is =
     rw (object, lower-is, upper-is, min-is, resources-is, listings-is, successors-is, next-is) refl
 
@@ -87,7 +87,7 @@ abbrev pub AreNamed : List (List ℕ) → Data → Type 0
 AreNamed names d = AllByRecursion (IsNamed names) (members_at (codes "resources") d)
 
 pub read_operation : (names : List (List ℕ)) (count t o : ℕ) (d : Data) → AreNamed names d → AreKept (operation_claims count t o d)
-    → (p : Operation) × (operation_of names d ≡ Some p) × IsGoodOperation count (length names) p
+    → (p : Operation) × (operation_read names d ≡ Some p) × IsGoodOperation count (length names) p
 unfolding operation_claims
 read_operation names count t o d named kept =
     let k1 = kept_head _ _ kept in

@@ -15,7 +15,7 @@ use Rattle.disp_model.specs.declared.limits.TheConstants.{MOST_TRAINS, MOST_OPER
 use Rattle.disp_model.specs.WellFormed.{operation_count}
 use Rattle.displib_reader.specs.declared.place.Place.TheVariants as place
 use Rattle.json_claims.specs.Field.{field, values_of, members_in, members_at, text_at, array_at, each}
-use Rattle.displib_reader.specs.ProblemOf.{once, names_of_operation, names_of_train, names_in, operation_of, train_of, trains_with, trains_of}
+use Rattle.displib_reader.specs.ProblemOf.{once, names_of_operation, names_of_train, names_in, operation_read, train_read_as, trains_with, trains_of}
 use Rattle.json_claims.specs.Claims.{claims_from}
 use Rattle.displib_reader.specs.Claims.{operation_claims, train_claims, problem_claims}
 use Rattle.displib_reader.specs.Counts.{too_many, trains_given, operations_given, components_given}
@@ -103,23 +103,23 @@ trains_named d =
 abbrev pub IsGoodTrain : ℕ → List Operation → Type 0
 IsGoodTrain resources train = AllByRecursion (IsGoodOperation (length train) resources) train
 
-train_made : (names : List (List ℕ)) (d : Data) (ds : List Data) (train : List Operation) → option_map values_of (as_array d) ≡ Some ds → each (operation_of names) ds ≡ Some train → train_of names d ≡ Some train
+train_made : (names : List (List ℕ)) (d : Data) (ds : List Data) (train : List Operation) → option_map values_of (as_array d) ≡ Some ds → each (operation_read names) ds ≡ Some train → train_read_as names d ≡ Some train
 train_made names d ds train list read = rw list read
 
-read_train : (names : List (List ℕ)) (t : ℕ) (d : Data) → IsTrainNamed names d → AreKept (train_claims t d) → (train : List Operation) × (train_of names d ≡ Some train) × IsGoodTrain (length names) train
+read_train : (names : List (List ℕ)) (t : ℕ) (d : Data) → IsTrainNamed names d → AreKept (train_claims t d) → (train : List Operation) × (train_read_as names d ≡ Some train) × IsGoodTrain (length names) train
 unfolding train_claims
 read_train names t d named kept =
     let one = kept_head _ _ kept in
     let ds = members_in (Some d) in
     let list = needed_list_there (place.Train t) (Some d) one.0.plain in
-    let ops = each_kept (operation_claims (length ds) t) (operation_of names) (AreNamed names) (IsGoodOperation (length ds) (length names)) (read_operation names (length ds) t) 0 ds named one.1 in
-    let long : length ops.0 ≡ length ds = each_length (operation_of names) ds ops.0 ops.1 in
+    let ops = each_kept (operation_claims (length ds) t) (operation_read names) (AreNamed names) (IsGoodOperation (length ds) (length names)) (read_operation names (length ds) t) 0 ds named one.1 in
+    let long : length ops.0 ≡ length ds = each_length (operation_read names) ds ops.0 ops.1 in
     (ops.0, train_made names d ds ops.0 list ops.1, subst (λ n. AllByRecursion (IsGoodOperation n (length names)) ops.0) (sym long) ops.2)
 
 pub kept_problem : (d : Data) → IsLinked d → AreKept (problem_claims d)
 kept_problem d linked = record { plain = linked.plain; index = linked.index }
 
-trains_made : (names : List (List ℕ)) (d : Data) (ds : List Data) (trains : List (List Operation)) → array_at (codes "trains") d ≡ Some ds → each (train_of names) ds ≡ Some trains → trains_with names d ≡ Some trains
+trains_made : (names : List (List ℕ)) (d : Data) (ds : List Data) (trains : List (List Operation)) → array_at (codes "trains") d ≡ Some ds → each (train_read_as names) ds ≡ Some trains → trains_with names d ≡ Some trains
 trains_made names d ds trains list read = rw list read
 
 -- the trains are read, and are well formed but for their graphs
@@ -129,11 +129,11 @@ read_trains d linked =
     let two = kept_head _ _ one.1 in
     let three = kept_both (claims_from train_claims 0 (members_at (codes "trains") d)) _ two.1 in
     let list = needed_list_there place.Trains (field (codes "trains") d) two.0.plain in
-    let read = each_kept train_claims (train_of (names_in d)) (IsTrainNamed (names_in d)) (IsGoodTrain (length (names_in d))) (read_train (names_in d)) 0 (members_at (codes "trains") d) (trains_named d) three.0 in
+    let read = each_kept train_claims (train_read_as (names_in d)) (IsTrainNamed (names_in d)) (IsGoodTrain (length (names_in d))) (read_train (names_in d)) 0 (members_at (codes "trains") d) (trains_named d) three.0 in
     (read.0, trains_made (names_in d) d (members_at (codes "trains") d) read.0 list read.1, read.2)
 
 -- the trains that are read are those of the members
-pub trains_each : (d : Data) → IsLinked d → (trains : List (List Operation)) → trains_of d ≡ Some trains → each (train_of (names_in d)) (members_at (codes "trains") d) ≡ Some trains
+pub trains_each : (d : Data) → IsLinked d → (trains : List (List Operation)) → trains_of d ≡ Some trains → each (train_read_as (names_in d)) (members_at (codes "trains") d) ≡ Some trains
 trains_each d linked trains is =
     let one = kept_head _ _ (kept_problem d linked) in
     let two = kept_head _ _ one.1 in
@@ -152,15 +152,15 @@ members_are : (found : Option Items) (ds : List Data) → option_map values_of f
 members_are None ds e = absurd cc
 members_are (Some items) ds e = same_Some (values_of items) ds e
 
-pub train_length : (names : List (List ℕ)) (d : Data) (train : List Operation) → train_of names d ≡ Some train → length train ≡ length (members_in (Some d))
+pub train_length : (names : List (List ℕ)) (d : Data) (train : List Operation) → train_read_as names d ≡ Some train → length train ≡ length (members_in (Some d))
 train_length names d train e =
-    let p = bind_some (option_map values_of (as_array d)) (each (operation_of names)) train e in
-    each_length (operation_of names) p.0 train p.2 ∙ ap length (sym (members_are (as_array d) p.0 p.1))
+    let p = bind_some (option_map values_of (as_array d)) (each (operation_read names)) train e in
+    each_length (operation_read names) p.0 train p.2 ∙ ap length (sym (members_are (as_array d) p.0 p.1))
 
-count_each : (names : List (List ℕ)) (ds : List Data) (trains : List (List Operation)) → each (train_of names) ds ≡ Some trains → operation_count trains ≡ sum_by (λ t. length (members_in (Some t))) ds
+count_each : (names : List (List ℕ)) (ds : List Data) (trains : List (List Operation)) → each (train_read_as names) ds ≡ Some trains → operation_count trains ≡ sum_by (λ t. length (members_in (Some t))) ds
 count_each names [] trains e = let n : [] ≡ trains = same_Some _ _ e in ap operation_count (sym n)
 count_each names (d ∷ ds) trains e =
-    let p = each_some (train_of names) d ds trains e in
+    let p = each_some (train_read_as names) d ds trains e in
     ap operation_count p.4
     ∙ sum_by-cons (λ (t : List Operation). length t) p.0 p.1
     ∙ ap (λ n. n + operation_count p.1) (train_length names d p.0 p.2)
@@ -188,7 +188,7 @@ has_few d e =
     }
 
 pub few_trains : (d : Data) → IsLinked d → (trains : List (List Operation)) → trains_of d ≡ Some trains → length trains ≤ MOST_TRAINS
-few_trains d linked trains is = omega (arith, each_length (train_of (names_in d)) (members_at (codes "trains") d) trains (trains_each d linked trains is), (has_few d linked.few).trains)
+few_trains d linked trains is = omega (arith, each_length (train_read_as (names_in d)) (members_at (codes "trains") d) trains (trains_each d linked trains is), (has_few d linked.few).trains)
 
 pub few_operations : (d : Data) → IsLinked d → (trains : List (List Operation)) → trains_of d ≡ Some trains → operation_count trains ≤ MOST_OPERATIONS
 few_operations d linked trains is = omega (arith, count_each (names_in d) (members_at (codes "trains") d) trains (trains_each d linked trains is), (has_few d linked.few).operations)

@@ -35,8 +35,8 @@ listing_of names d = do
   Some (record { resource = position_or_len (bytes_eq name) names; release = release })
 
 -- an operation; a successor that is named twice counts once
-unfoldable pub operation_of : List (List ℕ) → Data → Option Operation
-operation_of names d = do
+unfoldable pub operation_read : List (List ℕ) → Data → Option Operation
+operation_read names d = do
   members ← as_object d
   lower ← number_or (codes "start_lb") GREATEST_NUMBER 0 d
   upper ← optional_number (codes "start_ub") GREATEST_NUMBER d
@@ -47,8 +47,8 @@ operation_of names d = do
   next ← each (whole_of GREATEST_NUMBER) successors
   Some (record { lower = lower; upper = upper; min = min; listings = listings; next = once nat_eq next })
 
-abbrev pub train_of : List (List ℕ) → Data → Option (List Operation)
-train_of names d = option_map values_of (as_array d) >>= each (operation_of names)
+abbrev pub train_read_as : List (List ℕ) → Data → Option (List Operation)
+train_read_as names d = option_map values_of (as_array d) >>= each (operation_read names)
 
 -- the one type of component that there is
 abbrev pub is_delay : List ℕ → Bool
@@ -66,7 +66,7 @@ component_of d = do
 
 -- the trains, where the resources have these names
 abbrev pub trains_with : List (List ℕ) → Data → Option (List (List Operation))
-trains_with names d = array_at (codes "trains") d >>= each (train_of names)
+trains_with names d = array_at (codes "trains") d >>= each (train_read_as names)
 
 abbrev pub trains_of : Data → Option (List (List Operation))
 trains_of d = trains_with (names_in d) d

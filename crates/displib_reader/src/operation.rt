@@ -4,7 +4,7 @@ ghost use Rattle.std.specs.Str.{bytes_eq};
 ghost use Rattle.serde_json.specs.View.{view};
 ghost use Rattle.json_claims.specs.Gives.{Gives};
 ghost use Rattle.json_claims.specs.Field.{each, whole_of};
-ghost use Rattle.displib_reader.specs.ProblemOf.{once, listing_of, operation_of};
+ghost use Rattle.displib_reader.specs.ProblemOf.{once, listing_of, operation_read};
 
 use disp_model::{GREATEST_NUMBER, List, Listing, Memory, Operation};
 use indexmap::IndexSet;
@@ -83,13 +83,13 @@ fn once(alloc: Global, numbers: &[u32]) -> Result<List<u32>, Memory>
 }
 
 /// An operation of a train.
-#[tactic(auto, unfolding(crate::specs::ProblemOf::operation_of))]
+#[tactic(auto, unfolding(crate::specs::ProblemOf::operation_read))]
 pub(crate) fn read_operation(
     alloc: Global,
     names: &IndexSet<String>,
     value: &Value,
 ) -> Result<Operation, Unread>
-    ensures { Gives result (operation_of (map string_bytes names.now.keys) (view value.now)) }
+    ensures { Gives result (operation_read (map string_bytes names.now.keys) (view value.now)) }
 {
     if !value.is_object() {
         return Err(Unread::Nothing);

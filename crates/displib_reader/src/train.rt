@@ -1,7 +1,7 @@
 ghost use Rattle.std.specs.Prelude.{map, string_bytes};
 ghost use Rattle.serde_json.specs.View.{view};
 ghost use Rattle.json_claims.specs.Gives.{Gives};
-ghost use Rattle.displib_reader.specs.ProblemOf.{train_of, trains_with};
+ghost use Rattle.displib_reader.specs.ProblemOf.{train_read_as, trains_with};
 
 use crate::operation::read_operation;
 use disp_model::{List, Train};
@@ -12,7 +12,7 @@ use std::alloc::Global;
 
 /// A train.
 fn read_train(alloc: Global, names: &IndexSet<String>, value: &Value) -> Result<Train, Unread>
-    ensures { Gives result (train_of (map string_bytes names.now.keys) (view value.now)) }
+    ensures { Gives result (train_read_as (map string_bytes names.now.keys) (view value.now)) }
 {
     let values = elements(value).ok_or(Unread::Nothing)?;
     let mut operations = Vec::new(alloc);

@@ -15,7 +15,7 @@ use Rattle.disp_model.specs.Replies.{IsReply, IsEdition}
 use Rattle.fixing_editions.specs.declared.kept.Kept.{Kept}
 use Rattle.fixing_editions.specs.declared.train_fixings.Numbered.{Numbered}
 use Rattle.fixing_editions.specs.Own.{train_of, own_of, without}
-use Rattle.fixing_editions.specs.Edition.{AreOwn, AreWithdrawn, IsKept, IsAsBefore, Enters, TakesBack, Settles}
+use Rattle.fixing_editions.specs.Edition.{AreOwn, AreWithdrawn, IsKeptOf, IsAsBefore, EntersFixing, TakesBack, Settles}
 use Rattle.train_orders.proofs.Places.{get_push_cases, set_at, set_elsewhere}
 use Rattle.fixing_editions.proofs.Standing.{none_withdraws, withdrawn_after_fix, withdrawn_by_last, withdrawn_by_others, numbered_more, numbered_less, fewer_stand, as_many, fixings_push, own_more, own_kept, own_less, own_else}
 use Rattle.fixing_editions.proofs.Accepting.{IsNew, IsTakenBack, accepted_new, accepted_back, change_within, edition_more}
@@ -148,8 +148,8 @@ room_left changes change fits room = elim (cases_lt (length changes) MOST_CHANGE
   | inr le ↦ absurd (room (omega (arith, le, fits)))
 ]
 
-pub kept_more : (problem : Problem) (changes more : List Change) (fixing : Fixing) (n : ℕ) (old new : Kept) → IsKept problem changes old
-    → IsReply problem changes (Fix fixing) (Accepted n) → more ≡ changes ++ Fix fixing ∷ [] → Enters n fixing old new → IsKept problem more new
+pub kept_more : (problem : Problem) (changes more : List Change) (fixing : Fixing) (n : ℕ) (old new : Kept) → IsKeptOf problem changes old
+    → IsReply problem changes (Fix fixing) (Accepted n) → more ≡ changes ++ Fix fixing ∷ [] → EntersFixing n fixing old new → IsKeptOf problem more new
 kept_more problem changes more fixing n old new kept reply is enters = rw is (record {
   edition = edition_more problem changes (Fix fixing) n kept.edition reply fresh.newest.number;
   fits = room_left changes (Fix fixing) kept.fits fresh.newest.room;
@@ -169,9 +169,9 @@ kept_more problem changes more fixing n old new kept reply is enters = rw is (re
     inside : train_of fixing < length old.by_train.items
     inside = omega (arith, (accepted_new problem changes fixing n reply).train, kept.long)
 
-pub kept_less : (problem : Problem) (changes more : List Change) (number n : ℕ) (fixing : Fixing) (old new : Kept) → IsKept problem changes old
+pub kept_less : (problem : Problem) (changes more : List Change) (number n : ℕ) (fixing : Fixing) (old new : Kept) → IsKeptOf problem changes old
     → IsReply problem changes (Withdraw number) (Accepted n) → change_at changes number ≡ Some (Fix fixing) → train_of fixing < length old.by_train.items
-    → more ≡ changes ++ Withdraw number ∷ [] → TakesBack n number fixing old new → IsKept problem more new
+    → more ≡ changes ++ Withdraw number ∷ [] → TakesBack n number fixing old new → IsKeptOf problem more new
 kept_less problem changes more number n fixing old new kept reply there inside is takes = rw is (record {
   edition = edition_more problem changes (Withdraw number) n kept.edition reply back.newest.number;
   fits = room_left changes (Withdraw number) kept.fits back.newest.room;
@@ -189,7 +189,7 @@ kept_less problem changes more number n fixing old new kept reply there inside i
     found : (i : ℕ) × (number ≡ i + 1) × (i < length changes) × (slice_get changes i ≡ Some (Fix fixing))
     found = change_within changes number (Fix fixing) there
 
-pub kept_same : (problem : Problem) (changes : List Change) (old new : Kept) → IsKept problem changes old → IsAsBefore old new → IsKept problem changes new
+pub kept_same : (problem : Problem) (changes : List Change) (old new : Kept) → IsKeptOf problem changes old → IsAsBefore old new → IsKeptOf problem changes new
 kept_same problem changes old new kept same = record {
   edition = kept.edition;
   fits = kept.fits;
@@ -200,7 +200,7 @@ kept_same problem changes old new kept same = record {
   room = omega (arith, kept.room, ap (λ (l : List Fixing). length l) same.standing);
 }
 
-pub kept_settled : (problem : Problem) (changes : List Change) (old new : Kept) → IsKept problem changes old → Settles changes old new → IsKept problem changes new
+pub kept_settled : (problem : Problem) (changes : List Change) (old new : Kept) → IsKeptOf problem changes old → Settles changes old new → IsKeptOf problem changes new
 kept_settled problem changes old new kept settles = record {
   edition = kept.edition;
   fits = kept.fits;
@@ -211,7 +211,7 @@ kept_settled problem changes old new kept settles = record {
   room = omega (arith, ap (λ (l : List Fixing). length l) settles.standing);
 }
 
-pub kept_first : (problem : Problem) (kept : Kept) → kept.withdrawn.items ≡ [] → kept.by_train.items ≡ replicate (length problem.trains) [] → kept.standing.items ≡ [] → IsKept problem [] kept
+pub kept_first : (problem : Problem) (kept : Kept) → kept.withdrawn.items ≡ [] → kept.by_train.items ≡ replicate (length problem.trains) [] → kept.standing.items ≡ [] → IsKeptOf problem [] kept
 kept_first problem kept none is stands = record {
   edition = λ i c here. absurd (none-some c here);
   fits = omega arith;

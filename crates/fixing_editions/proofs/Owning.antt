@@ -153,8 +153,7 @@ routes_are problem t changes fixing = (to, from)
 
     to : HasRoute (root_of problem (fixings_with own fixing)) t → HasRoute (root_of problem (standing_of changes ++ fixing ∷ [])) t
     to (route, allowed) =
-        let both = All-pop (AgreesWithFixing t route) (fixings_with own fixing) (own_fixings own) (Some fixing) refl allowed.fixings_agree in
-        (
+        let both = All-pop (AgreesWithFixing t route) (fixings_with own fixing) (own_fixings own) (Some fixing) refl allowed.fixings_agree in (
           route,
           record {
             is_route = allowed.is_route;
@@ -165,8 +164,7 @@ routes_are problem t changes fixing = (to, from)
 
     from : HasRoute (root_of problem (standing_of changes ++ fixing ∷ [])) t → HasRoute (root_of problem (fixings_with own fixing)) t
     from (route, allowed) =
-        let both = All-pop (AgreesWithFixing t route) (standing_of changes ++ fixing ∷ []) (standing_of changes) (Some fixing) refl allowed.fixings_agree in
-        (
+        let both = All-pop (AgreesWithFixing t route) (standing_of changes ++ fixing ∷ []) (standing_of changes) (Some fixing) refl allowed.fixings_agree in (
           route,
           record {
             is_route = allowed.is_route;

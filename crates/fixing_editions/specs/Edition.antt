@@ -45,7 +45,7 @@ left_standing (Fix fixing) (Some by) = None
 left_standing (Withdraw number) by = None
 
 -- what is kept agrees with the changes, which are an edition's
-pub record IsKept (problem : Problem) (changes : List Change) (kept : Kept) : Type 0 where
+pub record IsKeptOf (problem : Problem) (changes : List Change) (kept : Kept) : Type 0 where
   pub edition : IsEdition problem changes
   pub fits : length changes ≤ MOST_CHANGES
   pub withdrawn : AreWithdrawn changes kept.withdrawn.items
@@ -62,7 +62,7 @@ pub record IsAsBefore (old new : Kept) : Type 0 where
   pub stale : new.stale ≡ old.stale
 
 -- a fixing is entered as the change of a number
-pub record Enters (number : ℕ) (fixing : Fixing) (old new : Kept) : Type 0 where
+pub record EntersFixing (number : ℕ) (fixing : Fixing) (old new : Kept) : Type 0 where
   pub withdrawn : new.withdrawn.items ≡ old.withdrawn.items ++ None ∷ []
   pub by_train :
       new.by_train.items

@@ -24,13 +24,13 @@ pub struct Editions {
 }
 
 impl Model for Editions {
-    ghost use Rattle.fixing_editions.specs.Edition.{Edition, IsKept};
+    ghost use Rattle.fixing_editions.specs.Edition.{Edition, IsKeptOf};
 
     ghost Value = { Edition };
 
     ghost view = { λ e. record { problem = e.problem; changes = e.changes.items } };
 
-    ghost invariant = { λ e. IsKept e.problem e.changes.items e.kept };
+    ghost invariant = { λ e. IsKeptOf e.problem e.changes.items e.kept };
 }
 
 impl Editions {

@@ -1,7 +1,7 @@
 ghost use Rattle.std.specs.Prelude.{◌≡◌, ◌+◌, ◌≤◌, ◌<◌, [], ◌∷◌, ◌++◌, false, IfOk, OnOk, OnErr, length, replicate};
 ghost use Rattle.disp_model.specs.Changes.{standing_of};
 ghost use Rattle.fixing_editions.specs.Own.{train_of};
-ghost use Rattle.fixing_editions.specs.Edition.{AreWithdrawn, left_standing, IsAsBefore, Enters, TakesBack, Settles};
+ghost use Rattle.fixing_editions.specs.Edition.{AreWithdrawn, left_standing, IsAsBefore, EntersFixing, TakesBack, Settles};
 
 use crate::train_fixings::{Numbered, train_of, without};
 use disp_model::{Change, Fixing, List, Memory};
@@ -55,10 +55,10 @@ fn list(
     }
 }
 
-/// Enters a fixing as the change of a number.
+/// EntersFixing a fixing as the change of a number.
 pub(crate) fn enter(kept: &mut Kept, number: u32, fixing: Fixing) -> Result<(), Memory>
     requires { train_of fixing < length kept.old.by_train.items }
-    ensures ok { OnOk result (Enters number fixing kept.old kept.new) }
+    ensures ok { OnOk result (EntersFixing number fixing kept.old kept.new) }
     ensures err { OnErr result (IsAsBefore kept.old kept.new) }
 {
     kept.withdrawn.push(None)?;

@@ -8,11 +8,11 @@ use Rattle.fixing_files.specs.declared.take.LineNo.{LineNo}
 use Rattle.fixing_files.specs.declared.take.LineNo.TheVariants as why
 use Rattle.fixing_files.specs.declared.take.FileNo.{FileNo}
 use Rattle.fixing_files.specs.declared.take.FileNo.TheVariants.{Line, Failed, Memory}
-use Rattle.fixing_files.specs.Files.{Takes, TakesAll, TakesFirst, IsAt, Stops, StopsBy, StopsAt, StopsFirst, HasFirst, LeavesAt, Leaves, RefusesNext, RefusesEnd, Refuses}
+use Rattle.fixing_files.specs.Files.{TakesLine, TakesAll, TakesFirst, HasRead, StopsLine, StopsBy, StopsAt, StopsFirst, HasFirst, LeavesAt, Leaves, RefusesNext, RefusesEnd, RefusesFile}
 
 -- one more line
 pub takes_more : (problem : Problem) (old mid new : List Change) (k : ℕ) (lines : List (List ℕ)) (line : List ℕ) (rest : List (List ℕ)) → drop k lines ≡ line ∷ rest
-    → TakesAll problem old (take k lines) mid → Takes problem mid line new → TakesAll problem old (take (k + 1) lines) new
+    → TakesAll problem old (take k lines) mid → TakesLine problem mid line new → TakesAll problem old (take (k + 1) lines) new
 takes_more problem old mid new zero [] line rest e all one = cc
 takes_more problem old mid new zero (x ∷ xs) line rest e all one =
     let first : x ≡ line = head e in
@@ -57,18 +57,18 @@ some_left (suc k) (x ∷ xs) lt =
     omega (arith, more)
 
 -- where reading stands one line on
-pub at_more : (problem : Problem) (told now then_told : Option (List (List ℕ))) (k : ℕ) (old new : List Change) → IsAt problem told now k old
-    → IfSome now (λ lines. TakesFirst problem old lines then_told new) → IsAt problem told then_told (k + 1) new
+pub at_more : (problem : Problem) (told now then_told : Option (List (List ℕ))) (k : ℕ) (old new : List Change) → HasRead problem told now k old
+    → IfSome now (λ lines. TakesFirst problem old lines then_told new) → HasRead problem told then_told (k + 1) new
 at_more problem None now then_told k old new at first = tt
 at_more problem (Some lines) now then_told k old new (left, all) first =
     go (drop k lines) refl (subst (λ (n : Option (List (List ℕ))). IfSome n (λ ls. TakesFirst problem old ls then_told new)) left first)
   where
-    go : (rest : List (List ℕ)) → drop k lines ≡ rest → TakesFirst problem old rest then_told new → IsAt problem (Some lines) then_told (k + 1) new
+    go : (rest : List (List ℕ)) → drop k lines ≡ rest → TakesFirst problem old rest then_told new → HasRead problem (Some lines) then_told (k + 1) new
     go [] e one = absurd one
     go (line ∷ rest) e one = (one.1 ∙ ap Some (sym (left_after k lines line rest e)), takes_more problem [] old new k lines line rest e all one.0)
 
 -- where none is left all are taken
-pub at_end : (problem : Problem) (told now : Option (List (List ℕ))) (k : ℕ) (old new : List Change) → IsAt problem told now k old → IfSome now (λ lines. lines ≡ []) → new ≡ old
+pub at_end : (problem : Problem) (told now : Option (List (List ℕ))) (k : ℕ) (old new : List Change) → HasRead problem told now k old → IfSome now (λ lines. lines ≡ []) → new ≡ old
     → IfSome told (λ lines. TakesAll problem [] lines new)
 at_end problem None now k old new at none same = tt
 at_end problem (Some lines) now k old new (left, all) none same =
@@ -76,7 +76,7 @@ at_end problem (Some lines) now k old new (left, all) none same =
     rw same (subst (λ (ls : List (List ℕ)). TakesAll problem [] ls old) (all_taken k lines empty) all)
 
 -- where none is left there are no more lines than were taken
-pub at_few : (problem : Problem) (told now : Option (List (List ℕ))) (k most : ℕ) (changes : List Change) → IsAt problem told now k changes → IfSome now (λ lines. lines ≡ []) → k ≤ most → IfSome told (λ lines. length lines ≤ most)
+pub at_few : (problem : Problem) (told now : Option (List (List ℕ))) (k most : ℕ) (changes : List Change) → HasRead problem told now k changes → IfSome now (λ lines. lines ≡ []) → k ≤ most → IfSome told (λ lines. length lines ≤ most)
 at_few problem None now k most changes at none le = tt
 at_few problem (Some lines) now k most changes (left, all) none le =
     let empty : drop k lines ≡ [] = subst (λ (n : Option (List (List ℕ))). IfSome n (λ ls. ls ≡ [])) left none in
@@ -89,14 +89,14 @@ at_few problem (Some lines) now k most changes (left, all) none le =
     few (suc k) (x ∷ xs) e = omega (arith, few k xs e)
 
 -- the line that is not taken is the next one
-pub at_stop : (problem : Problem) (told now left : Option (List (List ℕ))) (k : ℕ) (changes : List Change) (refusal : FileNo) → k < MOST_LINES → IsAt problem told now k changes → RefusesNext problem changes now left (k + 1) refusal → Refuses problem told refusal
+pub at_stop : (problem : Problem) (told now left : Option (List (List ℕ))) (k : ℕ) (changes : List Change) (refusal : FileNo) → k < MOST_LINES → HasRead problem told now k changes → RefusesNext problem changes now left (k + 1) refusal → RefusesFile problem told refusal
 at_stop problem None now left k changes (Line n reason) lt at stops = tt
 at_stop problem told now left k changes Failed lt at stops = tt
 at_stop problem told now left k changes Memory lt at stops = tt
 at_stop problem (Some lines) now left k changes (Line n reason) lt (at, all) (number, stops) =
     go (drop k lines) refl (subst (λ (m : Option (List (List ℕ))). IfSome m (λ ls. StopsFirst problem changes ls left reason)) at stops)
   where
-    by : (reason : LineNo) (line : List ℕ) → slice_get lines k ≡ Some line → Stops problem changes line reason → StopsBy problem changes lines k reason
+    by : (reason : LineNo) (line : List ℕ) → slice_get lines k ≡ Some line → StopsLine problem changes line reason → StopsBy problem changes lines k reason
     by why.Unreadable line there stop = (line, lt, there, stop)
     by why.Long line there stop = (line, lt, there, stop)
     by (why.Refused refusal) line there stop = (line, lt, there, stop)
@@ -107,7 +107,7 @@ at_stop problem (Some lines) now left k changes (Line n reason) lt (at, all) (nu
     go (line ∷ rest) e stop = record { place = k; counted = number; changes = changes; before = all; stops = by reason line (stands_at k lines line rest e) stop.0 }
 
 -- the changes are those of the lines before it, and those behind it are left
-pub leaves_stop : (problem : Problem) (told now left : Option (List (List ℕ))) (k : ℕ) (old new : List Change) (refusal : FileNo) → IsAt problem told now k old → new ≡ old → RefusesNext problem old now left (k + 1) refusal
+pub leaves_stop : (problem : Problem) (told now left : Option (List (List ℕ))) (k : ℕ) (old new : List Change) (refusal : FileNo) → HasRead problem told now k old → new ≡ old → RefusesNext problem old now left (k + 1) refusal
     → IfSome told (λ lines. Leaves problem lines left new refusal)
 leaves_stop problem None now left k old new refusal at same stops = tt
 leaves_stop problem (Some lines) now left k old new Failed at same stops = record { count = k; front = rw same at.1 }
@@ -120,7 +120,7 @@ leaves_stop problem (Some lines) now left k old new (Line n reason) (at, all) sa
     go (line ∷ rest) e stop = record { place = k; counted = number; before = rw same all; behind = rw number (stop.1 ∙ ap Some (sym (left_after k lines line rest e))) }
 
 -- a line behind as many as are read
-pub at_too_many : (problem : Problem) (told now left : Option (List (List ℕ))) (changes : List Change) (refusal : FileNo) → IsAt problem told now MOST_LINES changes → RefusesEnd now left refusal → Refuses problem told refusal
+pub at_too_many : (problem : Problem) (told now left : Option (List (List ℕ))) (changes : List Change) (refusal : FileNo) → HasRead problem told now MOST_LINES changes → RefusesEnd now left refusal → RefusesFile problem told refusal
 at_too_many problem None now left changes (Line n reason) at stops = tt
 at_too_many problem told now left changes Failed at stops = tt
 at_too_many problem told now left changes Memory at stops = tt
@@ -133,7 +133,7 @@ at_too_many problem (Some lines) now left changes (Line n reason) (at, all) (num
     some (line ∷ rest) first = omega arith
 
 -- all lines behind it are left
-pub leaves_too_many : (problem : Problem) (told now left : Option (List (List ℕ))) (changes : List Change) (refusal : FileNo) → IsAt problem told now MOST_LINES changes → RefusesEnd now left refusal
+pub leaves_too_many : (problem : Problem) (told now left : Option (List (List ℕ))) (changes : List Change) (refusal : FileNo) → HasRead problem told now MOST_LINES changes → RefusesEnd now left refusal
     → IfSome told (λ lines. Leaves problem lines left changes refusal)
 leaves_too_many problem None now left changes refusal at stops = tt
 leaves_too_many problem (Some lines) now left changes Failed at stops = record { count = MOST_LINES; front = at.1 }

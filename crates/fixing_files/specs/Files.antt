@@ -32,13 +32,13 @@ abbrev pub TakesText : Problem → List Change → List ℕ → List Change → 
 TakesText problem old text new = (change : Change) × IsAsked text change × TakesChange problem old change new
 
 -- a line is short enough, and asks for a change that is taken
-abbrev pub Takes : Problem → List Change → List ℕ → List Change → Type 0
-Takes problem old line new = (length (without_end line) ≤ 256) × TakesText problem old (text_of line) new
+abbrev pub TakesLine : Problem → List Change → List ℕ → List Change → Type 0
+TakesLine problem old line new = (length (without_end line) ≤ 256) × TakesText problem old (text_of line) new
 
 -- so do all lines, one after the other
 abbrev pub TakesAll : Problem → List Change → List (List ℕ) → List Change → Type 0
 TakesAll problem old [] new = new ≡ old
-TakesAll problem old (line ∷ lines) new = (mid : List Change) × Takes problem old line mid × TakesAll problem mid lines new
+TakesAll problem old (line ∷ lines) new = (mid : List Change) × TakesLine problem old line mid × TakesAll problem mid lines new
 
 -- why a text is not taken behind these changes
 abbrev pub StopsText : Problem → List Change → List ℕ → LineNo → Type 0
@@ -48,11 +48,11 @@ StopsText problem changes text why.TooMany = ⊥
 StopsText problem changes text (why.Refused refusal) = (change : Change) × IsAsked text change × IsReply problem changes change (Refused refusal)
 
 -- why a line is not taken behind these changes
-abbrev pub Stops : Problem → List Change → List ℕ → LineNo → Type 0
-Stops problem changes line why.Unreadable = (length (without_end line) ≤ 256) × StopsText problem changes (text_of line) why.Unreadable
-Stops problem changes line why.Long = 256 < length (without_end line)
-Stops problem changes line why.TooMany = ⊥
-Stops problem changes line (why.Refused refusal) = (length (without_end line) ≤ 256) × StopsText problem changes (text_of line) (why.Refused refusal)
+abbrev pub StopsLine : Problem → List Change → List ℕ → LineNo → Type 0
+StopsLine problem changes line why.Unreadable = (length (without_end line) ≤ 256) × StopsText problem changes (text_of line) why.Unreadable
+StopsLine problem changes line why.Long = 256 < length (without_end line)
+StopsLine problem changes line why.TooMany = ⊥
+StopsLine problem changes line (why.Refused refusal) = (length (without_end line) ≤ 256) × StopsText problem changes (text_of line) (why.Refused refusal)
 
 -- there is a line at the place, among as many as are read, and it is such
 abbrev pub IfSomeLine : List (List ℕ) → ℕ → (List ℕ → Type 0) → Type 0
@@ -61,9 +61,9 @@ IfSomeLine lines place Such = (line : List ℕ) × (place < MOST_LINES) × (slic
 -- the line at a place is not taken behind these changes; of one too many only its place tells
 abbrev pub StopsBy : Problem → List Change → List (List ℕ) → ℕ → LineNo → Type 0
 StopsBy problem changes lines place why.TooMany = (place ≡ MOST_LINES) × (MOST_LINES < length lines)
-StopsBy problem changes lines place why.Unreadable = IfSomeLine lines place (λ line. Stops problem changes line why.Unreadable)
-StopsBy problem changes lines place why.Long = IfSomeLine lines place (λ line. Stops problem changes line why.Long)
-StopsBy problem changes lines place (why.Refused refusal) = IfSomeLine lines place (λ line. Stops problem changes line (why.Refused refusal))
+StopsBy problem changes lines place why.Unreadable = IfSomeLine lines place (λ line. StopsLine problem changes line why.Unreadable)
+StopsBy problem changes lines place why.Long = IfSomeLine lines place (λ line. StopsLine problem changes line why.Long)
+StopsBy problem changes lines place (why.Refused refusal) = IfSomeLine lines place (λ line. StopsLine problem changes line (why.Refused refusal))
 
 -- the first line that is not taken has this number, counted from 1
 pub record StopsAt (problem : Problem) (lines : List (List ℕ)) (number : ℕ) (reason : LineNo) : Type 0 where
@@ -74,10 +74,10 @@ pub record StopsAt (problem : Problem) (lines : List (List ℕ)) (number : ℕ) 
   pub stops : StopsBy problem changes lines place reason
 
 -- why a file of fixings is not taken, where its lines are told
-abbrev pub Refuses : Problem → Option (List (List ℕ)) → FileNo → Type 0
-Refuses problem told (Line number reason) = IfSome told (λ lines. StopsAt problem lines number reason)
-Refuses problem told Failed = Unit {0}
-Refuses problem told Memory = Unit {0}
+abbrev pub RefusesFile : Problem → Option (List (List ℕ)) → FileNo → Type 0
+RefusesFile problem told (Line number reason) = IfSome told (λ lines. StopsAt problem lines number reason)
+RefusesFile problem told Failed = Unit {0}
+RefusesFile problem told Memory = Unit {0}
 
 -- a feed of these lines was read up to the line of this number and no further, and the changes are those of the lines before it
 pub record LeavesAt (problem : Problem) (lines : List (List ℕ)) (left : Option (List (List ℕ))) (changes : List Change) (number : ℕ) : Type 0 where
@@ -115,12 +115,12 @@ RefusesText problem changes text number Memory = Unit {0}
 -- the first of the lines is taken, and the others are left
 abbrev pub TakesFirst : Problem → List Change → List (List ℕ) → Option (List (List ℕ)) → List Change → Type 0
 TakesFirst problem old [] left new = ⊥
-TakesFirst problem old (line ∷ lines) left new = Takes problem old line new × (left ≡ Some lines)
+TakesFirst problem old (line ∷ lines) left new = TakesLine problem old line new × (left ≡ Some lines)
 
 -- the first of the lines is not taken, and the others are left
 abbrev pub StopsFirst : Problem → List Change → List (List ℕ) → Option (List (List ℕ)) → LineNo → Type 0
 StopsFirst problem changes [] left reason = ⊥
-StopsFirst problem changes (line ∷ lines) left reason = Stops problem changes line reason × (left ≡ Some lines)
+StopsFirst problem changes (line ∷ lines) left reason = StopsLine problem changes line reason × (left ≡ Some lines)
 
 -- why the next line, of this number, is not taken
 abbrev pub RefusesNext : Problem → List Change → Option (List (List ℕ)) → Option (List (List ℕ)) → ℕ → FileNo → Type 0
@@ -140,5 +140,5 @@ RefusesEnd told left Failed = Unit {0}
 RefusesEnd told left Memory = ⊥
 
 -- how far reading has come: so many lines are taken, and the others are left
-abbrev pub IsAt : Problem → Option (List (List ℕ)) → Option (List (List ℕ)) → ℕ → List Change → Type 0
-IsAt problem told now count changes = IfSome told (λ lines. (now ≡ Some (drop count lines)) × TakesAll problem [] (take count lines) changes)
+abbrev pub HasRead : Problem → Option (List (List ℕ)) → Option (List (List ℕ)) → ℕ → List Change → Type 0
+HasRead problem told now count changes = IfSome told (λ lines. (now ≡ Some (drop count lines)) × TakesAll problem [] (take count lines) changes)

@@ -2,7 +2,7 @@ ghost use Rattle.std.specs.Prelude.{◌≡◌, ◌≤◌, ◌<◌, ◌↔◌, []
 ghost use Rattle.disp_model.specs.declared.limits.TheConstants.{MOST_LINES};
 ghost use Rattle.disp_model.specs.declared.fixing.Change.{Change};
 ghost use Rattle.fixing_lines.specs.Requests.{IsAsked};
-ghost use Rattle.fixing_files.specs.Files.{TakesChange, RefusesChange, TakesText, RefusesText, TakesFirst, RefusesNext, RefusesEnd, TakesAll, Refuses, Leaves};
+ghost use Rattle.fixing_files.specs.Files.{TakesChange, RefusesChange, TakesText, RefusesText, TakesFirst, RefusesNext, RefusesEnd, TakesAll, RefusesFile, Leaves};
 
 use disp_model::{Change, MOST_LINES, Memory, Refusal, Reply};
 use disp_outside::{Feed, FeedLine, LineBuf};
@@ -156,7 +156,7 @@ pub fn take_fixings<F: Feed>(feed: &mut F, editions: &mut Editions) -> Result<()
         TakesAll editions.old.problem [] lines editions.new.changes)) }
     ensures few { OnOk result (IfSome (F.lines feed.old) (λ lines. length lines ≤ MOST_LINES)) }
     ensures ended { OnOk result (F.has_ended feed.new ≡ true) }
-    ensures no { IfErr result (Refuses editions.old.problem (F.lines feed.old)) }
+    ensures no { IfErr result (RefusesFile editions.old.problem (F.lines feed.old)) }
     ensures left { IfErr result (λ no. IfSome (F.lines feed.old) (λ lines.
         Leaves editions.old.problem lines (F.lines feed.new) editions.new.changes no)) }
 

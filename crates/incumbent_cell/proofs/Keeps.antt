@@ -12,7 +12,7 @@ use Rattle.atomic_table.proofs.Lists.{at_set, set_here, set_else, at_snoc, at_lo
 use Rattle.plain_values.proofs.Lists.{contains_last, contains_none_where, contains_one}
 use Rattle.incumbent_cell.specs.declared.pass.Known.{Known}
 use Rattle.incumbent_cell.specs.Code.{opening_code}
-use Rattle.incumbent_cell.specs.Knowledge.{with_put, with_found, halved, joined, spent, IsWhole, IsAmong, Stands, IsPut, IsTraced, weight, Cells, Kept, Sat, Puts, Finds}
+use Rattle.incumbent_cell.specs.Knowledge.{with_put, with_found_code, halved, joined_known, spent, IsWhole, IsAmong, Stands, IsPutBySome, IsTraced, weight, Cells, Kept, CellAtom, Puts, Finds}
 use Rattle.incumbent_cell.proofs.Shares.{weights-set, whole_alone, weights-split, weights-join, joined_live}
 
 inside : (l : List Known) (i : ℕ) (v : Known) → get_elem? l i ≡ some v → i < length l
@@ -27,7 +27,7 @@ all_of : (P : ℕ → Type 0) (l : List ℕ) → ((c : ℕ) → Contains l c →
 all_of P l f = λ k d h. f (get_or l k d) (All-contains_itself l k d h)
 
 -- what is put stays put where a view takes in more
-put_after : (l : List Known) (i : ℕ) (v w : Known) → get_elem? l i ≡ some v → ((c : ℕ) → Contains v.put c → Contains w.put c) → (c : ℕ) → IsPut l c → IsPut (set l i w) c
+put_after : (l : List Known) (i : ℕ) (v w : Known) → get_elem? l i ≡ some v → ((c : ℕ) → Contains v.put c → Contains w.put c) → (c : ℕ) → IsPutBySome l c → IsPutBySome (set l i w) c
 put_after l i v w at grows c p = dite (ℕ_discrete p.0 i)
     (λ e. (i, w, set_here l i w (inside l i v at), grows c (subst (λ (z : Known). Contains z.put c) (one_view l i p.0 v p.1 at p.2 e) p.3)))
     (λ apart. (p.0, p.1, set_else l i p.0 w apart ∙ p.2, p.3))
@@ -91,7 +91,7 @@ moved s k n i cs v w at live same grows low below from founds = let wide = k.one
       (λ none_left. let e : w.share.parts ≡ v.share.parts = ap (λ z. z.parts) same in absurd (omega arith)) k.spent_knows_nothing;
 }
 
-pub puts : (slots i : ℕ) (me : Sat) (code : ℕ) → 0 < me.0.share.parts
+pub puts : (slots i : ℕ) (me : CellAtom) (code : ℕ) → 0 < me.0.share.parts
     → Allows Kept slots i me 0 (λ n. min n code) (λ n w. Puts (step slots 0 code 0 none) me n w)
 puts slots i me code live s k _ at _ = let v : Known = me.0 in let x : ℕ = word s in let left = min-le_left x code in let right = min-le_right x code in (
   with_put v code,
@@ -106,12 +106,12 @@ puts slots i me code live s k _ at _ = let v : Known = me.0 in let x : ℕ = wor
   (refl, refl),
 )
 
-pub finds : (slots i : ℕ) (me : Sat) → 0 < me.0.share.parts → Allows Kept slots i me 0 (λ n. n) (λ n w. Finds (step slots 0 0 0 none) me n w)
+pub finds : (slots i : ℕ) (me : CellAtom) → 0 < me.0.share.parts → Allows Kept slots i me 0 (λ n. n) (λ n w. Finds (step slots 0 0 0 none) me n w)
 finds slots i me live s k _ at _ = let v : Known = me.0 in let x : ℕ = word s in (
-  with_found v x,
+  with_found_code v x,
   keeps,
   tt,
-  moved s k x i me.1 v (with_found v x) at live refl (λ c h. h) (le_refl x) (λ c h. k.below_put i v c at h) (inl refl)
+  moved s k x i me.1 v (with_found_code v x) at live refl (λ c h. h) (le_refl x) (λ c h. k.below_put i v c at h) (inl refl)
       (λ c h. ⊎_elim (λ (o : Contains v.found c). inl o) (λ (o : Contains (x ∷ []) c). inr (contains_one x c o)) (Contains-append_cases v.found (x ∷ []) c h)),
   (refl, refl, stands s k i v at),
 )
@@ -134,11 +134,11 @@ splits i v live s k at = let w : Known = halved v in let l : List Known = set s.
           each_snoc P l w (λ e. absurd (omega arith)) (each_after P s.views i w (λ e. absurd (omega arith)) k.spent_knows_nothing);
     }
 
--- what was put by a seat that is joined is put by the one that takes it in
+-- what was put by a seat that is joined_known is put by the one that takes it in
 kept_traced : (l : List Known) (i : ℕ) (v : Known) (other : ℕ) (w : Known) → get_elem? l i ≡ some v → get_elem? l other ≡ some w → other ≢ i
-    → (c : ℕ) → IsTraced l c → IsTraced (set (set l i (joined v w)) other spent) c
+    → (c : ℕ) → IsTraced l c → IsTraced (set (set l i (joined_known v w)) other spent) c
 kept_traced l i v other w at there apart c (inl e) = inl e
-kept_traced l i v other w at there apart c (inr p) = let b : Known = joined v w in
+kept_traced l i v other w at there apart c (inr p) = let b : Known = joined_known v w in
     let mine : get_elem? (set (set l i b) other spent) i ≡ some b = set_else (set l i b) other i spent (λ z. apart (sym z)) ∙ set_here l i b (inside l i v at) in
     inr (dite (ℕ_discrete p.0 other)
     (λ e. (i, b, mine, Contains-append_right v.put w.put c (subst (λ (z : Known). Contains z.put c) (one_view l other p.0 w p.1 there p.2 e) p.3)))
@@ -146,8 +146,8 @@ kept_traced l i v other w at there apart c (inr p) = let b : Known = joined v w 
     (λ e. (i, b, mine, Contains-append_left v.put w.put c (subst (λ (z : Known). Contains z.put c) (one_view l i p.0 v p.1 at p.2 e) p.3)))
     (λ not_i. (p.0, p.1, set_else (set l i b) other p.0 spent not_other ∙ (set_else l i p.0 b not_i ∙ p.2), p.3))))
 
-pub joins : (i : ℕ) (v : Known) (other : ℕ) (w : Known) → 0 < v.share.parts → Joins Kept i v other w (joined v w) spent
-joins i v other w live s k at apart still = let b : Known = joined v w in let l : List Known = set s.views i b in
+pub joins : (i : ℕ) (v : Known) (other : ℕ) (w : Known) → 0 < v.share.parts → Joins Kept i v other w (joined_known v w) spent
+joins i v other w live s k at apart still = let b : Known = joined_known v w in let l : List Known = set s.views i b in
     let there : get_elem? s.views other ≡ some w = sym (set_else s.views i other b apart) ∙ still in
     let old = λ (c : ℕ) (t : IsTraced s.views c). kept_traced s.views i v other w at there apart c t in record {
       one_word = k.one_word;

@@ -6,7 +6,7 @@ use mathlib.Core.Option.{some, some-injective, some-ne-none}
 use lib.ListN.{get_elem?}
 use Rattle.atomic_table.proofs.Lists.{set_else}
 use Rattle.incumbent_cell.specs.declared.pass.Known.{Known}
-use Rattle.incumbent_cell.specs.Knowledge.{halved, joined, spent, weight, weights, IsWhole, HasShare}
+use Rattle.incumbent_cell.specs.Knowledge.{halved, joined_known, spent, weight, weights, IsWhole, HasShare}
 
 pub weights-set : (n : ℕ) (l : List Known) (i : ℕ) (v w : Known) → get_elem? l i ≡ some v → weights n (set l i w) + weight n v ≡ weights n l + weight n w
 weights-set n [] i v w e = absurd (some-ne-none v (sym e))
@@ -63,7 +63,7 @@ weights-split n l i v s at total =
     let power : 2 ^ (1 + n) ≡ 2 ^ 1 * 2 ^ n = pow-add 2 1 n in
     omega arith
 
-weight-joined : (n : ℕ) (v w : Known) → v.share.halvings ≤ n → w.share.halvings ≤ n → weight (n + n) (joined v w) ≡ weight (n + n) v + weight (n + n) w
+weight-joined : (n : ℕ) (v w : Known) → v.share.halvings ≤ n → w.share.halvings ≤ n → weight (n + n) (joined_known v w) ≡ weight (n + n) v + weight (n + n) w
 weight-joined n v w a b =
     let p : ℕ = v.share.parts in let q : ℕ = w.share.parts in let h : ℕ = v.share.halvings in let k : ℕ = w.share.halvings in
     let r : ℕ = n + n - (h + k) in
@@ -77,19 +77,19 @@ weight-joined n v w a b =
     spread ∙ (ap (λ (z : ℕ). z + q * 2 ^ h * 2 ^ r) x' ∙ ap (λ (z : ℕ). p * 2 ^ (n + n - h) + z) y')
 
 -- putting two shares together keeps the sum
-pub weights-join : (n : ℕ) (l : List Known) (i j : ℕ) (v w : Known) → Scaled n l → get_elem? l i ≡ some v → get_elem? l j ≡ some w → get_elem? (set l i (joined v w)) j ≡ some w → weights n l ≡ 2 ^ n
-    → weights (n + n) (set (set l i (joined v w)) j spent) ≡ 2 ^ (n + n)
+pub weights-join : (n : ℕ) (l : List Known) (i j : ℕ) (v w : Known) → Scaled n l → get_elem? l i ≡ some v → get_elem? l j ≡ some w → get_elem? (set l i (joined_known v w)) j ≡ some w → weights n l ≡ 2 ^ n
+    → weights (n + n) (set (set l i (joined_known v w)) j spent) ≡ 2 ^ (n + n)
 weights-join n l i j v w s at there still total =
     let all : weights (n + n) l ≡ 2 ^ n * weights n l = weights_more n n l s in
-    let both : weight (n + n) (joined v w) ≡ weight (n + n) v + weight (n + n) w = weight-joined n v w (s i v at) (s j w there) in
-    let one = weights-set (n + n) l i v (joined v w) at in
-    let two = weights-set (n + n) (set l i (joined v w)) j w spent still in
+    let both : weight (n + n) (joined_known v w) ≡ weight (n + n) v + weight (n + n) w = weight-joined n v w (s i v at) (s j w there) in
+    let one = weights-set (n + n) l i v (joined_known v w) at in
+    let two = weights-set (n + n) (set l i (joined_known v w)) j w spent still in
     let nothing : weight (n + n) spent ≡ 0 = omega arith in
     let power : 2 ^ (n + n) ≡ 2 ^ n * 2 ^ n = pow-add 2 n n in
     let same : 2 ^ n * weights n l ≡ 2 ^ n * 2 ^ n = ap (λ (z : ℕ). 2 ^ n * z) total in
     omega arith
 
-pub joined_live : (v w : Known) → zero < v.share.parts → zero < (joined v w).share.parts
+pub joined_live : (v w : Known) → zero < v.share.parts → zero < (joined_known v w).share.parts
 joined_live v w l = let p : zero < v.share.parts * 2 ^ w.share.halvings = mul-pos l (pow_pos w.share.halvings) in omega arith
 
 -- For callers that split and join in a loop: a split halves a share, a join adds two, and all parts are the whole
@@ -101,7 +101,7 @@ HasShare-halved v n d e = let p : ℕ = v.share.parts in let a : ℕ = 2 ^ v.sha
 crossed : (p q n m d a b : ℕ) → p * d ≡ n * a → q * d ≡ m * b → (p * b + q * a) * d ≡ (n + m) * (a * b)
 crossed p q n m d a b e f = let e' : p * d * b ≡ n * a * b = ap (λ (z : ℕ). z * b) e in let f' : q * d * a ≡ m * b * a = ap (λ (z : ℕ). z * a) f in omega arith
 
-pub HasShare-joined : (v w : Known) (n m d : ℕ) → HasShare v n d → HasShare w m d → HasShare (joined v w) (n + m) d
+pub HasShare-joined : (v w : Known) (n m d : ℕ) → HasShare v n d → HasShare w m d → HasShare (joined_known v w) (n + m) d
 HasShare-joined v w n m d e f = let h : ℕ = v.share.halvings in let k : ℕ = w.share.halvings in
     crossed v.share.parts w.share.parts n m d (2 ^ h) (2 ^ k) e f ∙ ap (λ (z : ℕ). (n + m) * z) (sym (pow-add 2 h k))
 

@@ -16,8 +16,8 @@ edition_in code = 65535 - code / 140737488355328
 abbrev pub told_cost : ℕ → Option ℕ
 told_cost cost = if min cost 140737488355327 == 140737488355327 then None else Some cost
 
-abbrev pub cost_in : ℕ → Option ℕ
-cost_in code = told_cost (code % 140737488355328)
+abbrev pub code_cost : ℕ → Option ℕ
+code_cost code = told_cost (code % 140737488355328)
 
 -- the first edition is newer, or it is the second one and the cost, as far as codes tell, no greater
 abbrev pub IsNoWorse : ℕ → ℕ → ℕ → ℕ → Type 0

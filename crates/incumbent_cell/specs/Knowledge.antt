@@ -16,8 +16,8 @@ abbrev pub with_put : Known → ℕ → Known
 with_put v code = record { put = v.put ++ code ∷ []; found = v.found; share = v.share }
 
 -- after this code was found
-abbrev pub with_found : Known → ℕ → Known
-with_found v code = record { put = v.put; found = v.found ++ code ∷ []; share = v.share }
+abbrev pub with_found_code : Known → ℕ → Known
+with_found_code v code = record { put = v.put; found = v.found ++ code ∷ []; share = v.share }
 
 -- a pass and the one that is split off know the same, and have half the share each
 abbrev pub halved : Known → Known
@@ -26,11 +26,11 @@ halved v = record { put = v.put; found = v.found; share = record { parts = v.sha
 abbrev pub share_sum : Share → Share → Share
 share_sum s t = record { parts = s.parts * 2 ^ t.halvings + t.parts * 2 ^ s.halvings; halvings = s.halvings + t.halvings }
 
--- after another pass was joined
-abbrev pub joined : Known → Known → Known
-joined v w = record { put = v.put ++ w.put; found = v.found ++ w.found; share = share_sum v.share w.share }
+-- after another pass was joined_known
+abbrev pub joined_known : Known → Known → Known
+joined_known v w = record { put = v.put ++ w.put; found = v.found ++ w.found; share = share_sum v.share w.share }
 
--- no other pass is left: all that were split off are joined again, here
+-- no other pass is left: all that were split off are joined_known again, here
 abbrev pub IsWhole : Known → Type 0
 IsWhole v = v.share.parts ≡ 2 ^ v.share.halvings
 
@@ -54,11 +54,11 @@ abbrev pub spent : Known
 spent = record { put = []; found = []; share = record { parts = 0; halvings = 0 } }
 
 -- some pass has put it
-abbrev pub IsPut : List Known → ℕ → Type 0
-IsPut views code = (seat : ℕ) × (v : Known) × (get_elem? views seat ≡ some v) × Contains v.put code
+abbrev pub IsPutBySome : List Known → ℕ → Type 0
+IsPutBySome views code = (seat : ℕ) × (v : Known) × (get_elem? views seat ≡ some v) × Contains v.put code
 
 abbrev pub IsTraced : List Known → ℕ → Type 0
-IsTraced views code = (code ≡ opening_code) ⊎ IsPut views code
+IsTraced views code = (code ≡ opening_code) ⊎ IsPutBySome views code
 
 abbrev pub weight : ℕ → Known → ℕ
 weight scale v = v.share.parts * 2 ^ (scale - v.share.halvings)
@@ -82,13 +82,13 @@ pub record Kept (s : Cells) : Type 0 where
   pub one_whole : weights scale s.views ≡ 2 ^ scale
   pub spent_knows_nothing : (seat : ℕ) (v : Known) → get_elem? s.views seat ≡ some v → v.share.parts ≡ 0 → (v.put ≡ []) × (v.found ≡ [])
 
-abbrev pub Sat : Type 0
-Sat = Me (Unit {0}) Known
+abbrev pub CellAtom : Type 0
+CellAtom = Me (Unit {0}) Known
 
 -- what a put tells: its code is among those put
-abbrev pub Puts : Step (Unit {0}) → Sat → ℕ → Sat → Type 0
+abbrev pub Puts : Step (Unit {0}) → CellAtom → ℕ → CellAtom → Type 0
 Puts st m r m' = (m'.0 ≡ with_put m.0 st.first) × (m'.1 ≡ m.1)
 
 -- what a load tells
-abbrev pub Finds : Step (Unit {0}) → Sat → ℕ → Sat → Type 0
-Finds st m r m' = (m'.0 ≡ with_found m.0 r) × (m'.1 ≡ m.1) × Stands m.0 r
+abbrev pub Finds : Step (Unit {0}) → CellAtom → ℕ → CellAtom → Type 0
+Finds st m r m' = (m'.0 ≡ with_found_code m.0 r) × (m'.1 ≡ m.1) × Stands m.0 r

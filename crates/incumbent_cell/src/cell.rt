@@ -45,9 +45,9 @@ impl Split<Known> for Halves {
 struct Both;
 
 impl Join<Known> for Both {
-    ghost use Rattle.incumbent_cell.specs.Knowledge.{joined, spent};
+    ghost use Rattle.incumbent_cell.specs.Knowledge.{joined_known, spent};
 
-    ghost both = { joined };
+    ghost both = { joined_known };
 
     ghost spent = { spent };
 }
@@ -65,8 +65,8 @@ const OPENING: u64 = (1 << 63) - 1;
 
 impl<A: Allocator> Least<A> {
     ghost use Rattle.std.specs.Prelude.{◌≡◌, ℕ, ◌≤◌, IfOk};
-    ghost use Rattle.incumbent_cell.specs.Code.{packed, edition_in, cost_in};
-    ghost use Rattle.incumbent_cell.specs.Knowledge.{knows_nothing, with_put, with_found, halved, joined, Stands};
+    ghost use Rattle.incumbent_cell.specs.Code.{packed, edition_in, code_cost};
+    ghost use Rattle.incumbent_cell.specs.Knowledge.{knows_nothing, with_put, with_found_code, halved, joined_known, Stands};
     ghost use Rattle.incumbent_cell.specs.Cell.{cell_of, own_cell, known};
 
     /// A cell with nothing put, and its first pass.
@@ -95,7 +95,7 @@ impl<A: Allocator> Least<A> {
         requires cell { own_cell pass.old ≡ cell_of self.now }
         requires other_cell { own_cell other ≡ cell_of self.now }
         ensures cell { own_cell pass.new ≡ own_cell pass.old }
-        ensures known { known pass.new ≡ joined (known pass.old) (known other) }
+        ensures known { known pass.new ≡ joined_known (known pass.old) (known other) }
     {
         let CellPass { seat } = other;
         self.table.shared.join_seat::<Both>(&mut pass.seat, seat);
@@ -117,8 +117,9 @@ impl<A: Allocator> Least<A> {
     pub fn least(&self, pass: &mut CellPass) -> (u32, Option<u64>)
         requires { own_cell pass.old ≡ cell_of self.now }
         ensures cell { own_cell pass.new ≡ own_cell pass.old }
-        ensures found { (code : ℕ) × (result ≡ (edition_in code, cost_in code))
-            × (known pass.new ≡ with_found (known pass.old) code) × Stands (known pass.old) code }
+        ensures found { (code : ℕ) × (result ≡ (edition_in code, code_cost code))
+            × (known pass.new ≡ with_found_code (known pass.old) code)
+            × Stands (known pass.old) code }
     {
         let found = self.table.shared.load::<Find>(&mut pass.seat, 0);
         answer_of(found)
@@ -128,7 +129,7 @@ impl<A: Allocator> Least<A> {
     /// that was put.
     pub fn close(self, pass: CellPass) -> (u32, Option<u64>)
         requires { own_cell pass ≡ cell_of self }
-        ensures { (code : ℕ) × (result ≡ (edition_in code, cost_in code))
+        ensures { (code : ℕ) × (result ≡ (edition_in code, code_cost code))
             × Stands (known pass) code }
     {
         let Least { table } = self;

@@ -1,7 +1,7 @@
 //! An edition and a cost in one number. A newer edition has the smaller code, and in one edition
 //! the smaller cost has.
 ghost use Rattle.std.specs.Prelude.{◌≡◌, ℕ, ◌^◌, ◌<◌, ◌≤◌, ◌↔◌};
-ghost use Rattle.incumbent_cell.specs.Code.{packed, edition_in, cost_in, told_cost, IsNoWorse};
+ghost use Rattle.incumbent_cell.specs.Code.{packed, edition_in, code_cost, told_cost, IsNoWorse};
 
 /// The greatest edition that a code has room for.
 pub const NEWEST: u32 = 65535;
@@ -26,7 +26,7 @@ pub fn code_of(edition: u32, cost: u64) -> u64
 /// The edition of a code and its cost, which is `None` where it is saturated.
 pub fn answer_of(code: u64) -> (u32, Option<u64>)
     requires { code < 2 ^ 63 }
-    ensures value { result ≡ (edition_in code, cost_in code) }
+    ensures value { result ≡ (edition_in code, code_cost code) }
     ensures undoes { (edition cost : ℕ) → edition ≤ 65535 → code ≡ packed edition cost → result
         ≡ (edition, told_cost cost) }
 {

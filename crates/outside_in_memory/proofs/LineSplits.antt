@@ -7,7 +7,7 @@ use Rattle.std.proofs.lemmas.Bool.Decides.{nat_tests}
 use Rattle.std.proofs.lemmas.List.Recursion.{is_position_or_len}
 use Rattle.std.proofs.lemmas.List.{drop-drop, length-drop}
 use Rattle.std.specs.Io.BufRead.{take_through}
-use Rattle.disp_outside.specs.Lines.{lines_of, put_before}
+use Rattle.disp_outside.specs.Lines.{feed_lines, put_before}
 
 -- the bytes up to the first LF
 pub to_first : (xs : List ℕ) (i : ℕ) → i < length xs → (get_or xs i 0 == 10) ≡ true → ((k : ℕ) → k < i → (get_or xs k 0 == 10) ≡ false) → take (suc i) xs ≡ take_through 10 xs
@@ -57,22 +57,22 @@ first_has_byte (x ∷ xs) some =
     elim (x == 10) as (λ b. 0 < length (if b then x ∷ [] else x ∷ take_through 10 xs)) [ true ↦ omega arith | false ↦ omega arith ]
 
 -- the first line, and those behind it
-pub split_first : (xs : List ℕ) → 0 < length xs → lines_of xs ≡ take_through 10 xs ∷ lines_of (drop (length (take_through 10 xs)) xs)
+pub split_first : (xs : List ℕ) → 0 < length xs → feed_lines xs ≡ take_through 10 xs ∷ feed_lines (drop (length (take_through 10 xs)) xs)
 split_first [] some = absurd (omega arith)
 split_first (x ∷ []) some =
-    elim (x == 10) as (λ b. (if b then (x ∷ []) ∷ lines_of [] else put_before x (lines_of [])) ≡ (if b then x ∷ [] else x ∷ take_through 10 []) ∷ lines_of (drop (length (if b then x ∷ [] else x ∷ take_through 10 [])) (x ∷ []))) [
+    elim (x == 10) as (λ b. (if b then (x ∷ []) ∷ feed_lines [] else put_before x (feed_lines [])) ≡ (if b then x ∷ [] else x ∷ take_through 10 []) ∷ feed_lines (drop (length (if b then x ∷ [] else x ∷ take_through 10 [])) (x ∷ []))) [
       | true ↦ refl
       | false ↦ refl
     ]
 split_first (x ∷ y ∷ ys) some =
-    elim (x == 10) as (λ b. (if b then (x ∷ []) ∷ lines_of (y ∷ ys) else put_before x (lines_of (y ∷ ys))) ≡ (if b then x ∷ [] else x ∷ take_through 10 (y ∷ ys)) ∷ lines_of (drop (length (if b then x ∷ [] else x ∷ take_through 10 (y ∷ ys))) (x ∷ y ∷ ys))) [
+    elim (x == 10) as (λ b. (if b then (x ∷ []) ∷ feed_lines (y ∷ ys) else put_before x (feed_lines (y ∷ ys))) ≡ (if b then x ∷ [] else x ∷ take_through 10 (y ∷ ys)) ∷ feed_lines (drop (length (if b then x ∷ [] else x ∷ take_through 10 (y ∷ ys))) (x ∷ y ∷ ys))) [
       | true ↦ refl
       | false ↦ ap (put_before x) (split_first (y ∷ ys) (omega arith))
     ]
 
 -- the same from a place on
-pub split_at : (xs : List ℕ) (at : ℕ) → 0 < length (drop at xs) → lines_of (drop at xs) ≡ take_through 10 (drop at xs) ∷ lines_of (drop (at + length (take_through 10 (drop at xs))) xs)
-split_at xs at some = split_first (drop at xs) some ∙ ap (λ rest. take_through 10 (drop at xs) ∷ lines_of rest) (drop-drop (length (take_through 10 (drop at xs))) at xs)
+pub split_at : (xs : List ℕ) (at : ℕ) → 0 < length (drop at xs) → feed_lines (drop at xs) ≡ take_through 10 (drop at xs) ∷ feed_lines (drop (at + length (take_through 10 (drop at xs))) xs)
+split_at xs at some = split_first (drop at xs) some ∙ ap (λ rest. take_through 10 (drop at xs) ∷ feed_lines rest) (drop-drop (length (take_through 10 (drop at xs))) at xs)
 
 -- and no further than the end
 pub within_at : (xs : List ℕ) (at : ℕ) → at ≤ length xs → at + length (take_through 10 (drop at xs)) ≤ length xs

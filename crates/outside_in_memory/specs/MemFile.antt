@@ -6,9 +6,9 @@ use Rattle.disp_outside.specs.declared.shelf.FetchNo.{FetchNo}
 use Rattle.disp_outside.specs.declared.shelf.FetchNo.TheVariants.{Memory}
 
 -- the reading was counted, but for one without room
-abbrev pub IsCounted : {T : Type 0} → Result T FetchNo → ℕ → ℕ → Type 0
-IsCounted (Err Memory) old new = new ≡ old
-IsCounted _ old new = new ≡ old + 1
+abbrev pub IsReadingCounted : {T : Type 0} → Result T FetchNo → ℕ → ℕ → Type 0
+IsReadingCounted (Err Memory) old new = new ≡ old
+IsReadingCounted _ old new = new ≡ old + 1
 
 -- the same of an opening
 abbrev pub IsOpeningCounted : {T : Type 0} → Result T FeedNo → ℕ → ℕ → Type 0

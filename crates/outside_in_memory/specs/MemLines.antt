@@ -1,8 +1,8 @@
 -- The lines of bytes in memory.
 use Rattle.std.specs.Prelude.{ℕ, List, drop}
-use Rattle.disp_outside.specs.Lines.{lines_of}
+use Rattle.disp_outside.specs.Lines.{feed_lines}
 use Rattle.outside_in_memory.specs.declared.mem_lines.MemLines.{MemLines}
 
 -- the lines that are left
 abbrev pub lines_left : MemLines → List (List ℕ)
-lines_left lines = lines_of (drop lines.at lines.bytes.items)
+lines_left lines = feed_lines (drop lines.at lines.bytes.items)

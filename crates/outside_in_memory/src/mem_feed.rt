@@ -1,6 +1,6 @@
 // Lines in memory, some of whose readings break.
 ghost use Rattle.std.specs.Prelude.{◌≡◌, ◌≤◌, ◌<◌, ◌+◌, ◌↔◌, ◌⊎◌, true, false, Some, IfOk, IfSome, IfNone, List, ℕ, Contains, string_bytes};
-ghost use Rattle.disp_outside.specs.Lines.{lines_of, Gives, Skips, NoneLeft};
+ghost use Rattle.disp_outside.specs.Lines.{feed_lines, GivesLine, Skips, NoneLeft};
 ghost use Rattle.disp_outside.specs.FeedLine.{is_last};
 
 use crate::mem_lines::MemLines;
@@ -25,7 +25,7 @@ impl MemFeed {
     /// A feed of this name and these bytes. Its calls of these numbers, counted from 1, fail.
     pub fn new(alloc: Global, name: &str, bytes: &[u8], broken: &[u64]) -> Result<Self, AllocError>
         ensures name { IfOk result (λ feed. feed_name feed ≡ name.now) }
-        ensures lines { IfOk result (λ feed. lines_left feed ≡ lines_of bytes.now) }
+        ensures lines { IfOk result (λ feed. lines_left feed ≡ feed_lines bytes.now) }
         ensures faults { IfOk result (λ feed. fault_count feed ≡ 0) }
         ensures open { IfOk result (λ feed. has_ended feed ≡ false) }
         ensures broken { IfOk result (λ feed. broken_calls feed ≡ broken.now) }
@@ -67,7 +67,7 @@ impl Feed for MemFeed {
 
     fn line(&mut self, into: &mut LineBuf) -> FeedLine
         ensures got { result ≡ FeedLine.Got
-            → Gives (Some (lines_left self.old)) (Some (lines_left self.new)) into.new }
+            → GivesLine (Some (lines_left self.old)) (Some (lines_left self.new)) into.new }
         ensures long { result ≡ FeedLine.Long
             → Skips (Some (lines_left self.old)) (Some (lines_left self.new)) }
         ensures end { result ≡ FeedLine.End → (has_ended self.old ≡ true)

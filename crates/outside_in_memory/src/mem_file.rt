@@ -1,8 +1,8 @@
 // A file in memory, some of whose readings break.
 ghost use Rattle.std.specs.Prelude.{◌≡◌, ◌≤◌, ◌<◌, ◌+◌, ◌⊎◌, false, length, IfOk, OnOk, IsErrOf, Contains};
-ghost use Rattle.disp_outside.specs.Lines.{lines_of};
+ghost use Rattle.disp_outside.specs.Lines.{feed_lines};
 ghost use Rattle.outside_in_memory.specs.MemFeed.{feed_name, lines_left, fault_count, has_ended, broken_calls, call_count};
-ghost use Rattle.outside_in_memory.specs.MemFile.{IsCounted, IsOpeningCounted};
+ghost use Rattle.outside_in_memory.specs.MemFile.{IsReadingCounted, IsOpeningCounted};
 
 use crate::MemFeed;
 use crate::copying::copy_within;
@@ -33,7 +33,7 @@ impl MemFile {
         ensures broken { Contains self.old.broken.items (self.old.calls + 1)
             → IsErrOf result FetchNo.Failed ⊎ IsErrOf result FetchNo.Memory }
 
-        ensures counted { IsCounted result self.old.calls self.new.calls }
+        ensures counted { IsReadingCounted result self.old.calls self.new.calls }
         ensures held { self.new.bytes ≡ self.old.bytes }
         ensures list { self.new.broken ≡ self.old.broken }
         ensures lines { self.new.broken_lines ≡ self.old.broken_lines }
@@ -61,7 +61,7 @@ impl MemFile {
     /// A feed of this name. It is a reading.
     pub fn open(&mut self, alloc: Global, name: &str) -> Result<MemFeed, FeedNo>
         ensures name { IfOk result (λ feed. feed_name feed ≡ name.now) }
-        ensures left { IfOk result (λ feed. lines_left feed ≡ lines_of self.old.bytes.items) }
+        ensures left { IfOk result (λ feed. lines_left feed ≡ feed_lines self.old.bytes.items) }
         ensures faults { IfOk result (λ feed. fault_count feed ≡ 0) }
         ensures going { IfOk result (λ feed. has_ended feed ≡ false) }
         ensures calls { IfOk result (λ feed. broken_calls feed ≡ self.old.broken_lines.items) }

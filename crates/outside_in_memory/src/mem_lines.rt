@@ -1,7 +1,7 @@
 // The lines of bytes in memory.
 ghost use Rattle.std.specs.Prelude.{◌≡◌, ◌≢◌, ◌≤◌, ◌<◌, ◌+◌, ◌⊎◌, [], ◌∷◌, Some, IfSome, IfNone, length, drop, vec_len};
 ghost use Rattle.std.specs.Io.BufRead.{take_through};
-ghost use Rattle.disp_outside.specs.Lines.{lines_of, text_of, without_end, Gives, Skips};
+ghost use Rattle.disp_outside.specs.Lines.{feed_lines, text_of, without_end, GivesLine, Skips};
 
 use disp_outside::{FeedLine, LineBuf, MOST_LINE_BYTES, line_feed_at};
 
@@ -18,10 +18,10 @@ fn first_line(bytes: &[u8]) -> &[u8]
 // The first line of the bytes from there on, with its LF, if there is one.
 fn line_from(bytes: &[u8], at: usize) -> Option<&[u8]>
     requires { at ≤ length bytes.now }
-    ensures none { IfNone result (lines_of (drop at bytes.now) ≡ []) }
+    ensures none { IfNone result (feed_lines (drop at bytes.now) ≡ []) }
     ensures line { IfSome result
-        (λ line. lines_of (drop at bytes.now)
-        ≡ line.now ∷ lines_of (drop (at + length line.now) bytes.now)) }
+        (λ line. feed_lines (drop at bytes.now)
+        ≡ line.now ∷ feed_lines (drop (at + length line.now) bytes.now)) }
     ensures within { IfSome result (λ line. at + length line.now ≤ length bytes.now) }
     ensures some { IfSome result (λ line. 0 < length line.now) }
 {
@@ -65,7 +65,7 @@ impl MemLines {
     ghost use Rattle.outside_in_memory.specs.MemLines.{lines_left};
 
     pub fn new(bytes: Vec<u8>) -> Self
-        ensures { lines_left result ≡ lines_of bytes.items }
+        ensures { lines_left result ≡ feed_lines bytes.items }
     {
         MemLines { bytes, at: 0 }
     }
@@ -73,7 +73,7 @@ impl MemLines {
     /// The next line. It never fails.
     pub fn next(&mut self, into: &mut LineBuf) -> FeedLine
         ensures got { result ≡ FeedLine.Got
-            → Gives (Some (lines_left self.old)) (Some (lines_left self.new)) into.new }
+            → GivesLine (Some (lines_left self.old)) (Some (lines_left self.new)) into.new }
         ensures long { result ≡ FeedLine.Long
             → Skips (Some (lines_left self.old)) (Some (lines_left self.new)) }
         ensures end { result ≡ FeedLine.End → (lines_left self.old ≡ [])

@@ -2,7 +2,7 @@
 ghost use Rattle.std.specs.Prelude.{◌≡◌, ◌≢◌, ◌≤◌, ◌<◌, ◌↔◌, ◌⊎◌, ◌+◌, ◌-◌, ◌^◌, min, false, Some, None, [], List, ℕ, length, IsOk, OnOk, OnErr, IfOk, IfSome, OnSome, IsSomeAnd, IsErrOf};
 ghost use Rattle.std.specs.Option.{option_map};
 ghost use Rattle.disp_outside.specs.Lines.{HasLinesOf};
-ghost use Rattle.outside_in_memory.specs.MemFile.{IsCounted, IsOpeningCounted};
+ghost use Rattle.outside_in_memory.specs.MemFile.{IsReadingCounted, IsOpeningCounted};
 
 use crate::MemFeed;
 use crate::mem_file::MemFile;
@@ -189,7 +189,8 @@ impl Shelf for MemShelf {
         ensures broken { NextBreaks self.old name.now → IsErrOf result FetchNo.Failed
             ⊎ IsErrOf result FetchNo.Memory }
         ensures calls { OnSome (held_file self.old name.now)
-            (IsCounted result (call_count self.old name.now) (call_count self.new name.now)) }
+            (IsReadingCounted result (call_count self.old name.now)
+            (call_count self.new name.now)) }
         ensures once { IsErrOf result FetchNo.Failed → reading_faults self.new name.now
             ≡ reading_faults self.old name.now + 1 }
         ensures list { broken_calls self.new name.now ≡ broken_calls self.old name.now }

@@ -1,6 +1,6 @@
 // Lines in memory that never fail.
 ghost use Rattle.std.specs.Prelude.{◌≡◌, false, Some, IfOk, List, ℕ};
-ghost use Rattle.disp_outside.specs.Lines.{lines_of};
+ghost use Rattle.disp_outside.specs.Lines.{feed_lines};
 
 use crate::mem_lines::MemLines;
 use disp_outside::{Feed, FeedLine, LineBuf};
@@ -20,7 +20,7 @@ impl SteadyFeed {
     /// A feed of this name and these bytes.
     pub fn new(alloc: Global, name: &str, bytes: &[u8]) -> Result<Self, AllocError>
         ensures name { IfOk result (λ feed. feed_name feed ≡ name.now) }
-        ensures lines { IfOk result (λ feed. lines_left feed ≡ lines_of bytes.now) }
+        ensures lines { IfOk result (λ feed. lines_left feed ≡ feed_lines bytes.now) }
         ensures open { IfOk result (λ feed. has_ended feed ≡ false) }
     {
         Ok(SteadyFeed {

@@ -58,7 +58,8 @@ fn joined(ask: Ask, more: Ask) -> Ask
     }
 }
 
-/// Whether the operation is on the train's route, and what follows it, where the fixing is of the train.
+/// Whether the operation is on the train's route, and what follows it, where the fixing is of the
+/// train.
 fn demand_of_fixing(train: u32, fixing: &Fixing) -> Demand
     ensures { result ≡ demand_of_fixing train fixing.now }
 {
@@ -128,8 +129,8 @@ fn demand_of_decision(train: u32, decision: &Decision) -> Demand
     }
 }
 
-/// Adds a demand. No route has an operation that is not there; then the first operation is asked what no
-/// route can do.
+/// Adds a demand. No route has an operation that is not there; then the first operation is asked
+/// what no route can do.
 fn add(asks: &mut Vec<Ask>, demand: Demand)
     requires { 0 < length asks.old.items }
     ensures { Takes (λ route. Meets route demand.op demand.ask) asks.old.items asks.new.items }
@@ -145,7 +146,8 @@ fn add(asks: &mut Vec<Ask>, demand: Demand)
 /// Adds what the fixings of the train ask.
 fn add_fixings(asks: &mut Vec<Ask>, train: u32, fixings: &[Fixing])
     requires { 0 < length asks.old.items }
-    ensures { Takes (λ route. All (AgreesWithFixing train route) fixings.now) asks.old.items asks.new.items }
+    ensures { Takes (λ route. All (AgreesWithFixing train route) fixings.now) asks.old.items
+        asks.new.items }
 {
     for fixing in fixings {
         add(asks, demand_of_fixing(train, fixing));
@@ -155,7 +157,8 @@ fn add_fixings(asks: &mut Vec<Ask>, train: u32, fixings: &[Fixing])
 /// Adds what the decisions of the train ask.
 fn add_decisions(asks: &mut Vec<Ask>, train: u32, decisions: &[Decision])
     requires { 0 < length asks.old.items }
-    ensures { Takes (λ route. All (AgreesWithDecision train route) decisions.now) asks.old.items asks.new.items }
+    ensures { Takes (λ route. All (AgreesWithDecision train route) decisions.now) asks.old.items
+        asks.new.items }
 {
     for decision in decisions {
         add(asks, demand_of_decision(train, decision));

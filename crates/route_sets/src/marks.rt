@@ -135,7 +135,8 @@ fn visit(
 fn entered(alloc: Global, train: &[Operation], order: &[u32]) -> Result<Pass, Memory>
     requires some { 0 < length order.now }
     requires within { All (λ o. o < length train.now) order.now }
-    ensures { IfOk result (λ pass. Enters train.now order.now pass.sums.items pass.reach pass.marks.items) }
+    ensures { IfOk result
+        (λ pass. Enters train.now order.now pass.sums.items pass.reach pass.marks.items) }
 {
     let reach = order.len() - 1;
     let mut sums = vec![in alloc; None; train.len()]?;
@@ -144,7 +145,8 @@ fn entered(alloc: Global, train: &[Operation], order: &[u32]) -> Result<Pass, Me
     Ok(Pass { sums, reach, marks })
 }
 
-/// The marks of the operations that each route has, by rows of an order of the train from the exit back.
+/// The marks of the operations that each route has, by rows of an order of the train from the exit
+/// back.
 pub(crate) fn marks_of(
     alloc: Global,
     train: &[Operation],

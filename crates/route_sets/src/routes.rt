@@ -23,8 +23,8 @@ pub struct Routes {
 impl Routes {
     ghost use Rattle.route_sets.specs.Sets.{op_of, AreRoutesOf};
 
-    /// The routes of a train that the fixings and the decisions allow. Takes time linear in the operations of
-    /// the train, their successors, the fixings and the decisions.
+    /// The routes of a train that the fixings and the decisions allow. Takes time linear in the
+    /// operations of the train, their successors, the fixings and the decisions.
     pub fn of(
         alloc: Global,
         problem: &Problem,
@@ -84,7 +84,8 @@ impl Routes {
         self.mark(op)?.next
     }
 
-    /// The least sum of durations from a forced operation up to one behind it, over the allowed routes.
+    /// The least sum of durations from a forced operation up to one behind it, over the allowed
+    /// routes.
     pub fn least_between(&self, a: u32, b: u32) -> Option<u64>
         ensures { (node : Node) (t : ℕ) → AreRoutesOf node t self.now → (sum : ℕ)
             → (result ≡ Some sum)

@@ -10,7 +10,8 @@ use std::alloc::Global;
 /// What is kept of the operations of a train, in an order from the exit back.
 #[derive(Drop)]
 pub(crate) struct Swept {
-    /// Of each operation, those of its successors that it goes on to on routes that do all that is asked.
+    /// Of each operation, those of its successors that it goes on to on routes that do all that is
+    /// asked.
     pub rows: List<List<u32>>,
     /// Whether some route does all that is asked.
     pub holds: bool,
@@ -33,7 +34,8 @@ fn may_go(ask: Ask, next: u32) -> bool
     !ask.skipped && goes_to(ask.next, next)
 }
 
-/// Whether a way of wanted operations may end at the operation, where none is wanted of those so far.
+/// Whether a way of wanted operations may end at the operation, where none is wanted of those so
+/// far.
 fn can_end(operation: &Operation, ask: Ask, count: usize) -> bool
     ensures { IsTrue result ↔ CanEnd operation.now ask count }
 {
@@ -100,8 +102,8 @@ fn has_way(operation: &Operation, ask: Ask, row: &List<u32>, count: usize) -> bo
     can_end(operation, ask, count) || row.len() > 0
 }
 
-/// The rows of all operations, by an order of them from the exit back. Of each operation it keeps how many
-/// wanted ones it has on a way, where it has a way with all of those so far.
+/// The rows of all operations, by an order of them from the exit back. Of each operation it keeps
+/// how many wanted ones it has on a way, where it has a way with all of those so far.
 pub(crate) fn sweep(
     alloc: Global,
     train: &[Operation],

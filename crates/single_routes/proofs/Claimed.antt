@@ -15,7 +15,7 @@ use Rattle.disp_model.specs.Valid.{train_at}
 use Rattle.disp_model.specs.Arcs.{listings_of, shared_listings}
 use Rattle.single_routes.specs.declared.choices.Claim.{Claim}
 use Rattle.single_routes.specs.Choices.{HasFork, HasMeeting, HasChoices}
-use Rattle.single_routes.specs.Stops.{IsStraight, listing_claims, train_claims, claims_from, HasClash}
+use Rattle.single_routes.specs.Stops.{IsStraight, resources_listed, train_listed, listed_from, HasClash}
 
 -- ---- forks
 
@@ -100,12 +100,12 @@ claim t r = record { train = t; resource = r }
 abbrev ListsIn : List Listing → ℕ → Type 0
 ListsIn listings r = (l : Listing) × In l listings × (l.resource ≡ r)
 
-listing_claimed : (t r : ℕ) (listings : List Listing) → ListsIn listings r → In (claim t r) (listing_claims t listings)
+listing_claimed : (t r : ℕ) (listings : List Listing) → ListsIn listings r → In (claim t r) (resources_listed t listings)
 listing_claimed t r [] (l, h, e) = absurd h
 listing_claimed t r (k ∷ listings) (l, inl same, e) = inl (ap (λ (n : ℕ). claim t n) (ap (λ (x : Listing). x.resource) same ∙ e))
 listing_claimed t r (k ∷ listings) (l, inr h, e) = inr (listing_claimed t r listings (l, h, e))
 
-claimed_listing : (t : ℕ) (c : Claim) (listings : List Listing) → In c (listing_claims t listings) → (c.train ≡ t) × ListsIn listings c.resource
+claimed_listing : (t : ℕ) (c : Claim) (listings : List Listing) → In c (resources_listed t listings) → (c.train ≡ t) × ListsIn listings c.resource
 claimed_listing t c [] h = absurd h
 claimed_listing t c (k ∷ listings) (inl e) = (sym (ap (λ (x : Claim). x.train) e), (k, inl refl, ap (λ (x : Claim). x.resource) e))
 claimed_listing t c (k ∷ listings) (inr h) = let later = claimed_listing t c listings h in (later.0, (later.1.0, inr later.1.1, later.1.2))
@@ -113,34 +113,34 @@ claimed_listing t c (k ∷ listings) (inr h) = let later = claimed_listing t c l
 abbrev listings_in : List Operation → ℕ → List Listing
 listings_in train p = option_map_or (λ p. p.listings) (slice_get train p) []
 
-train_claimed : (t r p : ℕ) (train : List Operation) → ListsIn (listings_in train p) r → In (claim t r) (train_claims t train)
+train_claimed : (t r p : ℕ) (train : List Operation) → ListsIn (listings_in train p) r → In (claim t r) (train_listed t train)
 train_claimed t r p [] h = absurd h.1
 train_claimed t r zero (o ∷ train) h =
-    rw (flat_map-cons (λ (q : Operation). listing_claims t q.listings) o train) (in_left (claim t r) (listing_claims t o.listings) (train_claims t train) (listing_claimed t r o.listings h))
+    rw (flat_map-cons (λ (q : Operation). resources_listed t q.listings) o train) (in_left (claim t r) (resources_listed t o.listings) (train_listed t train) (listing_claimed t r o.listings h))
 train_claimed t r (suc p) (o ∷ train) h =
-    rw (flat_map-cons (λ (q : Operation). listing_claims t q.listings) o train) (in_right (claim t r) (listing_claims t o.listings) (train_claims t train) (train_claimed t r p train h))
+    rw (flat_map-cons (λ (q : Operation). resources_listed t q.listings) o train) (in_right (claim t r) (resources_listed t o.listings) (train_listed t train) (train_claimed t r p train h))
 
-claimed_train : (t : ℕ) (c : Claim) (train : List Operation) → In c (train_claims t train) → (c.train ≡ t) × ((p : ℕ) × ListsIn (listings_in train p) c.resource)
+claimed_train : (t : ℕ) (c : Claim) (train : List Operation) → In c (train_listed t train) → (c.train ≡ t) × ((p : ℕ) × ListsIn (listings_in train p) c.resource)
 claimed_train t c [] h = absurd h
 claimed_train t c (o ∷ train) h =
-    elim (in_either c (listing_claims t o.listings) (train_claims t train) (subst (In c) (flat_map-cons (λ (q : Operation). listing_claims t q.listings) o train) h)) [
+    elim (in_either c (resources_listed t o.listings) (train_listed t train) (subst (In c) (flat_map-cons (λ (q : Operation). resources_listed t q.listings) o train) h)) [
       | inl here ↦ let found = claimed_listing t c o.listings here in (found.0, (0, found.1))
       | inr later ↦ let found = claimed_train t c train later in (found.0, (suc found.1.0, found.1.1))
     ]
 
-all_claimed : (u j r p : ℕ) (trains : List (List Operation)) → ListsIn (listings_in (get_or trains j []) p) r → In (claim (u + j) r) (claims_from u trains)
+all_claimed : (u j r p : ℕ) (trains : List (List Operation)) → ListsIn (listings_in (get_or trains j []) p) r → In (claim (u + j) r) (listed_from u trains)
 all_claimed u j r p [] h = absurd h.1
 all_claimed u zero r p (train ∷ trains) h =
     let same : u + 0 ≡ u = omega arith in
-    rw same (in_left (claim u r) (train_claims u train) (claims_from (u + 1) trains) (train_claimed u r p train h))
+    rw same (in_left (claim u r) (train_listed u train) (listed_from (u + 1) trains) (train_claimed u r p train h))
 all_claimed u (suc j) r p (train ∷ trains) h =
     let same : u + suc j ≡ (u + 1) + j = omega arith in
-    rw same (in_right (claim ((u + 1) + j) r) (train_claims u train) (claims_from (u + 1) trains) (all_claimed (u + 1) j r p trains h))
+    rw same (in_right (claim ((u + 1) + j) r) (train_listed u train) (listed_from (u + 1) trains) (all_claimed (u + 1) j r p trains h))
 
-claimed_all : (u : ℕ) (c : Claim) (trains : List (List Operation)) → In c (claims_from u trains) → (j : ℕ) × (c.train ≡ u + j) × ((p : ℕ) × ListsIn (listings_in (get_or trains j []) p) c.resource)
+claimed_all : (u : ℕ) (c : Claim) (trains : List (List Operation)) → In c (listed_from u trains) → (j : ℕ) × (c.train ≡ u + j) × ((p : ℕ) × ListsIn (listings_in (get_or trains j []) p) c.resource)
 claimed_all u c [] h = absurd h
 claimed_all u c (train ∷ trains) h =
-    elim (in_either c (train_claims u train) (claims_from (u + 1) trains) h) [
+    elim (in_either c (train_listed u train) (listed_from (u + 1) trains) h) [
       | inl here ↦ let found = claimed_train u c train here in (0, omega (arith, found.0), found.1)
       | inr later ↦ let found = claimed_all (u + 1) c trains later in (suc found.0, omega (arith, found.1), found.2)
     ]
@@ -181,10 +181,10 @@ shared_found (x ∷ a) b some =
 
 -- ---- two trains claim one resource exactly where two of their operations list it
 
-pub meeting_of_clash : (problem : Problem) → HasClash (claims_from 0 problem.trains) → HasMeeting problem
+pub meeting_of_clash : (problem : Problem) → HasClash (listed_from 0 problem.trains) → HasMeeting problem
 meeting_of_clash problem clash =
-    let one = claimed_all 0 clash.one problem.trains (in_of clash.one (claims_from 0 problem.trains) clash.one_there) in
-    let other = claimed_all 0 clash.other problem.trains (in_of clash.other (claims_from 0 problem.trains) clash.other_there) in
+    let one = claimed_all 0 clash.one problem.trains (in_of clash.one (listed_from 0 problem.trains) clash.one_there) in
+    let other = claimed_all 0 clash.other problem.trains (in_of clash.other (listed_from 0 problem.trains) clash.other_there) in
     let a : Op = record { train = one.0; op = one.2.0 } in
     let b : Op = record { train = other.0; op = other.2.0 } in (
       a,
@@ -195,28 +195,28 @@ meeting_of_clash problem clash =
       },
     )
 
-pub clash_of_meeting : (problem : Problem) → HasMeeting problem → HasClash (claims_from 0 problem.trains)
+pub clash_of_meeting : (problem : Problem) → HasMeeting problem → HasClash (listed_from 0 problem.trains)
 clash_of_meeting problem (a, b, conflicts) =
     let found = shared_found (listings_of problem a) (listings_of problem b) conflicts.shared in
     let r = found.0.resource in
     let same : (t : ℕ) → 0 + t ≡ t = λ t. omega arith in
-    let one : In (claim a.train r) (claims_from 0 problem.trains) = subst (λ (t : ℕ). In (claim t r) (claims_from 0 problem.trains)) (same a.train) (all_claimed 0 a.train r a.op problem.trains (found.0, found.1, refl)) in
-    let other : In (claim b.train r) (claims_from 0 problem.trains) = subst (λ (t : ℕ). In (claim t r) (claims_from 0 problem.trains)) (same b.train) (all_claimed 0 b.train r b.op problem.trains found.2) in
+    let one : In (claim a.train r) (listed_from 0 problem.trains) = subst (λ (t : ℕ). In (claim t r) (listed_from 0 problem.trains)) (same a.train) (all_claimed 0 a.train r a.op problem.trains (found.0, found.1, refl)) in
+    let other : In (claim b.train r) (listed_from 0 problem.trains) = subst (λ (t : ℕ). In (claim t r) (listed_from 0 problem.trains)) (same b.train) (all_claimed 0 b.train r b.op problem.trains found.2) in
     record {
       one = claim a.train r;
       other = claim b.train r;
-      one_there = of_in (claim a.train r) (claims_from 0 problem.trains) one;
-      other_there = of_in (claim b.train r) (claims_from 0 problem.trains) other;
+      one_there = of_in (claim a.train r) (listed_from 0 problem.trains) one;
+      other_there = of_in (claim b.train r) (listed_from 0 problem.trains) other;
       resource = refl;
       trains = conflicts.trains;
     }
 
 -- ---- claims are of resources that have names
 
-pub claims_within : (n u : ℕ) (trains : List (List Operation)) → All (λ train. All (λ o. All (λ l. l.resource < n) o.listings) train) trains → All (λ c. c.resource < n) (claims_from u trains)
-claims_within n u trains within = λ k d lt. one (get_or (claims_from u trains) k d) (in_of (get_or (claims_from u trains) k d) (claims_from u trains) (Contains-get_or (claims_from u trains) k d lt))
+pub claims_within : (n u : ℕ) (trains : List (List Operation)) → All (λ train. All (λ o. All (λ l. l.resource < n) o.listings) train) trains → All (λ c. c.resource < n) (listed_from u trains)
+claims_within n u trains within = λ k d lt. one (get_or (listed_from u trains) k d) (in_of (get_or (listed_from u trains) k d) (listed_from u trains) (Contains-get_or (listed_from u trains) k d lt))
   where
-    one : (c : Claim) → In c (claims_from u trains) → c.resource < n
+    one : (c : Claim) → In c (listed_from u trains) → c.resource < n
     one c there =
         let found = claimed_all u c trains there in
         let listing = found.2.1 in

@@ -10,7 +10,7 @@ use Rattle.disp_model.specs.declared.train.Component.{Component}
 use Rattle.disp_model.specs.declared.tree.ComponentWalk.{ComponentWalk}
 use Rattle.single_routes.specs.declared.stop.Stop.{Stop}
 use Rattle.single_routes.specs.declared.run.Run.{Run}
-use Rattle.single_routes.specs.Stops.{stops_along, HasPlace, HasStop, IsWalkTo, IsComponentWalk, AreWalksFrom}
+use Rattle.single_routes.specs.Stops.{stops_along, HasPlace, HasStop, IsStopWalk, IsComponentWalk, AreWalksFrom}
 use Rattle.single_routes.proofs.Listed.{each_more}
 
 -- a place is kept, or is the one that is set
@@ -64,7 +64,7 @@ stops_more train route all stops stops' ready from place operation start begin w
     ∙ sym (ap (λ (l : List Stop). stops ++ l) whole) ∙ is)
 
 -- the walk that is made is the component's
-pub made_walk : (runs : List Run) (c : Component) (run : Run) (stops : List Stop) (place : ℕ) (walk : List Op) → HasStop runs c → run ≡ get_or runs c.train run → stops ≡ run.stops.items → place ≡ get_or run.places.items c.operation place → IsWalkTo c.train stops place walk
+pub made_walk : (runs : List Run) (c : Component) (run : Run) (stops : List Stop) (place : ℕ) (walk : List Op) → HasStop runs c → run ≡ get_or runs c.train run → stops ≡ run.stops.items → place ≡ get_or run.places.items c.operation place → IsStopWalk c.train stops place walk
     → IsComponentWalk runs c walk
 made_walk runs c run stops place walk has is s p to =
     let same : run ≡ has.run = is ∙ get_or_from_slice_get runs c.train has.run run has.run_is in
@@ -72,7 +72,7 @@ made_walk runs c run stops place walk has is s p to =
     record {
       run = has.run;
       run_is = has.run_is;
-      to = subst (λ (l : List Stop). IsWalkTo c.train l (get_or has.run.places.items c.operation 0) walk) (s ∙ ap (λ (r : Run). r.stops.items) same) (subst (λ (n : ℕ). IsWalkTo c.train stops n walk) at to);
+      to = subst (λ (l : List Stop). IsStopWalk c.train l (get_or has.run.places.items c.operation 0) walk) (s ∙ ap (λ (r : Run). r.stops.items) same) (subst (λ (n : ℕ). IsStopWalk c.train stops n walk) at to);
     }
 
 -- one more walk

@@ -16,7 +16,7 @@ use Rattle.disp_laws.proofs.RouteSearch.{each_within}
 use Rattle.single_routes.specs.declared.stop.Stop.{Stop}
 use Rattle.single_routes.specs.declared.run.Run.{Run}
 use Rattle.single_routes.specs.Earliest.{lower_in}
-use Rattle.single_routes.specs.Stops.{IsStraight, stops_along, ops_of, walk_between, HasPlace, IsRun, AreRuns, HasStop, IsLate, IsLateIn, IsInTime, IsWalkTo}
+use Rattle.single_routes.specs.Stops.{IsStraight, stops_along, ops_of, walk_between, HasPlace, IsRun, AreRuns, HasStop, IsLate, IsLateIn, IsInTime, IsStopWalk}
 use Rattle.single_routes.proofs.Ways.{IsInside, all_on_route}
 
 -- ---- the stops along a route
@@ -117,7 +117,7 @@ run_from train run is k s found = let le = along_from train 0 0 0 (ops_of run.st
 
 -- a walk to a late stop
 pub late_made : (trains : List (List Operation)) (runs : List Run) (t : ℕ) (d : Run) (place : ℕ) (walk : List Op) (train : List Operation) (stops : List Stop) → t < length trains → t < length runs → train ≡ get_or trains t [] → stops ≡ (get_or runs t d).stops.items
-    → ((s : Stop) × (slice_get stops place ≡ Some s) × IsLate train s) → IsWalkTo t stops place walk → IsLateIn trains runs walk
+    → ((s : Stop) × (slice_get stops place ≡ Some s) × IsLate train s) → IsStopWalk t stops place walk → IsLateIn trains runs walk
 late_made trains runs t d place walk train stops within there own is late to = record {
   train = t;
   within = within;

@@ -10,7 +10,7 @@ use Rattle.disp_model.specs.declared.train.Operation.{Operation}
 use Rattle.disp_model.specs.Train.{next_of, IsSuccessor, IsEntry, IsExit, GoesOn, IsRoute}
 use Rattle.disp_model.specs.WellFormed.{LeadsTo, IsAcyclic}
 use Rattle.disp_laws.proofs.Paths.{IsIn, is_in, contains_in, in_or_not}
-use Rattle.single_routes.specs.Stops.{IsStraight, Goes}
+use Rattle.single_routes.specs.Stops.{IsStraight, GoesAlong}
 
 -- the operations go on to operations of the train
 abbrev pub IsInside : List Operation → Type 0
@@ -18,11 +18,11 @@ IsInside train = All (λ o. All (λ s. s < length train) o.next) train
 
 -- ---- one step more
 
-pub goes_more : (train : List Operation) (o : ℕ) (more : List ℕ) (last s : ℕ) → Goes train o more last → IsSuccessor train last s → Goes train o (more ++ s ∷ []) s
+pub goes_more : (train : List Operation) (o : ℕ) (more : List ℕ) (last s : ℕ) → GoesAlong train o more last → IsSuccessor train last s → GoesAlong train o (more ++ s ∷ []) s
 goes_more train o [] last s goes next = (subst (λ (x : ℕ). IsSuccessor train x s) (sym goes) next, refl)
 goes_more train o (p ∷ more) last s goes next = (goes.0, goes_more train p more last s goes.1 next)
 
-pub goes_on : (train : List Operation) (o : ℕ) (more : List ℕ) (last : ℕ) → Goes train o more last → IsExit train last → GoesOn train o more
+pub goes_on : (train : List Operation) (o : ℕ) (more : List ℕ) (last : ℕ) → GoesAlong train o more last → IsExit train last → GoesOn train o more
 goes_on train o [] last goes exit = subst (IsExit train) (sym goes) exit
 goes_on train o (p ∷ more) last goes exit = (goes.0, goes_on train p more last goes.1 exit)
 
@@ -38,18 +38,18 @@ successor_at train p s (Some o) at inside next =
 pub successor_within : (train : List Operation) (p s : ℕ) → IsInside train → IsSuccessor train p s → (p < length train) × (s < length train)
 successor_within train p s inside next = successor_at train p s (slice_get train p) refl inside next
 
-pub each_within : (train : List Operation) (o : ℕ) (more : List ℕ) (last : ℕ) → IsInside train → o < length train → Goes train o more last → (q : ℕ) → IsIn q (o ∷ more) → q < length train
+pub each_within : (train : List Operation) (o : ℕ) (more : List ℕ) (last : ℕ) → IsInside train → o < length train → GoesAlong train o more last → (q : ℕ) → IsIn q (o ∷ more) → q < length train
 each_within train o more last inside lt goes q (inl e) = omega (arith, lt, e)
 each_within train o [] last inside lt goes q (inr h) = absurd h
 each_within train o (s ∷ more) last inside lt goes q (inr h) = each_within train s more last inside (successor_within train o s inside goes.0).1 goes.1 q h
 
-pub last_within : (train : List Operation) (o : ℕ) (more : List ℕ) (last : ℕ) → IsInside train → o < length train → Goes train o more last → last < length train
+pub last_within : (train : List Operation) (o : ℕ) (more : List ℕ) (last : ℕ) → IsInside train → o < length train → GoesAlong train o more last → last < length train
 last_within train o [] last inside lt goes = omega (arith, lt, goes)
 last_within train o (s ∷ more) last inside lt goes = last_within train s more last inside (successor_within train o s inside goes.0).1 goes.1
 
 -- ---- no way is longer than its train
 
-leads_along : (train : List Operation) (o : ℕ) (more : List ℕ) (last q : ℕ) → Goes train o more last → IsIn q more → (n : ℕ) × LeadsTo train n o q
+leads_along : (train : List Operation) (o : ℕ) (more : List ℕ) (last q : ℕ) → GoesAlong train o more last → IsIn q more → (n : ℕ) × LeadsTo train n o q
 leads_along train o [] last q goes h = absurd h
 leads_along train o (s ∷ more) last q goes (inl e) = (0, subst (λ (x : ℕ). IsSuccessor train o x) e goes.0)
 leads_along train o (s ∷ more) last q goes (inr h) = let later = leads_along train s more last q goes.1 h in (suc later.0, (s, goes.0, later.1))
@@ -58,7 +58,7 @@ not_among : (o : ℕ) (rest : List ℕ) → (IsIn o rest → ⊥) → AllByRecur
 not_among o [] n = tt
 not_among o (s ∷ rest) n = (elim (cases_Bool (nat_eq o s)) [ inl is ↦ absurd (n (inl (sym (eqb-true o s is)))) | inr is ↦ is ], not_among o rest (λ h. n (inr h)))
 
-distinct : (train : List Operation) (o : ℕ) (more : List ℕ) (last : ℕ) → IsAcyclic train → Goes train o more last → IsDistinct nat_eq (o ∷ more)
+distinct : (train : List Operation) (o : ℕ) (more : List ℕ) (last : ℕ) → IsAcyclic train → GoesAlong train o more last → IsDistinct nat_eq (o ∷ more)
 unfolding IsDistinct
 distinct train o [] last acyclic goes = (tt, tt)
 distinct train o (s ∷ more) last acyclic goes =
@@ -71,7 +71,7 @@ any_is_in q (x ∷ xs) h = elim (cases_Bool (nat_eq q x)) [ inl is ↦ inl (sym 
     later : nat_eq q x ≡ false → list_any (nat_eq q) xs ≡ true
     later is = rw is at h
 
-pub way_fits : (train : List Operation) (o : ℕ) (more : List ℕ) (last : ℕ) → IsAcyclic train → IsInside train → o < length train → Goes train o more last → length (o ∷ more) ≤ length train
+pub way_fits : (train : List Operation) (o : ℕ) (more : List ℕ) (last : ℕ) → IsAcyclic train → IsInside train → o < length train → GoesAlong train o more last → length (o ∷ more) ≤ length train
 way_fits train o more last acyclic inside lt goes =
     length-le_from_distinct_below (o ∷ more) (length train) (distinct train o more last acyclic goes) (λ q h. each_within train o more last inside lt goes q (any_is_in q (o ∷ more) h))
 
@@ -82,7 +82,7 @@ abbrev pub ComesFrom : List Operation → (ℕ → Type 0) → ℕ → Type 0
 ComesFrom train P o = (p : ℕ) × IsSuccessor train p o × P p
 
 back : (train : List Operation) (P : ℕ → Type 0) → IsAcyclic train → IsInside train → ((o : ℕ) → o < length train → P o → ComesFrom train P o)
-    → (fuel o : ℕ) (more : List ℕ) (last : ℕ) → o < length train → P o → Goes train o more last → length train < fuel + length (o ∷ more) → ⊥
+    → (fuel o : ℕ) (more : List ℕ) (last : ℕ) → o < length train → P o → GoesAlong train o more last → length train < fuel + length (o ∷ more) → ⊥
 back train P acyclic inside from zero o more last lt holds goes enough = omega (arith, enough, way_fits train o more last acyclic inside lt goes)
 back train P acyclic inside from (suc fuel) o more last lt holds goes enough =
     let before = from o lt holds in
@@ -177,7 +177,7 @@ all_on_route train (first ∷ rest) acyclic straight inside is o lt =
 
 -- ---- operations of a route lie within, and are no more than the train's
 
-route_goes : (train : List Operation) (o : ℕ) (rest : List ℕ) → GoesOn train o rest → (last : ℕ) × Goes train o rest last
+route_goes : (train : List Operation) (o : ℕ) (rest : List ℕ) → GoesOn train o rest → (last : ℕ) × GoesAlong train o rest last
 route_goes train o [] goes = (o, refl)
 route_goes train o (s ∷ rest) goes = let later = route_goes train s rest goes.1 in (later.0, (goes.0, later.1))
 

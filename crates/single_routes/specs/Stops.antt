@@ -22,16 +22,16 @@ abbrev pub IsStraight : List Operation → Type 0
 IsStraight train = All (λ o. length o.next ≤ 1) train
 
 -- the resources that train t lists
-abbrev pub listing_claims : ℕ → List Listing → List Claim
-listing_claims t listings = map (λ l. record { train = t; resource = l.resource }) listings
+abbrev pub resources_listed : ℕ → List Listing → List Claim
+resources_listed t listings = map (λ l. record { train = t; resource = l.resource }) listings
 
-abbrev pub train_claims : ℕ → List Operation → List Claim
-train_claims t train = flat_map (λ o. listing_claims t o.listings) train
+abbrev pub train_listed : ℕ → List Operation → List Claim
+train_listed t train = flat_map (λ o. resources_listed t o.listings) train
 
 -- those of the trains from t on
-abbrev pub claims_from : ℕ → List (List Operation) → List Claim
-claims_from t [] = []
-claims_from t (train ∷ trains) = train_claims t train ++ claims_from (t + 1) trains
+abbrev pub listed_from : ℕ → List (List Operation) → List Claim
+listed_from t [] = []
+listed_from t (train ∷ trains) = train_listed t train ++ listed_from (t + 1) trains
 
 -- two trains claim one resource
 pub record HasClash (claims : List Claim) : Type 0 where
@@ -54,9 +54,9 @@ marked marks None = marks
 marked marks (Some s) = set marks s true
 
 -- from o, along these operations, each a successor of the one before, to the last one
-abbrev pub Goes : List Operation → ℕ → List ℕ → ℕ → Type 0
-Goes train o [] last = o ≡ last
-Goes train o (s ∷ rest) last = IsSuccessor train o s × Goes train s rest last
+abbrev pub GoesAlong : List Operation → ℕ → List ℕ → ℕ → Type 0
+GoesAlong train o [] last = o ≡ last
+GoesAlong train o (s ∷ rest) last = IsSuccessor train o s × GoesAlong train s rest last
 
 -- ---- the stops
 
@@ -112,7 +112,7 @@ abbrev pub walk_between : ℕ → List Stop → ℕ → ℕ → List Op
 walk_between t stops from place = map (λ s. record { train = t; op = s.op }) (drop from (take (place + 1) stops))
 
 -- the walk to the stop at a place
-pub record IsWalkTo (t : ℕ) (stops : List Stop) (place : ℕ) (walk : List Op) : Type 0 where
+pub record IsStopWalk (t : ℕ) (stops : List Stop) (place : ℕ) (walk : List Op) : Type 0 where
   pub stop : Stop
   pub there : slice_get stops place ≡ Some stop
   pub walk_is : walk ≡ walk_between t stops stop.from place
@@ -124,7 +124,7 @@ pub record IsLateIn (trains : List (List Operation)) (runs : List Run) (walk : L
   pub place : ℕ
   pub run : Run
   pub run_is : slice_get runs train ≡ Some run
-  pub to : IsWalkTo train run.stops.items place walk
+  pub to : IsStopWalk train run.stops.items place walk
   pub late : IsLate (slice_index_or trains train []) to.stop
 
 -- the stop of a component's operation
@@ -159,7 +159,7 @@ pub record HasStop (runs : List Run) (c : Component) : Type 0 where
 pub record IsComponentWalk (runs : List Run) (c : Component) (walk : List Op) : Type 0 where
   pub run : Run
   pub run_is : slice_get runs c.train ≡ Some run
-  pub to : IsWalkTo c.train run.stops.items (slice_index run.places.items c.operation) walk
+  pub to : IsStopWalk c.train run.stops.items (slice_index run.places.items c.operation) walk
 
 -- a walk for each of the components, numbered from k on
 abbrev pub AreWalksFrom : ℕ → List Run → List Component → List ComponentWalk → Type 0

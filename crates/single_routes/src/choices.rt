@@ -1,7 +1,7 @@
 ghost use Rattle.std.specs.Prelude.{◌≡◌, ◌<◌, ◌≤◌, ◌↔◌, ◌++◌, All, IsTrue, IfOk, OnOk, length, slice_index};
 ghost use Rattle.disp_model.specs.declared.limits.TheConstants.{MOST_TRAINS};
 ghost use Rattle.single_routes.specs.Choices.{HasChoices};
-ghost use Rattle.single_routes.specs.Stops.{IsStraight, listing_claims, train_claims, claims_from, HasClash, AreOwners};
+ghost use Rattle.single_routes.specs.Stops.{IsStraight, resources_listed, train_listed, listed_from, HasClash, AreOwners};
 
 use disp_model::{Listing, MOST_TRAINS, Memory, Operation, Problem, Train};
 use std::alloc::Global;
@@ -30,7 +30,7 @@ fn are_straight(trains: &[Train]) -> bool
 /// Adds a train's claims by an operation.
 fn push_listings(claims: &mut Vec<Claim>, train: u32, listings: &[Listing]) -> Result<(), Memory>
     ensures ok { OnOk result
-        (claims.new.items ≡ claims.old.items ++ listing_claims train listings.now) }
+        (claims.new.items ≡ claims.old.items ++ resources_listed train listings.now) }
 {
     for listing in listings {
         claims.push(Claim {
@@ -44,7 +44,7 @@ fn push_listings(claims: &mut Vec<Claim>, train: u32, listings: &[Listing]) -> R
 /// Adds the claims of a train.
 fn push_train(claims: &mut Vec<Claim>, train: u32, operations: &[Operation]) -> Result<(), Memory>
     ensures ok { OnOk result
-        (claims.new.items ≡ claims.old.items ++ train_claims train operations.now) }
+        (claims.new.items ≡ claims.old.items ++ train_listed train operations.now) }
 {
     for operation in operations {
         push_listings(claims, train, operation.listings.as_slice())?;
@@ -55,7 +55,7 @@ fn push_train(claims: &mut Vec<Claim>, train: u32, operations: &[Operation]) -> 
 /// The claims of the trains.
 fn claims_of(alloc: Global, trains: &[Train]) -> Result<Vec<Claim>, Memory>
     requires fits { length trains.now ≤ MOST_TRAINS }
-    ensures value { IfOk result (λ claims. claims.items ≡ claims_from 0 trains.now) }
+    ensures value { IfOk result (λ claims. claims.items ≡ listed_from 0 trains.now) }
 {
     let mut claims = Vec::new(alloc);
     for (train, operations) in trains.iter().enumerate() {

@@ -1,6 +1,6 @@
 ghost use Rattle.std.specs.Prelude.{◌≡◌, ◌+◌, ◌<◌, ◌≤◌, All, IfOk, IfSome, IfNone, MatchOption, length, Some, None, slice_get, slice_index_or, ℕ, IsTrue, ◌↔◌};
 ghost use Rattle.disp_model.specs.declared.limits.TheConstants.{MOST_TRAINS};
-ghost use Rattle.single_routes.specs.Stops.{walk_between, IsWalkTo, IsLate, IsInTime, AreInTime, IsLateIn, AreRuns};
+ghost use Rattle.single_routes.specs.Stops.{walk_between, IsStopWalk, IsLate, IsInTime, AreInTime, IsLateIn, AreRuns};
 
 use crate::run::Run;
 use crate::stop::Stop;
@@ -16,7 +16,7 @@ pub(crate) fn walk_to(
 ) -> Result<List<Op>, Memory>
     requires place { place < length stops.now }
     requires from { (s : Stop) → slice_get stops.now place ≡ Some s → s.from ≤ place }
-    ensures { IfOk result (λ walk. IsWalkTo train stops.now place walk) }
+    ensures { IfOk result (λ walk. IsStopWalk train stops.now place walk) }
 {
     let (front, _) = stops.split_at(place + 1);
     let (_, walked) = front.split_at(stops[place].from);

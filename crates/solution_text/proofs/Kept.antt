@@ -12,7 +12,7 @@ use Rattle.solution_text.specs.declared.place.SolutionPlace.TheVariants as place
 use Rattle.solution_text.specs.declared.place.EventKey.TheVariants as key
 use Rattle.solution_text.specs.Claims.{event_claims}
 use Rattle.solution_text.specs.PlanOf.{event_of, plan_of, stated_of}
-use Rattle.solution_text.specs.Reading.{IsPlain}
+use Rattle.solution_text.specs.Reading.{IsPlainSolution}
 
 -- ---- events
 
@@ -51,7 +51,7 @@ bind_at o f x y e r = rw e r
 -- ---- the solution
 
 -- a value that keeps the rules on single places has a plan
-pub plan_there : (d : Data) → IsPlain d → (plan : List Event) × (plan_of d ≡ Some plan)
+pub plan_there : (d : Data) → IsPlainSolution d → (plan : List Event) × (plan_of d ≡ Some plan)
 plan_there d plain =
     let one = plain_head _ _ plain in
     let two = plain_head _ _ one.1 in
@@ -61,7 +61,7 @@ plan_there d plain =
     (events.0, bind_at _ (each event_of) (members_at (codes "events") d) events.0 list events.1)
 
 -- and it states a value within the limit, or none
-pub stated_there : (d : Data) → IsPlain d → (stated : Option ℕ) × (stated_of d ≡ Some stated)
+pub stated_there : (d : Data) → IsPlainSolution d → (stated : Option ℕ) × (stated_of d ≡ Some stated)
 stated_there d plain =
     let one = plain_head _ _ plain in
     let two = plain_head _ _ one.1 in

@@ -9,7 +9,7 @@ use Rattle.solution_text.specs.declared.fault.SolutionNo.{SolutionNo}
 use Rattle.solution_text.specs.declared.fault.SolutionNo.TheVariants.{NotJson, Shape, NotWhole, TooLarge, TooMany, Memory}
 use Rattle.solution_text.specs.Claims.{solution_claims}
 use Rattle.solution_text.specs.PlanOf.{plan_of, stated_of, events_given}
-use Rattle.solution_text.specs.Reading.{KeepsRules, Breaks, IsReadAs, IsRefused}
+use Rattle.solution_text.specs.Reading.{KeepsSolutionRules, BreaksSolution, IsReadAsSolution, IsRefusedSolution}
 
 -- ---- the rules in their order, as one chain
 
@@ -31,7 +31,7 @@ same_chain d a b p q =
 
 -- ---- each answer is that of the chain
 
-breaks_chain : (d : Data) (why : SolutionNo) → Breaks d why → (why ≡ Memory) ⊎ Chain d (Some why)
+breaks_chain : (d : Data) (why : SolutionNo) → BreaksSolution d why → (why ≡ Memory) ⊎ Chain d (Some why)
 breaks_chain d NotJson h = absurd h
 breaks_chain d (Shape place) h = inr (rw h refl)
 breaks_chain d (NotWhole place) h = inr (rw (h.0, h.1) refl)
@@ -41,14 +41,14 @@ breaks_chain d (TooMany count) h =
     inr (rw (h.0.shape, h.0.whole, h.0.limit) many)
 breaks_chain d Memory h = inl refl
 
-keeps_chain : (d : Data) → KeepsRules d → Chain d None
+keeps_chain : (d : Data) → KeepsSolutionRules d → Chain d None
 keeps_chain d h =
     let few : Few (events_given d) None = inr (h.few, refl) in
     rw (h.plain.shape, h.plain.whole, h.plain.limit) few
 
 -- ---- the answers exclude each other
 
-refused_cases : (bytes : List ℕ) (why : SolutionNo) → IsRefused bytes why → Cases Breaks Memory NotJson bytes why
+refused_cases : (bytes : List ℕ) (why : SolutionNo) → IsRefusedSolution bytes why → Cases BreaksSolution Memory NotJson bytes why
 refused_cases bytes NotJson h = inl (refl, h)
 refused_cases bytes (Shape place) h = inr (inr h)
 refused_cases bytes (NotWhole place) h = inr (inr h)
@@ -57,17 +57,17 @@ refused_cases bytes (TooMany count) h = inr (inr h)
 refused_cases bytes Memory h = inr (inl refl)
 
 -- two refusals of a text are one, but for want of memory
-pub refusals_agree : (bytes : List ℕ) (why other : SolutionNo) → IsRefused bytes why → IsRefused bytes other → Agree Memory why other
+pub refusals_agree : (bytes : List ℕ) (why other : SolutionNo) → IsRefusedSolution bytes why → IsRefusedSolution bytes other → Agree Memory why other
 refusals_agree bytes why other a b =
-    texts_agree Breaks Memory NotJson why other bytes (λ d p q. chain_agrees Memory why other (Chain d) (same_chain d) (breaks_chain d why p) (breaks_chain d other q)) (refused_cases bytes why a) (refused_cases bytes other b)
+    texts_agree BreaksSolution Memory NotJson why other bytes (λ d p q. chain_agrees Memory why other (Chain d) (same_chain d) (breaks_chain d why p) (breaks_chain d other q)) (refused_cases bytes why a) (refused_cases bytes other b)
 
 -- a text that was read is not refused, but for want of memory
-pub read_is_not_refused : (bytes : List ℕ) (plan : List Event) (stated : Option ℕ) (why : SolutionNo) → IsReadAs bytes plan stated → IsRefused bytes why → why ≡ Memory
+pub read_is_not_refused : (bytes : List ℕ) (plan : List Event) (stated : Option ℕ) (why : SolutionNo) → IsReadAsSolution bytes plan stated → IsRefusedSolution bytes why → why ≡ Memory
 read_is_not_refused bytes plan stated why a b =
-    kept_is_not_refused Breaks Memory NotJson why bytes a.value a.json (λ h. chain_refuses_none Memory why (Chain a.value) (same_chain a.value) (keeps_chain a.value a.keeps) (breaks_chain a.value why h)) (refused_cases bytes why b)
+    kept_is_not_refused BreaksSolution Memory NotJson why bytes a.value a.json (λ h. chain_refuses_none Memory why (Chain a.value) (same_chain a.value) (keeps_chain a.value a.keeps) (breaks_chain a.value why h)) (refused_cases bytes why b)
 
 -- one plan and one stated value are read of a text
-pub plans_agree : (bytes : List ℕ) (plan other : List Event) (stated given : Option ℕ) → IsReadAs bytes plan stated → IsReadAs bytes other given → (plan ≡ other) × (stated ≡ given)
+pub plans_agree : (bytes : List ℕ) (plan other : List Event) (stated given : Option ℕ) → IsReadAsSolution bytes plan stated → IsReadAsSolution bytes other given → (plan ≡ other) × (stated ≡ given)
 plans_agree bytes plan other stated given a b =
     let same = same_value bytes a.value b.value a.json b.json in
     (same_Some plan other (sym (subst (λ d. plan_of d ≡ Some plan) same a.plan_is) ∙ b.plan_is), same_Some stated given (sym (subst (λ d. stated_of d ≡ Some stated) same a.stated_is) ∙ b.stated_is))

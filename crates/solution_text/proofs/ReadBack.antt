@@ -14,9 +14,9 @@ use Rattle.json_claims.proofs.Steps.{each_cons}
 use Rattle.solution_text.specs.declared.place.SolutionPlace.{SolutionPlace}
 use Rattle.solution_text.specs.Claims.{event_claims}
 use Rattle.solution_text.specs.PlanOf.{event_of, stated_of}
-use Rattle.solution_text.specs.Reading.{IsPlain, IsReadAs}
+use Rattle.solution_text.specs.Reading.{IsPlainSolution, IsReadAsSolution}
 use Rattle.solution_text.specs.Texts.{solution_text}
-use Rattle.solution_text.specs.Limits.{IsWithin, AreWithin}
+use Rattle.solution_text.specs.Limits.{IsEventWithin, IsWithinLimits}
 use Rattle.solution_text.proofs.Written.{event_data, events_data, solution_data, text_is_json}
 
 -- ---- the rules
@@ -38,7 +38,7 @@ event_whole : (k : ℕ) (e : Event) → first_broken rule.Whole (event_claims k 
 unfolding event_claims breaks
 event_whole k e = refl
 
-event_limit : (k : ℕ) (e : Event) → IsWithin e → first_broken rule.Limit (event_claims k (event_data e)) ≡ None
+event_limit : (k : ℕ) (e : Event) → IsEventWithin e → first_broken rule.Limit (event_claims k (event_data e)) ≡ None
 unfolding event_claims breaks
 event_limit k e within =
     rw (le-ltb GREATEST_NUMBER e.operation within.operation, le-ltb GREATEST_EVENT_TIME e.time within.time, le-ltb GREATEST_NUMBER e.train within.train) refl
@@ -51,11 +51,11 @@ events_whole : (k : ℕ) (plan : List Event) → first_broken rule.Whole (claims
 events_whole k [] = refl
 events_whole k (e ∷ plan) = none_both rule.Whole (event_claims k (event_data e)) _ (event_whole k e) (events_whole (k + 1) plan)
 
-events_limit : (k : ℕ) (plan : List Event) → AllByRecursion IsWithin plan → first_broken rule.Limit (claims_from event_claims k (values_of (events_data plan))) ≡ None
+events_limit : (k : ℕ) (plan : List Event) → AllByRecursion IsEventWithin plan → first_broken rule.Limit (claims_from event_claims k (values_of (events_data plan))) ≡ None
 events_limit k [] within = refl
 events_limit k (e ∷ plan) within = none_both rule.Limit (event_claims k (event_data e)) _ (event_limit k e within.0) (events_limit (k + 1) plan within.1)
 
-solution_plain : (plan : List Event) (cost : ℕ) → AllByRecursion IsWithin plan → cost ≤ GREATEST_COST → IsPlain (solution_data plan cost)
+solution_plain : (plan : List Event) (cost : ℕ) → AllByRecursion IsEventWithin plan → cost ≤ GREATEST_COST → IsPlainSolution (solution_data plan cost)
 unfolding breaks
 solution_plain plan cost within fits = record {
   shape = none_both rule.Shape (claims_from event_claims 0 (values_of (events_data plan))) _ (events_shape 0 plan) refl;
@@ -69,12 +69,12 @@ as_many (e ∷ plan) = ap suc (as_many plan)
 
 -- ---- the plan and the cost
 
-event_back : (e : Event) → IsWithin e → event_of (event_data e) ≡ Some e
+event_back : (e : Event) → IsEventWithin e → event_of (event_data e) ≡ Some e
 unfolding event_of
 event_back e within =
     rw (fits GREATEST_NUMBER e.operation within.operation, fits GREATEST_EVENT_TIME e.time within.time, fits GREATEST_NUMBER e.train within.train) refl
 
-events_back : (plan : List Event) → AllByRecursion IsWithin plan → each event_of (values_of (events_data plan)) ≡ Some plan
+events_back : (plan : List Event) → AllByRecursion IsEventWithin plan → each event_of (values_of (events_data plan)) ≡ Some plan
 events_back [] within = refl
 events_back (e ∷ plan) within =
     each_cons event_of (event_data e) (values_of (events_data plan)) e plan (event_back e within.0) (events_back plan within.1)
@@ -83,9 +83,9 @@ cost_back : (plan : List Event) (cost : ℕ) → cost ≤ GREATEST_COST → stat
 cost_back plan cost le = rw (fits GREATEST_COST cost le) refl
 
 -- what is written of a plan and a cost within the limits is read again as the same
-pub read_again : (plan : List Event) (cost : ℕ) → AreWithin plan cost → IsReadAs (solution_text plan cost) plan (Some cost)
+pub read_again : (plan : List Event) (cost : ℕ) → IsWithinLimits plan cost → IsReadAsSolution (solution_text plan cost) plan (Some cost)
 read_again plan cost within =
-    let events = recursion_from_All IsWithin plan within.events_fit in
+    let events = recursion_from_All IsEventWithin plan within.events_fit in
     record {
       value = solution_data plan cost;
       json = text_is_json plan cost events (omega (arith, within.cost_fits));

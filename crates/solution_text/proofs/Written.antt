@@ -21,7 +21,7 @@ use Rattle.serde_json.proofs.Texts.{print-outline}
 use Rattle.disp_model.specs.declared.plan.Event.{Event}
 use Rattle.solution_text.specs.Texts.{event_text, next_event_text, events_text, solution_text}
 use Rattle.json_claims.specs.Json.{IsJson}
-use Rattle.solution_text.specs.Limits.{IsWithin}
+use Rattle.solution_text.specs.Limits.{IsEventWithin}
 
 -- ---- the value
 
@@ -170,14 +170,14 @@ text_utf8 plan cost short fits =
     (IsUtf8-append (events_text plan) _ (events_utf8 plan short)
     (piece_utf8 (codes "],\"objective_value\":") cost (codes "}") (IsUtf8-are_ascii (codes "],\"objective_value\":") refl) fits closed_utf8)))
 
-within_short : (plan : List Event) → AllByRecursion IsWithin plan → AllByRecursion AreShort plan
+within_short : (plan : List Event) → AllByRecursion IsEventWithin plan → AllByRecursion AreShort plan
 within_short [] within = tt
 within_short (e ∷ plan) within =
     let here = within.0 in
     ((omega (arith, here.operation), omega (arith, here.time), omega (arith, here.train)), within_short plan within.1)
 
 -- the text of events within their limits, and of a cost of 64 bits
-pub text_is_json : (plan : List Event) (cost : ℕ) → AllByRecursion IsWithin plan → cost < 2 ^ 64 → IsJson (solution_text plan cost) (solution_data plan cost)
+pub text_is_json : (plan : List Event) (cost : ℕ) → AllByRecursion IsEventWithin plan → cost < 2 ^ 64 → IsJson (solution_text plan cost) (solution_data plan cost)
 text_is_json plan cost within fits =
     let short = within_short plan within in
     record { utf8 = text_utf8 plan cost short fits; value = text_read plan cost short fits }

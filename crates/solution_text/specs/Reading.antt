@@ -17,53 +17,53 @@ use Rattle.solution_text.specs.PlanOf.{plan_of, stated_of, events_given}
 -- ---- the rules
 
 -- the first place of the value that breaks the rule
-abbrev pub broken_at : Rule → Data → Option SolutionPlace
-broken_at rule d = first_broken rule (solution_claims d)
+abbrev pub broken_solution_place : Rule → Data → Option SolutionPlace
+broken_solution_place rule d = first_broken rule (solution_claims d)
 
 -- each value is of its kind, needed ones are there, and numbers are whole and within their limits
-abbrev pub IsPlain : Data → Type 0
-IsPlain d = ArePlain (solution_claims d)
+abbrev pub IsPlainSolution : Data → Type 0
+IsPlainSolution d = ArePlain (solution_claims d)
 
 -- no rule is broken
-pub record KeepsRules (d : Data) : Type 0 where
-  pub plain : IsPlain d
+pub record KeepsSolutionRules (d : Data) : Type 0 where
+  pub plain : IsPlainSolution d
   pub few : events_given d ≤ MOST_EVENTS
 
 -- ---- the answers
 
 -- the bytes are JSON, no rule is broken, and the plan and the stated value are those of their value
-pub record IsReadAs (bytes : List ℕ) (plan : List Event) (stated : Option ℕ) : Type 0 where
+pub record IsReadAsSolution (bytes : List ℕ) (plan : List Event) (stated : Option ℕ) : Type 0 where
   pub value : Data
   pub json : IsJson bytes value
-  pub keeps : KeepsRules value
+  pub keeps : KeepsSolutionRules value
   pub plan_is : plan_of value ≡ Some plan
   pub stated_is : stated_of value ≡ Some stated
 
 -- the value breaks the rule of the refusal, there, and none before it
-abbrev pub Breaks : Data → SolutionNo → Type 0
-Breaks d NotJson = ⊥
-Breaks d (Shape place) = broken_at rule.Shape d ≡ Some place
-Breaks d (NotWhole place) = (broken_at rule.Shape d ≡ None) × (broken_at rule.Whole d ≡ Some place)
-Breaks d (TooLarge place) = (broken_at rule.Shape d ≡ None) × (broken_at rule.Whole d ≡ None) × (broken_at rule.Limit d ≡ Some place)
-Breaks d (TooMany count) = IsPlain d × (events_given d ≡ count) × (MOST_EVENTS < count)
-Breaks d Memory = Unit {0}
+abbrev pub BreaksSolution : Data → SolutionNo → Type 0
+BreaksSolution d NotJson = ⊥
+BreaksSolution d (Shape place) = broken_solution_place rule.Shape d ≡ Some place
+BreaksSolution d (NotWhole place) = (broken_solution_place rule.Shape d ≡ None) × (broken_solution_place rule.Whole d ≡ Some place)
+BreaksSolution d (TooLarge place) = (broken_solution_place rule.Shape d ≡ None) × (broken_solution_place rule.Whole d ≡ None) × (broken_solution_place rule.Limit d ≡ Some place)
+BreaksSolution d (TooMany count) = IsPlainSolution d × (events_given d ≡ count) × (MOST_EVENTS < count)
+BreaksSolution d Memory = Unit {0}
 
 -- why there is no solution of the bytes; want of memory may come whatever they are
-abbrev pub IsRefused : List ℕ → SolutionNo → Type 0
-IsRefused bytes NotJson = IsNoJson bytes
-IsRefused bytes (Shape place) = BreaksFirst Breaks bytes (Shape place)
-IsRefused bytes (NotWhole place) = BreaksFirst Breaks bytes (NotWhole place)
-IsRefused bytes (TooLarge place) = BreaksFirst Breaks bytes (TooLarge place)
-IsRefused bytes (TooMany count) = BreaksFirst Breaks bytes (TooMany count)
-IsRefused bytes Memory = Unit {0}
+abbrev pub IsRefusedSolution : List ℕ → SolutionNo → Type 0
+IsRefusedSolution bytes NotJson = IsNoJson bytes
+IsRefusedSolution bytes (Shape place) = BreaksFirst BreaksSolution bytes (Shape place)
+IsRefusedSolution bytes (NotWhole place) = BreaksFirst BreaksSolution bytes (NotWhole place)
+IsRefusedSolution bytes (TooLarge place) = BreaksFirst BreaksSolution bytes (TooLarge place)
+IsRefusedSolution bytes (TooMany count) = BreaksFirst BreaksSolution bytes (TooMany count)
+IsRefusedSolution bytes Memory = Unit {0}
 
 -- a plan is read of the text, or it is refused for another cause than want of memory
-abbrev pub HasAnswer : List ℕ → Type 0
-HasAnswer bytes = ((plan : List Event) × (stated : Option ℕ) × IsReadAs bytes plan stated) ⊎ ((why : SolutionNo) × IsRefused bytes why × (why ≢ Memory))
+abbrev pub HasSolutionAnswer : List ℕ → Type 0
+HasSolutionAnswer bytes = ((plan : List Event) × (stated : Option ℕ) × IsReadAsSolution bytes plan stated) ⊎ ((why : SolutionNo) × IsRefusedSolution bytes why × (why ≢ Memory))
 
 -- ---- for private clauses
 
 -- the plan and the stated value of a value, or the rule that it breaks first
-abbrev pub Answers : Result (List Event × Option ℕ) SolutionNo → Data → Type 0
-Answers (Ok p) d = KeepsRules d × (plan_of d ≡ Some p.0) × (stated_of d ≡ Some p.1)
-Answers (Err why) d = Breaks d why
+abbrev pub AnswersSolution : Result (List Event × Option ℕ) SolutionNo → Data → Type 0
+AnswersSolution (Ok p) d = KeepsSolutionRules d × (plan_of d ≡ Some p.0) × (stated_of d ≡ Some p.1)
+AnswersSolution (Err why) d = BreaksSolution d why

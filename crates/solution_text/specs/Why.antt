@@ -14,17 +14,17 @@ key_text Time = codes "time"
 key_text Train = codes "train"
 
 -- a place as a JSON pointer, but for the root, whose pointer is the empty text
-abbrev pub place_text : SolutionPlace → List ℕ
-place_text place.Root = codes "/"
-place_text place.Events = codes "/events"
-place_text (place.Event k) = codes "/events/" ++ decimal k
-place_text (place.EventKey k key) = codes "/events/" ++ decimal k ++ codes "/" ++ key_text key
-place_text place.ObjectiveValue = codes "/objective_value"
+abbrev pub solution_place_text : SolutionPlace → List ℕ
+solution_place_text place.Root = codes "/"
+solution_place_text place.Events = codes "/events"
+solution_place_text (place.Event k) = codes "/events/" ++ decimal k
+solution_place_text (place.EventKey k key) = codes "/events/" ++ decimal k ++ codes "/" ++ key_text key
+solution_place_text place.ObjectiveValue = codes "/objective_value"
 
-abbrev pub why_text : SolutionNo → List ℕ
-why_text NotJson = codes "NotJson"
-why_text (Shape place) = codes "Shape " ++ place_text place
-why_text (NotWhole place) = codes "NotWhole " ++ place_text place
-why_text (TooLarge place) = codes "TooLarge " ++ place_text place
-why_text (TooMany count) = codes "TooMany " ++ decimal count
-why_text Memory = codes "Memory"
+abbrev pub solution_why_text : SolutionNo → List ℕ
+solution_why_text NotJson = codes "NotJson"
+solution_why_text (Shape place) = codes "Shape " ++ solution_place_text place
+solution_why_text (NotWhole place) = codes "NotWhole " ++ solution_place_text place
+solution_why_text (TooLarge place) = codes "TooLarge " ++ solution_place_text place
+solution_why_text (TooMany count) = codes "TooMany " ++ decimal count
+solution_why_text Memory = codes "Memory"

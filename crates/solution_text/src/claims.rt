@@ -2,7 +2,7 @@ ghost use Rattle.std.specs.Prelude.{◌≡◌, map};
 ghost use Rattle.serde_json.specs.View.{view};
 ghost use Rattle.json_claims.specs.Claims.{verdict, claims_from, IsFirst};
 ghost use Rattle.solution_text.specs.Claims.{event_claims, solution_claims};
-ghost use Rattle.solution_text.specs.Reading.{broken_at};
+ghost use Rattle.solution_text.specs.Reading.{broken_solution_place};
 
 use crate::place::{EventKey, SolutionPlace};
 use disp_model::{GREATEST_COST, GREATEST_EVENT_TIME, GREATEST_NUMBER};
@@ -55,7 +55,7 @@ fn check_solution(rule: Rule, value: &Value) -> Result<(), SolutionPlace>
 
 /// Tests a rule on a solution: the error is the first place that breaks it.
 pub(crate) fn check(rule: Rule, value: &Value) -> Result<(), SolutionPlace>
-    ensures { IsFirst result (broken_at rule (view value.now)) }
+    ensures { IsFirst result (broken_solution_place rule (view value.now)) }
 {
     check_solution(rule, value)
 }

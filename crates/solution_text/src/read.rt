@@ -3,7 +3,7 @@ ghost use Rattle.serde_json.specs.View.{view};
 ghost use Rattle.json_claims.specs.Json.{IsJson};
 ghost use Rattle.json_claims.specs.Gives.{Gives};
 ghost use Rattle.solution_text.specs.PlanOf.{event_of, plan_of, stated_of, events_given};
-ghost use Rattle.solution_text.specs.Reading.{IsReadAs, IsRefused, IsPlain, Breaks, KeepsRules, Answers};
+ghost use Rattle.solution_text.specs.Reading.{IsReadAsSolution, IsRefusedSolution, IsPlainSolution, BreaksSolution, KeepsSolutionRules, AnswersSolution};
 
 use crate::claims::check;
 use crate::fault::SolutionNo;
@@ -19,7 +19,7 @@ use std::alloc::Global;
 /// The value of JSON bytes.
 fn value_of(alloc: Global, bytes: &[u8]) -> Result<Value, SolutionNo>
     ensures ok { IfOk result (λ v. IsJson bytes.now (view v)) }
-    ensures no { IfErr result (IsRefused bytes.now) }
+    ensures no { IfErr result (IsRefusedSolution bytes.now) }
 {
     match read_json(alloc, bytes) {
         Ok(value) => Ok(value),
@@ -57,8 +57,8 @@ fn read_events(alloc: Global, value: &Value) -> Result<Plan, Unread>
 
 /// Tests the rules on what stands at single places.
 fn test_values(value: &Value) -> Result<(), SolutionNo>
-    ensures ok { OnOk result (IsPlain (view value.now)) }
-    ensures no { IfErr result (Breaks (view value.now)) }
+    ensures ok { OnOk result (IsPlainSolution (view value.now)) }
+    ensures no { IfErr result (BreaksSolution (view value.now)) }
 {
     check(Rule::Shape, value).map_err(SolutionNo::Shape)?;
     check(Rule::Whole, value).map_err(SolutionNo::NotWhole)?;
@@ -68,8 +68,8 @@ fn test_values(value: &Value) -> Result<(), SolutionNo>
 
 /// Tests all rules.
 fn test_rules(value: &Value) -> Result<(), SolutionNo>
-    ensures ok { OnOk result (KeepsRules (view value.now)) }
-    ensures no { IfErr result (Breaks (view value.now)) }
+    ensures ok { OnOk result (KeepsSolutionRules (view value.now)) }
+    ensures no { IfErr result (BreaksSolution (view value.now)) }
 {
     test_values(value)?;
     let count = members_at(value, "events").len();
@@ -81,7 +81,7 @@ fn test_rules(value: &Value) -> Result<(), SolutionNo>
 
 /// The plan of a value that keeps the rules.
 fn plan_of(alloc: Global, value: &Value) -> Result<Plan, Memory>
-    requires keeps { KeepsRules (view value.now) }
+    requires keeps { KeepsSolutionRules (view value.now) }
     ensures { IfOk result (λ plan. plan_of (view value.now) ≡ Some plan) }
 {
     match read_events(alloc, value) {
@@ -93,7 +93,7 @@ fn plan_of(alloc: Global, value: &Value) -> Result<Plan, Memory>
 
 /// The objective value that a value states that keeps the rules.
 fn stated_of(value: &Value) -> Option<u64>
-    requires keeps { KeepsRules (view value.now) }
+    requires keeps { KeepsSolutionRules (view value.now) }
     ensures { stated_of (view value.now) ≡ Some result }
 {
     match optional_number(value, "objective_value", GREATEST_COST) {
@@ -104,7 +104,7 @@ fn stated_of(value: &Value) -> Option<u64>
 
 /// The solution of a JSON value.
 fn solution_of(alloc: Global, value: &Value) -> Result<(Plan, Option<u64>), SolutionNo>
-    ensures { Answers result (view value.now) }
+    ensures { AnswersSolution result (view value.now) }
 {
     test_rules(value)?;
     let plan = plan_of(alloc, value)?;
@@ -124,8 +124,8 @@ fn solution_of(alloc: Global, value: &Value) -> Result<(Plan, Option<u64>), Solu
 /// tested over the whole text before the next one, and names the first place that breaks it. But
 /// `Memory` may come in place of any answer.
 pub fn read_solution(alloc: Global, bytes: &[u8]) -> Result<(Plan, Option<u64>), SolutionNo>
-    ensures ok { IfOk result (λ r. IsReadAs bytes.now r.0 r.1) }
-    ensures no { IfErr result (IsRefused bytes.now) }
+    ensures ok { IfOk result (λ r. IsReadAsSolution bytes.now r.0 r.1) }
+    ensures no { IfErr result (IsRefusedSolution bytes.now) }
 {
     let value = value_of(alloc, bytes)?;
     solution_of(alloc, &value)

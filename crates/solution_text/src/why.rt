@@ -1,7 +1,7 @@
 ghost use Rattle.std.specs.Prelude.{◌≡◌, ◌++◌, OnOk, OnErr, codes, string_bytes};
 ghost use Rattle.std.specs.Fmt.{decimal};
 ghost use Rattle.plain_values.specs.Texts.{Adds};
-ghost use Rattle.solution_text.specs.Why.{key_text, place_text, why_text};
+ghost use Rattle.solution_text.specs.Why.{key_text, solution_place_text, solution_why_text};
 
 use crate::fault::SolutionNo;
 use crate::place::{EventKey, SolutionPlace};
@@ -24,7 +24,7 @@ impl SolutionPlace {
     /// Adds the place as a JSON pointer; the root is written `/`.
     fn write(self, text: &mut String) -> Result<(), Memory>
         ensures { OnOk result
-            (Adds (string_bytes text.old) (string_bytes text.new) (place_text self)) }
+            (Adds (string_bytes text.old) (string_bytes text.new) (solution_place_text self)) }
     {
         match self {
             SolutionPlace::Root => write!(text, "/")?,
@@ -43,7 +43,8 @@ impl SolutionPlace {
 /// Adds a word and a place.
 fn write_at(text: &mut String, word: &str, place: SolutionPlace) -> Result<(), Memory>
     ensures { OnOk result
-        (Adds (string_bytes text.old) (string_bytes text.new) (word.now ++ place_text place)) }
+        (Adds (string_bytes text.old) (string_bytes text.new)
+        (word.now ++ solution_place_text place)) }
 {
     text.push_str(word)?;
     place.write(text)?;
@@ -55,7 +56,7 @@ impl SolutionNo {
     /// space between. Where memory runs out the text is as before.
     pub fn write(&self, text: &mut String) -> Result<(), Memory>
         ensures ok { OnOk result
-            (string_bytes text.new ≡ string_bytes text.old ++ why_text self.now) }
+            (string_bytes text.new ≡ string_bytes text.old ++ solution_why_text self.now) }
         ensures err { OnErr result (string_bytes text.new ≡ string_bytes text.old) }
     {
         let mut why = String::new(*text.allocator());
@@ -67,7 +68,7 @@ impl SolutionNo {
     /// Adds the text that is printed for the refusal.
     fn add(&self, text: &mut String) -> Result<(), Memory>
         ensures { OnOk result
-            (Adds (string_bytes text.old) (string_bytes text.new) (why_text self.now)) }
+            (Adds (string_bytes text.old) (string_bytes text.new) (solution_why_text self.now)) }
     {
         match *self {
             SolutionNo::NotJson => write!(text, "NotJson")?,

@@ -1,4 +1,4 @@
--- In a plan whose runs are routes, an event has ended among the events before another exactly where it ends before it.
+-- In a plan whose runs are routes, an event has event_end among the events before another exactly where it ends before it.
 use Rattle.std.proofs.Common.{◌≡◌, ℕ, ◌+◌, ◌<◌, ◌≤◌, List, [], ◌∷◌, ◌++◌, length, take, drop, map, Option, Some, None, refl, sym, ap, subst, ◌∙◌, arith, inl, inr}
 use Rattle.std.specs.Prelude.{slice_get}
 use Rattle.std.proofs.lemmas.Option.{none-some}
@@ -10,7 +10,7 @@ use Rattle.disp_model.specs.Train.{next_of, duration_of, IsRoute, GoesOn, IsSucc
 use Rattle.disp_model.specs.Valid.{train_at}
 use Rattle.disp_laws.proofs.Branching.{route_from, own_operations, operations_append}
 use Rattle.disp_laws.proofs.Runs.{split_at}
-use Rattle.solution_verifier.specs.Held.{ended, ended_in, HasPassed}
+use Rattle.solution_verifier.specs.Held.{event_end, ended_in, HasPassed}
 use Rattle.solution_verifier.proofs.Nexts.{IsIn, IsPast, in_or_past, found_or_none, behind_parts, between_length}
 
 -- the operations of a train around one of its events
@@ -69,7 +69,7 @@ agrees_exit problem plan i j e asked exit =
 
 agrees_in : (problem : Problem) (plan : List Event) (i j : ℕ) (e : Event) (s : ℕ) (next : List ℕ) → Asked problem plan i j e
     → IsIn e.train (i + 1) (drop (i + 1) (take j plan)) (drop j plan)
-    → Agrees (end_of problem.trains plan i e) (ended (s ∷ next) (e.time + duration_of (train_at problem e.train) e.operation) (run_of e.train (drop (i + 1) (take j plan)))) j
+    → Agrees (end_of problem.trains plan i e) (event_end (s ∷ next) (e.time + duration_of (train_at problem e.train) e.operation) (run_of e.train (drop (i + 1) (take j plan)))) j
 agrees_in problem plan i j e s next asked found =
     let train = train_at problem e.train in
     let own = e.time + duration_of train e.operation in
@@ -77,12 +77,12 @@ agrees_in problem plan i j e s next asked found =
     let end : end_of problem.trains plan i e ≡ record { position = (i + 1) + found.gap; time = found.event.time } = ap (ending train i e) first in
     let before : (i + 1) + found.gap < j = omega (arith, found.within, between_length plan i j asked.order asked.within) in
     let made = agrees_some (record { position = (i + 1) + found.gap; time = found.event.time }) found.event.time j refl before in
-    subst (λ (x : Ending). Agrees x (ended (s ∷ next) own (run_of e.train (drop (i + 1) (take j plan)))) j) (sym end)
-    (subst (λ (run : List Event). Agrees (record { position = (i + 1) + found.gap; time = found.event.time }) (ended (s ∷ next) own run) j) (sym found.run_is) made)
+    subst (λ (x : Ending). Agrees x (event_end (s ∷ next) own (run_of e.train (drop (i + 1) (take j plan)))) j) (sym end)
+    (subst (λ (run : List Event). Agrees (record { position = (i + 1) + found.gap; time = found.event.time }) (event_end (s ∷ next) own run) j) (sym found.run_is) made)
 
 agrees_past : (problem : Problem) (plan : List Event) (i j : ℕ) (e : Event) (s : ℕ) (next : List ℕ) → Asked problem plan i j e → next_of (train_at problem e.train) e.operation ≡ s ∷ next
     → IsPast e.train (i + 1) (drop (i + 1) (take j plan)) (drop j plan)
-    → Agrees (end_of problem.trains plan i e) (ended (s ∷ next) (e.time + duration_of (train_at problem e.train) e.operation) (run_of e.train (drop (i + 1) (take j plan)))) j
+    → Agrees (end_of problem.trains plan i e) (event_end (s ∷ next) (e.time + duration_of (train_at problem e.train) e.operation) (run_of e.train (drop (i + 1) (take j plan)))) j
 agrees_past problem plan i j e s next asked more past =
     let train = train_at problem e.train in
     let own = e.time + duration_of train e.operation in
@@ -92,8 +92,8 @@ agrees_past problem plan i j e s next asked more past =
       | inl f ↦
           let end : end_of problem.trains plan i e ≡ record { position = f.place; time = f.event.time } = ap (ending train i e) (parts ∙ f.first) in
           let made = agrees_none (record { position = f.place; time = f.event.time }) j (omega (arith, f.from_on, from)) in
-          subst (λ (x : Ending). Agrees x (ended (s ∷ next) own (run_of e.train (drop (i + 1) (take j plan)))) j) (sym end)
-          (subst (λ (run : List Event). Agrees (record { position = f.place; time = f.event.time }) (ended (s ∷ next) own run) j) (sym past.none) made)
+          subst (λ (x : Ending). Agrees x (event_end (s ∷ next) own (run_of e.train (drop (i + 1) (take j plan)))) j) (sym end)
+          (subst (λ (run : List Event). Agrees (record { position = f.place; time = f.event.time }) (event_end (s ∷ next) own run) j) (sym past.none) made)
       | inr none ↦ absurd (other_is_not train e.operation s next (run_of e.train (drop (i + 1) plan)) more asked.goes (no_run (parts ∙ none.1)))
     ]
   where
@@ -101,7 +101,7 @@ agrees_past problem plan i j e s next asked more past =
     no_run none = elim (found_or_none e.train (i + 1) (drop (i + 1) plan)) [ inl f ↦ absurd (none-some (f.place, f.event) (sym none ∙ f.first)) | inr h ↦ h.0 ]
 
 agrees_at : (problem : Problem) (plan : List Event) (i j : ℕ) (e : Event) (next : List ℕ) → next_of (train_at problem e.train) e.operation ≡ next → Asked problem plan i j e
-    → Agrees (end_of problem.trains plan i e) (ended next (e.time + duration_of (train_at problem e.train) e.operation) (run_of e.train (drop (i + 1) (take j plan)))) j
+    → Agrees (end_of problem.trains plan i e) (event_end next (e.time + duration_of (train_at problem e.train) e.operation) (run_of e.train (drop (i + 1) (take j plan)))) j
 agrees_at problem plan i j e [] is asked = agrees_exit problem plan i j e asked is
 agrees_at problem plan i j e (s ∷ next) is asked =
     elim (in_or_past e.train (i + 1) (drop (i + 1) (take j plan)) (drop j plan)) [

@@ -12,20 +12,20 @@ use Rattle.disp_model.specs.Valid.{train_at}
 use Rattle.solution_verifier.specs.declared.clash.Clash.{Clash}
 use Rattle.solution_verifier.specs.Judged.{IsLast}
 use Rattle.solution_verifier.specs.Held.{IsSound}
-use Rattle.solution_verifier.specs.First.{IsHeld, IsComplete}
-use Rattle.solution_verifier.specs.Answered.{RisesUntil, Passes, IsFirstHeldOf, IsLeastClash, IsFirstClash, KeepsRules}
+use Rattle.solution_verifier.specs.First.{IsFirstHeld, IsComplete}
+use Rattle.solution_verifier.specs.Answered.{RisesUntil, LetsThrough, IsFirstHeldOf, IsLeastClash, IsFirstHeldClash, KeepsEventRules}
 use Rattle.solution_verifier.specs.Rules.{time_rises}
 use Rattle.solution_verifier.proofs.Holding.{take_one_more}
 
 -- each event before a place lets each behind it pass, up to a bound
 abbrev pub PassBefore : Problem → List Event → ℕ → ℕ → Type 0
-PassBefore problem plan place limit = (h k : ℕ) → h < place → h < k → k < limit → Passes problem plan h k
+PassBefore problem plan place limit = (h k : ℕ) → h < place → h < k → k < limit → LetsThrough problem plan h k
 
-pub pass_one_more : (problem : Problem) (plan : List Event) (place limit : ℕ) → PassBefore problem plan place limit → ((k : ℕ) → place < k → k < limit → Passes problem plan place k) → PassBefore problem plan (place + 1) limit
+pub pass_one_more : (problem : Problem) (plan : List Event) (place limit : ℕ) → PassBefore problem plan place limit → ((k : ℕ) → place < k → k < limit → LetsThrough problem plan place k) → PassBefore problem plan (place + 1) limit
 pass_one_more problem plan place limit before here h k less later bounded =
     elim (cases_lt h place) [
       | inl lt ↦ before h k lt later bounded
-      | inr le ↦ let same : place ≡ h = omega (arith, le, less) in subst (λ (m : ℕ). Passes problem plan m k) same (here k (omega (arith, later, same)) bounded)
+      | inr le ↦ let same : place ≡ h = omega (arith, le, less) in subst (λ (m : ℕ). LetsThrough problem plan m k) same (here k (omega (arith, later, same)) bounded)
     ]
 
 pub pass_up_to : (problem : Problem) (plan : List Event) (place limit other : ℕ) → other ≤ limit → PassBefore problem plan place limit → PassBefore problem plan place other
@@ -40,7 +40,7 @@ least_clash problem plan place limit bound clash within before held = record {
 }
 
 -- times do not fall before the bound, where each event keeps its rules
-rises_by : (problem : Problem) (plan : List Event) (bound : ℕ) → ((k : ℕ) → k < bound → KeepsRules problem plan k) → (n j : ℕ) (e f : Event) → j + n < bound → slice_get plan j ≡ Some e → slice_get plan (j + n) ≡ Some f → e.time ≤ f.time
+rises_by : (problem : Problem) (plan : List Event) (bound : ℕ) → ((k : ℕ) → k < bound → KeepsEventRules problem plan k) → (n j : ℕ) (e f : Event) → j + n < bound → slice_get plan j ≡ Some e → slice_get plan (j + n) ≡ Some f → e.time ≤ f.time
 rises_by problem plan bound rules zero j e f lt at_j at_k =
     let same : j + 0 ≡ j = omega arith in
     let one : e ≡ f = same_Some e f (sym at_j ∙ rw same at at_k) in
@@ -54,17 +54,17 @@ rises_by problem plan bound rules (suc n) j e f lt at_j at_k =
     let step : g.time ≤ f.time = rules (m + 1) (omega (arith, lt)) f time_rises there g (take m plan, take_one_more plan m g at_m) in
     omega (arith, step, rises_by problem plan bound rules n j e g (omega (arith, lt)) at_j at_m)
 
-pub rises_until : (problem : Problem) (plan : List Event) (bound : ℕ) → ((k : ℕ) → k < bound → KeepsRules problem plan k) → RisesUntil plan bound
+pub rises_until : (problem : Problem) (plan : List Event) (bound : ℕ) → ((k : ℕ) → k < bound → KeepsEventRules problem plan k) → RisesUntil plan bound
 rises_until problem plan bound rules j k e f le lt at_j at_k =
     let steps : j + (k - j) ≡ k = omega (arith, le) in
     let at : slice_get plan (j + (k - j)) ≡ Some f = rw steps at_k in
     rises_by problem plan bound rules (k - j) j e f (omega (arith, le, lt)) at_j at
 
-pub sound_at : (problem : Problem) (plan : List Event) (k : ℕ) → KeepsRules problem plan k → ((h : ℕ) → h < k → Passes problem plan h k) → IsSound problem plan k
+pub sound_at : (problem : Problem) (plan : List Event) (k : ℕ) → KeepsEventRules problem plan k → ((h : ℕ) → h < k → LetsThrough problem plan h k) → IsSound problem plan k
 sound_at problem plan k rules pass e at = record { rules = λ rule. rules e rule at; free = λ i d less there. pass i less d e there at }
 
-pub clash_is_held : (problem : Problem) (plan : List Event) (bound : ℕ) (clash : Clash) → ((k : ℕ) → k < bound → KeepsRules problem plan k) → IsFirstClash problem plan bound clash
-    → IsHeld problem plan clash.holder clash.event clash.resource
+pub clash_is_held : (problem : Problem) (plan : List Event) (bound : ℕ) (clash : Clash) → ((k : ℕ) → k < bound → KeepsEventRules problem plan k) → IsFirstHeldClash problem plan bound clash
+    → IsFirstHeld problem plan clash.holder clash.event clash.resource
 clash_is_held problem plan bound clash rules first = record {
   before = λ k less. sound_at problem plan k (rules k (omega (arith, less, first.bounded))) (λ h lt. first.earlier h k lt less);
   event = first.clashes.event;

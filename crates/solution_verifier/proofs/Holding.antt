@@ -1,4 +1,4 @@
--- When an event has ended, as more events come; and that events let each other pass, one after another.
+-- When an event has event_end, as more events come; and that events let each other pass, one after another.
 use Rattle.std.proofs.Common.{◌≡◌, ℕ, zero, suc, ◌+◌, ◌-◌, ◌<◌, ◌≤◌, List, [], ◌∷◌, ◌++◌, length, take, drop, cond, get_or, Option, Some, None, Bool, refl, sym, ap, subst, ◌∙◌, arith, append-nil, inl, inr}
 use Rattle.std.specs.Prelude.{nat_eq, slice_get, ◌≢◌, All}
 use Rattle.std.specs.List.{Any}
@@ -13,8 +13,8 @@ use Rattle.disp_model.specs.declared.problem.Problem.{Problem}
 use Rattle.disp_model.specs.Plan.{run_of}
 use Rattle.disp_model.specs.Train.{next_of, duration_of}
 use Rattle.disp_model.specs.Valid.{train_at}
-use Rattle.solution_verifier.specs.Held.{ended, ended_in, LetsBy, LetsPass, HasPassed, IsHeldBy, listings_at}
-use Rattle.solution_verifier.specs.Answered.{RisesUntil, Passes, IsFirstListing}
+use Rattle.solution_verifier.specs.Held.{event_end, ended_in, LetsBy, LetsPass, HasPassed, IsHeldBy, listings_at}
+use Rattle.solution_verifier.specs.Answered.{RisesUntil, LetsThrough, IsFirstListing}
 
 pub take_one_more : (plan : List Event) (j : ℕ) (e : Event) → slice_get plan j ≡ Some e → take (j + 1) plan ≡ take j plan ++ e ∷ []
 take_one_more plan j e at =
@@ -36,7 +36,7 @@ run_own t xs e same = run_push t xs e ∙ ap (λ (b : Bool). run_of t xs ++ cond
 pub run_other : (t : ℕ) (xs : List Event) (e : Event) → (e.train ≡ t → ⊥) → run_of t (xs ++ e ∷ []) ≡ run_of t xs
 run_other t xs e other = run_push t xs e ∙ ap (λ (b : Bool). run_of t xs ++ cond b (e ∷ []) []) (ne_eqb e.train t other) ∙ append-nil (run_of t xs)
 
-ended_more : (next : List ℕ) (own : ℕ) (run : List Event) (e : Event) → ended next own (run ++ e ∷ []) ≡ option_or (ended next own run) (Some e.time)
+ended_more : (next : List ℕ) (own : ℕ) (run : List Event) (e : Event) → event_end next own (run ++ e ∷ []) ≡ option_or (event_end next own run) (Some e.time)
 ended_more [] own run e = refl
 ended_more (s ∷ next) own [] e = refl
 ended_more (s ∷ next) own (f ∷ run) e = refl
@@ -47,27 +47,27 @@ ended_own problem plan i j d e lt at same =
     let next = next_of (train_at problem d.train) d.operation in
     let own = d.time + duration_of (train_at problem d.train) d.operation in
     let run = run_of d.train (drop (i + 1) (take j plan)) in
-    ap (λ (l : List Event). ended next own (run_of d.train l)) (between_more plan i j e lt at)
-    ∙ ap (ended next own) (run_own d.train (drop (i + 1) (take j plan)) e same) ∙ ended_more next own run e
+    ap (λ (l : List Event). event_end next own (run_of d.train l)) (between_more plan i j e lt at)
+    ∙ ap (event_end next own) (run_own d.train (drop (i + 1) (take j plan)) e same) ∙ ended_more next own run e
 
 pub ended_other : (problem : Problem) (plan : List Event) (i j : ℕ) (d e : Event) → i < j → slice_get plan j ≡ Some e → (e.train ≡ d.train → ⊥)
     → ended_in problem (take (j + 1) plan) i d ≡ ended_in problem (take j plan) i d
 ended_other problem plan i j d e lt at other =
     let next = next_of (train_at problem d.train) d.operation in
     let own = d.time + duration_of (train_at problem d.train) d.operation in
-    ap (λ (l : List Event). ended next own (run_of d.train l)) (between_more plan i j e lt at)
-    ∙ ap (ended next own) (run_other d.train (drop (i + 1) (take j plan)) e other)
+    ap (λ (l : List Event). event_end next own (run_of d.train l)) (between_more plan i j e lt at)
+    ∙ ap (event_end next own) (run_other d.train (drop (i + 1) (take j plan)) e other)
 
-pub passes_from : (problem : Problem) (plan : List Event) (i j : ℕ) (d e : Event) → slice_get plan i ≡ Some d → slice_get plan j ≡ Some e → LetsPass problem (take j plan) i d e → Passes problem plan i j
+pub passes_from : (problem : Problem) (plan : List Event) (i j : ℕ) (d e : Event) → slice_get plan i ≡ Some d → slice_get plan j ≡ Some e → LetsPass problem (take j plan) i d e → LetsThrough problem plan i j
 passes_from problem plan i j d e at_i at_j h c f there_i there_j =
     subst (λ (x : Event). LetsPass problem (take j plan) i x f) (same_Some d c (sym at_i ∙ there_i))
     (subst (λ (x : Event). LetsPass problem (take j plan) i d x) (same_Some e f (sym at_j ∙ there_j)) h)
 
-pub passes_more : (problem : Problem) (plan : List Event) (i j : ℕ) → ((k : ℕ) → i < k → k < j → Passes problem plan i k) → Passes problem plan i j → (k : ℕ) → i < k → k < j + 1 → Passes problem plan i k
+pub passes_more : (problem : Problem) (plan : List Event) (i j : ℕ) → ((k : ℕ) → i < k → k < j → LetsThrough problem plan i k) → LetsThrough problem plan i j → (k : ℕ) → i < k → k < j + 1 → LetsThrough problem plan i k
 passes_more problem plan i j below here k lo hi =
     elim (cases_lt k j) [
       | inl lt ↦ below k lo lt
-      | inr le ↦ let same : j ≡ k = omega (arith, le, hi) in subst (λ (m : ℕ). Passes problem plan i m) same here
+      | inr le ↦ let same : j ≡ k = omega (arith, le, hi) in subst (λ (m : ℕ). LetsThrough problem plan i m) same here
     ]
 
 -- what a test of listings tells, said of the events that list them
@@ -90,7 +90,7 @@ held_by problem stood i d e listings others end resource a b x trains h =
     let first = listed_so (λ (p q : List Listing) (y : Option ℕ). IsFirstListing p (λ l. Any (λ k. k.resource ≡ l.resource) q → HasPassed y l.release e.time) resource) problem stood i d e listings others end a b x h in
     record { trains = trains; place = first.place; listing = first.listing; listed = first.listed; held = first.bad; earlier = first.earlier; names = first.names }
 
--- once an event has ended it stays so
+-- once an event has event_end it stays so
 stays_ended : (problem : Problem) (plan : List Event) (i j n : ℕ) (d : Event) (t : ℕ) → i < j → j + n ≤ length plan → ended_in problem (take j plan) i d ≡ Some t → ended_in problem (take (j + n) plan) i d ≡ Some t
 stays_ended problem plan i j zero d t lt le is = let same : j + 0 ≡ j = omega arith in rw same is
 stays_ended problem plan i j (suc n) d t lt le is =
@@ -115,7 +115,7 @@ stays_passed problem plan i j n d release time later (Some t) lt le up is passed
 -- an event lets all later ones pass once all that it lists is released
 pub all_let_pass : (problem : Problem) (plan : List Event) (i j bound : ℕ) (d e : Event) (listings : List Listing) (end : Option ℕ) → i < j → bound ≤ length plan → RisesUntil plan bound
     → slice_get plan i ≡ Some d → slice_get plan j ≡ Some e → listings ≡ listings_at problem d → end ≡ ended_in problem (take j plan) i d → All (λ l. HasPassed end l.release e.time) listings
-    → ((k : ℕ) → i < k → k < j → Passes problem plan i k) → (k : ℕ) → i < k → k < bound → Passes problem plan i k
+    → ((k : ℕ) → i < k → k < j → LetsThrough problem plan i k) → (k : ℕ) → i < k → k < bound → LetsThrough problem plan i k
 all_let_pass problem plan i j bound d e listings end lt long up at_i at_j a x passed below k lo hi =
     elim (cases_lt k j) [
       | inl less ↦ below k lo less

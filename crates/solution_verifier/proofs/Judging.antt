@@ -9,12 +9,12 @@ use Rattle.disp_model.specs.declared.train.Operation.{Operation}
 use Rattle.disp_model.specs.declared.problem.Problem.{Problem}
 use Rattle.disp_model.specs.Train.{IsEntry, next_of}
 use Rattle.disp_model.specs.Valid.{operation_of}
-use Rattle.solution_verifier.specs.Rules.{Rule, rank, Keeps}
+use Rattle.solution_verifier.specs.Rules.{Rule, rank, KeepsRule}
 use Rattle.solution_verifier.specs.Judged.{IsLast, fault_of, IsFaultOf}
 use Rattle.solution_verifier.proofs.Ranks.{KeptBelow}
 use Rattle.solution_verifier.proofs.Ends.{none_ends}
 
-pub broken_at : (problem : Problem) (stood : List Event) (e : Event) (rule : Rule) → KeptBelow (Keeps problem stood e) (rank rule) → (Keeps problem stood e rule → ⊥) → IsFaultOf problem stood e (fault_of rule (length stood))
+pub broken_at : (problem : Problem) (stood : List Event) (e : Event) (rule : Rule) → KeptBelow (KeepsRule problem stood e) (rank rule) → (KeepsRule problem stood e rule → ⊥) → IsFaultOf problem stood e (fault_of rule (length stood))
 broken_at problem stood e rule below broken = (rule, refl, record { broken = broken; earlier = below })
 
 -- a test that fails refutes what it tells

@@ -15,7 +15,7 @@ use Rattle.disp_model.specs.Train.{duration_of, IsRoute, IsEntry, IsSuccessor}
 use Rattle.disp_model.specs.Valid.{train_at, operation_of, IsValid, MayStart, KeepApart}
 use Rattle.disp_model.specs.Fixing.{IsMet}
 use Rattle.disp_laws.proofs.Runs.{Spaced, lasts_from_runs}
-use Rattle.solution_verifier.specs.Rules.{EndsWith, Rule, Keeps, train_there, operation_there, time_rises, first_is_entry, next_is_successor, from_lower, until_upper, lasts_its_duration}
+use Rattle.solution_verifier.specs.Rules.{EndsWith, Rule, KeepsRule, train_there, operation_there, time_rises, first_is_entry, next_is_successor, from_lower, until_upper, lasts_its_duration}
 use Rattle.solution_verifier.specs.Held.{IsSound, LetsBy, listings_at, HasPassed, ended_in}
 use Rattle.solution_verifier.specs.First.{IsComplete}
 use Rattle.solution_verifier.proofs.Holding.{take_one_more}
@@ -32,7 +32,7 @@ AllComplete problem plan = (t : ℕ) → t < length problem.trains → IsComplet
 all_from : (P : Event → Type 0) (plan : List Event) → ((k : ℕ) (e : Event) → slice_get plan k ≡ Some e → P e) → All P plan
 all_from P plan each k d lt = each k (get_or plan k d) (slice_get-get_or plan k d lt)
 
-rule_at : (problem : Problem) (plan : List Event) → AllSound problem plan → (k : ℕ) (e : Event) → slice_get plan k ≡ Some e → (rule : Rule) → Keeps problem (take k plan) e rule
+rule_at : (problem : Problem) (plan : List Event) → AllSound problem plan → (k : ℕ) (e : Event) → slice_get plan k ≡ Some e → (rule : Rule) → KeepsRule problem (take k plan) e rule
 rule_at problem plan sound k e at rule = (sound k e at).rules rule
 
 there_is_some : (train : List Operation) (o : ℕ) (found : Option Operation) → slice_get train o ≡ found → o < length train → IsSome found

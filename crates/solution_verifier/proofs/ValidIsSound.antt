@@ -16,7 +16,7 @@ use Rattle.disp_model.specs.Valid.{train_at, operation_of, IsValid, MayStart, Ke
 use Rattle.disp_laws.proofs.Branching.{named_train, route_from}
 use Rattle.disp_laws.proofs.Runs.{Spaced}
 use Rattle.disp_laws.proofs.Positions.{named_at, valid_spaced}
-use Rattle.solution_verifier.specs.Rules.{EndsWith, Rule, Keeps, train_there, operation_there, time_rises, first_is_entry, next_is_successor, from_lower, until_upper, lasts_its_duration}
+use Rattle.solution_verifier.specs.Rules.{EndsWith, Rule, KeepsRule, train_there, operation_there, time_rises, first_is_entry, next_is_successor, from_lower, until_upper, lasts_its_duration}
 use Rattle.solution_verifier.specs.Held.{IsSound, LetsBy, listings_at}
 use Rattle.solution_verifier.specs.First.{IsComplete}
 use Rattle.solution_verifier.proofs.Ends.{run_split}
@@ -93,7 +93,7 @@ window problem fixings plan j e valid at o is =
     subst (λ (x : Event). IfSome (operation_of problem x) (λ p. MayStart p x.time)) (get_or_from_slice_get plan j e e at) (valid.windows j e (slice_get_within plan j e at)) in
     rw is at here
 
-rules : (problem : Problem) (fixings : List Fixing) (plan : List Event) (j : ℕ) (e : Event) → IsValid problem fixings plan → slice_get plan j ≡ Some e → (rule : Rule) → Keeps problem (take j plan) e rule
+rules : (problem : Problem) (fixings : List Fixing) (plan : List Event) (j : ℕ) (e : Event) → IsValid problem fixings plan → slice_get plan j ≡ Some e → (rule : Rule) → KeepsRule problem (take j plan) e rule
 rules problem fixings plan j e valid at train_there = named_train problem e (named_at problem fixings plan j e valid at)
 rules problem fixings plan j e valid at operation_there = some_is_there (train_at problem e.train) e.operation (operation_of problem e) refl (named_at problem fixings plan j e valid at)
 rules problem fixings plan j e valid at time_rises = rises problem fixings plan j e valid at

@@ -7,17 +7,17 @@ use Rattle.solution_verifier.specs.declared.fault.Fault.{Fault}
 use Rattle.solution_verifier.specs.declared.fault.Fault.TheVariants.{Held, Incomplete}
 use Rattle.solution_verifier.specs.declared.clash.Clash.{Clash}
 use Rattle.solution_verifier.specs.Judged.{fault_of}
-use Rattle.solution_verifier.specs.Rules.{Rule, Keeps}
+use Rattle.solution_verifier.specs.Rules.{Rule, KeepsRule}
 use Rattle.solution_verifier.specs.Held.{LetsPass, IsHeldBy}
-use Rattle.solution_verifier.specs.First.{Breaks, IsHeld, IsComplete}
+use Rattle.solution_verifier.specs.First.{BreaksRuleFirst, IsFirstHeld, IsComplete}
 
 -- times do not fall along the events before a bound
 abbrev pub RisesUntil : List Event → ℕ → Type 0
 RisesUntil plan bound = (j k : ℕ) (e f : Event) → j ≤ k → k < bound → slice_get plan j ≡ Some e → slice_get plan k ≡ Some f → e.time ≤ f.time
 
 -- the event at position i lets the event at j pass, where both are there
-abbrev pub Passes : Problem → List Event → ℕ → ℕ → Type 0
-Passes problem plan i j = (d e : Event) → slice_get plan i ≡ Some d → slice_get plan j ≡ Some e → LetsPass problem (take j plan) i d e
+abbrev pub LetsThrough : Problem → List Event → ℕ → ℕ → Type 0
+LetsThrough problem plan i j = (d e : Event) → slice_get plan i ≡ Some d → slice_get plan j ≡ Some e → LetsPass problem (take j plan) i d e
 
 -- the first listing that is not good is of this resource
 pub record IsFirstListing (listings : List Listing) (Good : Listing → Type 0) (resource : ℕ) : Type 0 where
@@ -42,24 +42,24 @@ pub record IsFirstHeldOf (problem : Problem) (plan : List Event) (i bound : ℕ)
   pub clashes : IsClash problem plan clash
   pub holder_is : clash.holder ≡ i
   pub bounded : clash.event < bound
-  pub earlier : (k : ℕ) → i < k → k < clash.event → Passes problem plan i k
+  pub earlier : (k : ℕ) → i < k → k < clash.event → LetsThrough problem plan i k
 
 -- the clash is of the first event that is not let pass, before a bound, with the first that does not let it
-pub record IsFirstClash (problem : Problem) (plan : List Event) (bound : ℕ) (clash : Clash) : Type 0 where
+pub record IsFirstHeldClash (problem : Problem) (plan : List Event) (bound : ℕ) (clash : Clash) : Type 0 where
   pub clashes : IsClash problem plan clash
   pub bounded : clash.event < bound
-  pub earlier : (h k : ℕ) → h < k → k < clash.event → Passes problem plan h k
-  pub lesser : (h : ℕ) → h < clash.holder → Passes problem plan h clash.event
+  pub earlier : (h k : ℕ) → h < k → k < clash.event → LetsThrough problem plan h k
+  pub lesser : (h : ℕ) → h < clash.holder → LetsThrough problem plan h clash.event
 
 -- the fault is that of the first event that is not sound
 abbrev pub IsEventFault : Problem → List Event → Fault → Type 0
 IsEventFault problem plan fault =
-    ((rule : Rule) × (j : ℕ) × (fault ≡ fault_of rule j) × Breaks problem plan rule j)
-    ⊎ ((i : ℕ) × (j : ℕ) × (resource : ℕ) × (fault ≡ Held i j resource) × IsHeld problem plan i j resource)
+    ((rule : Rule) × (j : ℕ) × (fault ≡ fault_of rule j) × BreaksRuleFirst problem plan rule j)
+    ⊎ ((i : ℕ) × (j : ℕ) × (resource : ℕ) × (fault ≡ Held i j resource) × IsFirstHeld problem plan i j resource)
 
 -- the event at position k, if there is one, keeps the rules
-abbrev pub KeepsRules : Problem → List Event → ℕ → Type 0
-KeepsRules problem plan k = (e : Event) (rule : Rule) → slice_get plan k ≡ Some e → Keeps problem (take k plan) e rule
+abbrev pub KeepsEventRules : Problem → List Event → ℕ → Type 0
+KeepsEventRules problem plan k = (e : Event) (rule : Rule) → slice_get plan k ≡ Some e → KeepsRule problem (take k plan) e rule
 
 -- the fault is that of the first train that is not complete
 pub record IsOpenFault (problem : Problem) (plan : List Event) (fault : Fault) : Type 0 where
@@ -74,4 +74,4 @@ pub record IsLeastClash (problem : Problem) (plan : List Event) (bound event : �
   pub clashes : IsClash problem plan clash
   pub event_is : clash.event ≡ event
   pub bounded : event < bound
-  pub lesser : (h : ℕ) → h < clash.holder → Passes problem plan h event
+  pub lesser : (h : ℕ) → h < clash.holder → LetsThrough problem plan h event

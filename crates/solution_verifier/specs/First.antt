@@ -10,22 +10,22 @@ use Rattle.disp_model.specs.Valid.{train_at, IsValid}
 use Rattle.disp_model.specs.Cost.{cost_of}
 use Rattle.solution_verifier.specs.declared.fault.Fault.{Fault}
 use Rattle.solution_verifier.specs.declared.fault.Fault.TheVariants.{UnknownTrain, UnknownOperation, TimeBackwards, NotEntry, NotSuccessor, TooEarly, TooLate, TooShort, Held, Incomplete, FixingUnmet, WrongCost}
-use Rattle.solution_verifier.specs.Rules.{EndsWith, Rule, train_there, operation_there, time_rises, first_is_entry, next_is_successor, from_lower, until_upper, lasts_its_duration, Keeps, IsFirstBroken}
+use Rattle.solution_verifier.specs.Rules.{EndsWith, Rule, train_there, operation_there, time_rises, first_is_entry, next_is_successor, from_lower, until_upper, lasts_its_duration, KeepsRule, IsFirstBroken}
 use Rattle.solution_verifier.specs.Held.{LetsPass, IsHeldBy, IsSound}
 
 -- the first event that is not sound is at j, and the first rule that it breaks is this one
-pub record Breaks (problem : Problem) (plan : List Event) (rule : Rule) (j : ℕ) : Type 0 where
+pub record BreaksRuleFirst (problem : Problem) (plan : List Event) (rule : Rule) (j : ℕ) : Type 0 where
   pub before : (k : ℕ) → k < j → IsSound problem plan k
   pub event : Event
   pub there : slice_get plan j ≡ Some event
   pub first : IsFirstBroken problem (take j plan) event rule
 
 -- the first event that is not sound is at j, it keeps the rules, and the first event that does not let it pass is at i, by a resource
-pub record IsHeld (problem : Problem) (plan : List Event) (i j resource : ℕ) : Type 0 where
+pub record IsFirstHeld (problem : Problem) (plan : List Event) (i j resource : ℕ) : Type 0 where
   pub before : (k : ℕ) → k < j → IsSound problem plan k
   pub event : Event
   pub there : slice_get plan j ≡ Some event
-  pub rules : (rule : Rule) → Keeps problem (take j plan) event rule
+  pub rules : (rule : Rule) → KeepsRule problem (take j plan) event rule
   pub earlier : (h : ℕ) (c : Event) → h < i → slice_get plan h ≡ Some c → LetsPass problem (take j plan) h c event
   pub order : i < j
   pub holder : Event
@@ -62,15 +62,15 @@ pub record IsWrongCost (problem : Problem) (fixings : List Fixing) (plan : List 
 
 -- this is the first fault of a plan, with the cost that was stated
 abbrev pub IsFirstFault : Problem → List Fixing → List Event → Option ℕ → Fault → Type 0
-IsFirstFault problem fixings plan stated (UnknownTrain j) = Breaks problem plan train_there j
-IsFirstFault problem fixings plan stated (UnknownOperation j) = Breaks problem plan operation_there j
-IsFirstFault problem fixings plan stated (TimeBackwards j) = Breaks problem plan time_rises j
-IsFirstFault problem fixings plan stated (NotEntry j) = Breaks problem plan first_is_entry j
-IsFirstFault problem fixings plan stated (NotSuccessor j) = Breaks problem plan next_is_successor j
-IsFirstFault problem fixings plan stated (TooEarly j) = Breaks problem plan from_lower j
-IsFirstFault problem fixings plan stated (TooLate j) = Breaks problem plan until_upper j
-IsFirstFault problem fixings plan stated (TooShort j) = Breaks problem plan lasts_its_duration j
-IsFirstFault problem fixings plan stated (Held i j resource) = IsHeld problem plan i j resource
+IsFirstFault problem fixings plan stated (UnknownTrain j) = BreaksRuleFirst problem plan train_there j
+IsFirstFault problem fixings plan stated (UnknownOperation j) = BreaksRuleFirst problem plan operation_there j
+IsFirstFault problem fixings plan stated (TimeBackwards j) = BreaksRuleFirst problem plan time_rises j
+IsFirstFault problem fixings plan stated (NotEntry j) = BreaksRuleFirst problem plan first_is_entry j
+IsFirstFault problem fixings plan stated (NotSuccessor j) = BreaksRuleFirst problem plan next_is_successor j
+IsFirstFault problem fixings plan stated (TooEarly j) = BreaksRuleFirst problem plan from_lower j
+IsFirstFault problem fixings plan stated (TooLate j) = BreaksRuleFirst problem plan until_upper j
+IsFirstFault problem fixings plan stated (TooShort j) = BreaksRuleFirst problem plan lasts_its_duration j
+IsFirstFault problem fixings plan stated (Held i j resource) = IsFirstHeld problem plan i j resource
 IsFirstFault problem fixings plan stated (Incomplete t) = IsFirstOpen problem plan t
 IsFirstFault problem fixings plan stated (FixingUnmet k) = IsFirstUnmet problem fixings plan k
 IsFirstFault problem fixings plan stated (WrongCost claimed actual) = IsWrongCost problem fixings plan stated claimed actual

@@ -4,7 +4,7 @@ use Rattle.disp_model.specs.declared.plan.Event.{Event}
 use Rattle.disp_model.specs.declared.problem.Problem.{Problem}
 use Rattle.solution_verifier.specs.declared.fault.Fault.{Fault}
 use Rattle.solution_verifier.specs.declared.fault.Fault.TheVariants.{UnknownTrain, UnknownOperation, TimeBackwards, NotEntry, NotSuccessor, TooEarly, TooLate, TooShort}
-use Rattle.solution_verifier.specs.Rules.{EndsWith, Rule, train_there, operation_there, time_rises, first_is_entry, next_is_successor, from_lower, until_upper, lasts_its_duration, Keeps, IsFirstBroken}
+use Rattle.solution_verifier.specs.Rules.{EndsWith, Rule, train_there, operation_there, time_rises, first_is_entry, next_is_successor, from_lower, until_upper, lasts_its_duration, KeepsRule, IsFirstBroken}
 
 -- the last event of a list, if there is one
 abbrev pub IsLast : List Event → Option Event → Type 0
@@ -26,5 +26,5 @@ abbrev pub IsFaultOf : Problem → List Event → Event → Fault → Type 0
 IsFaultOf problem stood e fault = (rule : Rule) × (fault ≡ fault_of rule (length stood)) × IsFirstBroken problem stood e rule
 
 -- the event keeps each rule, or the fault is that of the first that it breaks
-abbrev pub IsJudged : Problem → List Event → Event → Result (Unit {0}) Fault → Type 0
-IsJudged problem stood e answer = MatchResult answer (λ _. (rule : Rule) → Keeps problem stood e rule) (IsFaultOf problem stood e)
+abbrev pub IsEventJudged : Problem → List Event → Event → Result (Unit {0}) Fault → Type 0
+IsEventJudged problem stood e answer = MatchResult answer (λ _. (rule : Rule) → KeepsRule problem stood e rule) (IsFaultOf problem stood e)

@@ -34,27 +34,27 @@ rank until_upper = 6
 rank lasts_its_duration = 7
 
 -- the event e, before which these events stand, keeps a rule
-abbrev pub Keeps : Problem → List Event → Event → Rule → Type 0
+abbrev pub KeepsRule : Problem → List Event → Event → Rule → Type 0
 -- its train is there
-Keeps problem stood e train_there = e.train < length problem.trains
+KeepsRule problem stood e train_there = e.train < length problem.trains
 -- its train has the operation
-Keeps problem stood e operation_there = e.operation < length (train_at problem e.train)
+KeepsRule problem stood e operation_there = e.operation < length (train_at problem e.train)
 -- it is no earlier than the event before it
-Keeps problem stood e time_rises = (d : Event) → EndsWith stood d → d.time ≤ e.time
+KeepsRule problem stood e time_rises = (d : Event) → EndsWith stood d → d.time ≤ e.time
 -- the first event of a train is an entry
-Keeps problem stood e first_is_entry = run_of e.train stood ≡ [] → IsEntry (train_at problem e.train) e.operation
+KeepsRule problem stood e first_is_entry = run_of e.train stood ≡ [] → IsEntry (train_at problem e.train) e.operation
 -- any other is a successor of its train's event before it
-Keeps problem stood e next_is_successor =
+KeepsRule problem stood e next_is_successor =
     (d : Event) → EndsWith (run_of e.train stood) d → IsSuccessor (train_at problem e.train) d.operation e.operation
 -- it starts at its operation's lower or later
-Keeps problem stood e from_lower = (o : Operation) → operation_of problem e ≡ Some o → o.lower ≤ e.time
+KeepsRule problem stood e from_lower = (o : Operation) → operation_of problem e ≡ Some o → o.lower ≤ e.time
 -- and not after its upper
-Keeps problem stood e until_upper = (o : Operation) → operation_of problem e ≡ Some o → IfSome o.upper (λ u. e.time ≤ u)
+KeepsRule problem stood e until_upper = (o : Operation) → operation_of problem e ≡ Some o → IfSome o.upper (λ u. e.time ≤ u)
 -- its train's event before it lasts its operation's duration at least
-Keeps problem stood e lasts_its_duration =
+KeepsRule problem stood e lasts_its_duration =
     (d : Event) → EndsWith (run_of e.train stood) d → d.time + duration_of (train_at problem e.train) d.operation ≤ e.time
 
 -- of the rules, this is the first that the event does not keep
 pub record IsFirstBroken (problem : Problem) (stood : List Event) (e : Event) (rule : Rule) : Type 0 where
-  pub broken : Keeps problem stood e rule → ⊥
-  pub earlier : (other : Rule) → rank other < rank rule → Keeps problem stood e other
+  pub broken : KeepsRule problem stood e rule → ⊥
+  pub earlier : (other : Rule) → rank other < rank rule → KeepsRule problem stood e other

@@ -5,7 +5,7 @@ ghost use Rattle.disp_model.specs.Plan.{run_of};
 ghost use Rattle.disp_model.specs.Train.{IsSuccessor, duration_of};
 ghost use Rattle.disp_model.specs.Valid.{operation_of};
 ghost use Rattle.solution_verifier.specs.Rules.{EndsWith};
-ghost use Rattle.solution_verifier.specs.Judged.{IsLast, IsJudged};
+ghost use Rattle.solution_verifier.specs.Judged.{IsLast, IsEventJudged};
 
 use crate::fault::Fault;
 use disp_model::{Event, Operation, Problem};
@@ -105,7 +105,7 @@ fn is_in_order(stood: &[Event], time: u64) -> bool
 /// Judges an event by the rules that it keeps by itself and with its own train. The events before
 /// it are those that stood.
 pub(crate) fn judge(problem: &Problem, stood: &[Event], event: &Event) -> Result<(), Fault>
-    ensures { IsJudged problem.now stood.now event.now result }
+    ensures { IsEventJudged problem.now stood.now event.now result }
 {
     let at = stood.len() as u64;
     let Some(train) = problem.trains.as_slice().get(event.train as usize) else {

@@ -3,8 +3,8 @@ ghost use Rattle.std.specs.List.{Any};
 ghost use Rattle.disp_model.specs.declared.train.Listing.{Listing};
 ghost use Rattle.disp_model.specs.Train.{next_of, duration_of};
 ghost use Rattle.disp_model.specs.Valid.{train_at};
-ghost use Rattle.solution_verifier.specs.Held.{HasPassed, ended, listings_at};
-ghost use Rattle.solution_verifier.specs.Answered.{RisesUntil, Passes, IsFirstListing, IsFirstHeldOf, IsFirstClash};
+ghost use Rattle.solution_verifier.specs.Held.{HasPassed, event_end, listings_at};
+ghost use Rattle.solution_verifier.specs.Answered.{RisesUntil, LetsThrough, IsFirstListing, IsFirstHeldOf, IsFirstHeldClash};
 
 use crate::clash::Clash;
 use crate::event::operation_of;
@@ -67,9 +67,10 @@ fn held_resource(
     None
 }
 
-/// When an event has ended of itself: an exit after its duration, no other.
+/// When an event has event_end of itself: an exit after its duration, no other.
 fn own_end(problem: &Problem, event: &Event) -> Option<u128>
-    ensures { result ≡ ended (next_of (train_at problem.now event.now.train) event.now.operation)
+    ensures { result ≡ event_end
+        (next_of (train_at problem.now event.now.train) event.now.operation)
         (event.now.time + duration_of (train_at problem.now event.now.train) event.now.operation)
         [] }
 {
@@ -89,7 +90,7 @@ fn first_held(problem: &Problem, events: &[Event], place: usize, bound: usize) -
     requires bound { bound ≤ length events.now }
     requires order { RisesUntil events.now bound }
     ensures { MatchOption result
-        ((k : ℕ) → place < k → k < bound → Passes problem.now events.now place k)
+        ((k : ℕ) → place < k → k < bound → LetsThrough problem.now events.now place k)
         (IsFirstHeldOf problem.now events.now place bound) }
 {
     let holder = events[place];
@@ -120,8 +121,9 @@ fn first_held(problem: &Problem, events: &[Event], place: usize, bound: usize) -
 pub(crate) fn first_clash(problem: &Problem, events: &[Event], bound: usize) -> Option<Clash>
     requires bound { bound ≤ length events.now }
     requires order { RisesUntil events.now bound }
-    ensures { MatchOption result ((h k : ℕ) → h < k → k < bound → Passes problem.now events.now h k)
-        (IsFirstClash problem.now events.now bound) }
+    ensures { MatchOption result
+        ((h k : ℕ) → h < k → k < bound → LetsThrough problem.now events.now h k)
+        (IsFirstHeldClash problem.now events.now bound) }
 {
     let mut found = None;
     let mut limit = bound;

@@ -1,8 +1,8 @@
 ghost use Rattle.std.specs.Prelude.{◌≡◌, ℕ, ◌<◌, ◌≤◌, ◌↔◌, IsTrue, MatchOption, MatchResult, length};
 ghost use Rattle.disp_model.specs.Train.{IsExit};
 ghost use Rattle.solution_verifier.specs.Held.{IsSound};
-ghost use Rattle.solution_verifier.specs.First.{IsComplete, IsHeld};
-ghost use Rattle.solution_verifier.specs.Answered.{KeepsRules, IsEventFault, IsOpenFault};
+ghost use Rattle.solution_verifier.specs.First.{IsComplete, IsFirstHeld};
+ghost use Rattle.solution_verifier.specs.Answered.{KeepsEventRules, IsEventFault, IsOpenFault};
 
 use crate::event::{judge, last_of};
 use crate::fault::Fault;
@@ -12,7 +12,7 @@ use disp_model::{Event, Operation, Problem};
 /// Judges whether events before a bound, which keep the rules by themselves, let each other pass.
 fn judge_clashes(problem: &Problem, events: &[Event], bound: usize) -> Result<(), Fault>
     requires bound { bound ≤ length events.now }
-    requires rules { (k : ℕ) → k < bound → KeepsRules problem.now events.now k }
+    requires rules { (k : ℕ) → k < bound → KeepsEventRules problem.now events.now k }
     ensures { MatchResult result (λ _. (k : ℕ) → k < bound → IsSound problem.now events.now k)
         (IsEventFault problem.now events.now) }
 {

@@ -10,7 +10,7 @@ use Rattle.plain_values.proofs.Lists.{contains_none, contains_one}
 use Rattle.disp_model.specs.declared.train.Operation.{Operation}
 use Rattle.disp_model.specs.Train.{next_of}
 use Rattle.train_graphs.specs.Graphs.{IsOnCycle, HasNoCycle, AreInside, IsLeastOnCycle, IsFirstLoop}
-use Rattle.train_graphs.specs.Reach.{Visits, AreReached, unmarked}
+use Rattle.train_graphs.specs.Reach.{Visits, AreMarksReached, unmarked}
 use Rattle.train_graphs.proofs.Reached.{visits_new, visits_then, reached_first, reached_more, marked_on_cycle, on_cycle_within, no_cycle_more}
 
 -- ---- one search
@@ -76,25 +76,25 @@ none_left : (xs : List ℕ) → length xs ≤ 0 → xs ≡ []
 none_left [] le = refl
 none_left (x ∷ xs) le = absurd (omega arith)
 
-go_on : (train : List Operation) → AreInside train → (start fuel : ℕ) (marks : List Bool) (ahead : List ℕ) → unmarked marks + length ahead ≤ fuel → AreReached train start marks ahead → (all : List Bool) × AreReached train start all []
-go_on train inside start zero marks ahead le r = let none : ahead ≡ [] = none_left ahead (omega arith) in (marks, subst (λ l. AreReached train start marks l) none r)
+go_on : (train : List Operation) → AreInside train → (start fuel : ℕ) (marks : List Bool) (ahead : List ℕ) → unmarked marks + length ahead ≤ fuel → AreMarksReached train start marks ahead → (all : List Bool) × AreMarksReached train start all []
+go_on train inside start zero marks ahead le r = let none : ahead ≡ [] = none_left ahead (omega arith) in (marks, subst (λ l. AreMarksReached train start marks l) none r)
 go_on train inside start (suc fuel) marks ahead le r = elim (last_of ahead) [
-  | inl e ↦ (marks, subst (λ l. AreReached train start marks l) e r)
+  | inl e ↦ (marks, subst (λ l. AreMarksReached train start marks l) e r)
   | inr p ↦
-      let waits : AreReached train start marks (p.0 ++ p.1 ∷ []) = subst (λ l. AreReached train start marks l) p.2 r in
+      let waits : AreMarksReached train start marks (p.0 ++ p.1 ∷ []) = subst (λ l. AreMarksReached train start marks l) p.2 r in
       let v = visit (next_of train p.1) marks p.0 (subst (λ n. AllByRecursion (λ s. s < n) (next_of train p.1)) (sym r.long) (next_within train inside p.1)) in
       let long : length ahead ≡ length p.0 + 1 = ap length p.2 ∙ length_push p.0 p.1 in
       go_on train inside start fuel v.0 v.1 (omega (arith, v.2.work, le, long)) (reached_more train start p.1 marks v.0 p.0 v.1 waits v.2)
 ]
 
-search_from : (train : List Operation) → AreInside train → (start : ℕ) → (all : List Bool) × AreReached train start all []
+search_from : (train : List Operation) → AreInside train → (start : ℕ) → (all : List Bool) × AreMarksReached train start all []
 search_from train inside start =
     let v = visit (next_of train start) (replicate (length train) false) [] (subst (λ n. AllByRecursion (λ s. s < n) (next_of train start)) (sym (length-replicate (length train) false)) (next_within train inside start)) in
     go_on train inside start (unmarked v.0 + length v.1) v.0 v.1 (le_refl _) (reached_first train start v.0 v.1 v.2)
 
 -- ---- cycles
 
-by_mark : (train : List Operation) (o : ℕ) (marks : List Bool) → AreReached train o marks [] → (b : Bool) → get_or marks o false ≡ b → IsOnCycle train o ⊎ (IsOnCycle train o → ⊥)
+by_mark : (train : List Operation) (o : ℕ) (marks : List Bool) → AreMarksReached train o marks [] → (b : Bool) → get_or marks o false ≡ b → IsOnCycle train o ⊎ (IsOnCycle train o → ⊥)
 by_mark train o marks r true e = inl ((marked_on_cycle train o marks r).0 e)
 by_mark train o marks r false e = inr (λ way. false≢true (sym e ∙ (marked_on_cycle train o marks r).1 way))
 

@@ -10,7 +10,7 @@ use Rattle.std.proofs.lemmas.Option.{same_Some, none-some, slice_get-get_or}
 use Rattle.std.proofs.lemmas.List.Sums.{sum_by-cons}
 use Rattle.disp_model.specs.declared.train.Operation.{Operation}
 use Rattle.disp_model.specs.Train.{IsSuccessor, IsEntry, IsExit}
-use Rattle.train_graphs.specs.Graphs.{is_named, entry_count, exit_count, marked}
+use Rattle.train_graphs.specs.Graphs.{is_named, entry_count, exit_count, marked_all}
 
 -- ---- a count of one
 
@@ -108,11 +108,11 @@ one_exit train one o p a b =
 
 -- ---- marks
 
-pub marked_length : (marks : List Bool) (ns : List ℕ) → length (marked marks ns) ≡ length marks
+pub marked_length : (marks : List Bool) (ns : List ℕ) → length (marked_all marks ns) ≡ length marks
 marked_length marks [] = refl
 marked_length marks (n ∷ ns) = marked_length (set marks n true) ns ∙ length-set marks n true
 
-pub marked_append : (marks : List Bool) (a b : List ℕ) → marked marks (a ++ b) ≡ marked (marked marks a) b
+pub marked_append : (marks : List Bool) (a b : List ℕ) → marked_all marks (a ++ b) ≡ marked_all (marked_all marks a) b
 marked_append marks [] b = refl
 marked_append marks (n ∷ a) b = marked_append (slice_set marks n true) a b
 
@@ -125,8 +125,8 @@ flat_more (p ∷ train) (suc i) d lt =
 
 -- the successors of one more operation
 pub marked_more : (marks : List Bool) (train : List Operation) (i : ℕ) (d : Operation) → i < length train
-    → marked marks (flat_map (λ p. p.next) (take (i + 1) train)) ≡ marked (marked marks (flat_map (λ p. p.next) (take i train))) (get_or train i d).next
-marked_more marks train i d lt = ap (marked marks) (flat_more train i d lt) ∙ marked_append marks (flat_map (λ p. p.next) (take i train)) (get_or train i d).next
+    → marked_all marks (flat_map (λ p. p.next) (take (i + 1) train)) ≡ marked_all (marked_all marks (flat_map (λ p. p.next) (take i train))) (get_or train i d).next
+marked_more marks train i d lt = ap (marked_all marks) (flat_more train i d lt) ∙ marked_append marks (flat_map (λ p. p.next) (take i train)) (get_or train i d).next
 
 swapped : (a b c : Bool) → ((a || b) || c) ≡ (b || (a || c))
 swapped true true c = refl
@@ -143,7 +143,7 @@ set_get marks n o lt = by (nat_eq o n) refl
     by false e = get_or-set_other marks n o true false (λ same. let t : nat_eq o n ≡ true = eq-eqb o n same in false≢true (sym e ∙ t))
 
 -- the mark of an operation: it had one, or is among the numbers
-marked_get : (marks : List Bool) (ns : List ℕ) (o : ℕ) → o < length marks → get_or (marked marks ns) o false ≡ (get_or marks o false || list_any (nat_eq o) ns)
+marked_get : (marks : List Bool) (ns : List ℕ) (o : ℕ) → o < length marks → get_or (marked_all marks ns) o false ≡ (get_or marks o false || list_any (nat_eq o) ns)
 marked_get marks [] o lt = or_false (get_or marks o false)
   where
     or_false : (b : Bool) → b ≡ (b || false)
@@ -170,14 +170,14 @@ named_flat : (train : List Operation) (o : ℕ) → list_any (nat_eq o) (flat_ma
 named_flat [] o = refl
 named_flat (p ∷ train) o = list_any-append (nat_eq o) p.next (flat_map (λ q. q.next) train) ∙ ap (λ b. list_any (nat_eq o) p.next || b) (named_flat train o)
 
--- the operations that have no mark, once the successors of all are marked
-pub count_entries : (train : List Operation) → count_by (λ b. not b) (marked (replicate (length train) false) (flat_map (λ p. p.next) train)) ≡ entry_count train
+-- the operations that have no mark, once the successors of all are marked_all
+pub count_entries : (train : List Operation) → count_by (λ b. not b) (marked_all (replicate (length train) false) (flat_map (λ p. p.next) train)) ≡ entry_count train
 count_entries train =
     let n = length train in
     let ns = flat_map (λ (p : Operation). p.next) train in
     let clear = replicate n false in
-    let long : length (marked clear ns) ≡ n = marked_length clear ns ∙ length-replicate n false in
-    count_marks (marked clear ns) (is_named train) 0 (λ o lt.
+    let long : length (marked_all clear ns) ≡ n = marked_length clear ns ∙ length-replicate n false in
+    count_marks (marked_all clear ns) (is_named train) 0 (λ o lt.
     let within : o < n = omega (arith, long) in
     let there : o < length clear = omega (arith, length-replicate n false) in
     let zero_more : o ≡ 0 + o = omega arith in

@@ -10,8 +10,8 @@ use Rattle.disp_model.specs.declared.train.Operation.{Operation}
 use Rattle.disp_model.specs.Train.{next_of, IsSuccessor}
 use Rattle.disp_model.specs.WellFormed.{LeadsTo}
 use Rattle.train_graphs.specs.Graphs.{IsOnCycle, HasNoCycle, AreInside}
-use Rattle.train_graphs.specs.Ranks.{IsAbove, IsNotBelow, Rises, RisesBefore, NeverFalls}
-use Rattle.train_graphs.specs.Reach.{IsReached, IsMarked, unmarked, Visits, AreReached}
+use Rattle.train_graphs.specs.Ranks.{HasRankAbove, IsNotBelow, Rises, RisesBefore, NeverFalls}
+use Rattle.train_graphs.specs.Reach.{IsReached, IsMarked, unmarked, Visits, AreMarksReached}
 use Rattle.train_graphs.proofs.Marks.{count_cons}
 
 contains_itself : (a : ℕ) → Contains (a ∷ []) a
@@ -98,7 +98,7 @@ none_clear n s m = elim (cases_lt s n) [
 ]
 
 -- the successors of the first are visited
-pub reached_first : (train : List Operation) (start : ℕ) (marks : List Bool) (ahead : List ℕ) → Visits (next_of train start) (replicate (length train) false) marks [] ahead → AreReached train start marks ahead
+pub reached_first : (train : List Operation) (start : ℕ) (marks : List Bool) (ahead : List ℕ) → Visits (next_of train start) (replicate (length train) false) marks [] ahead → AreMarksReached train start marks ahead
 reached_first train start marks ahead v = record {
   long = v.long ∙ length-replicate (length train) false;
   sound = λ s m. sound s (v.found s m);
@@ -120,7 +120,7 @@ reached_first train start marks ahead v = record {
     closed p (inr (h, w)) = inl w
 
 -- the successors of one that waited are visited
-pub reached_more : (train : List Operation) (start o : ℕ) (marks then : List Bool) (ahead later : List ℕ) → AreReached train start marks (ahead ++ o ∷ []) → Visits (next_of train o) marks then ahead later → AreReached train start then later
+pub reached_more : (train : List Operation) (start o : ℕ) (marks then : List Bool) (ahead later : List ℕ) → AreMarksReached train start marks (ahead ++ o ∷ []) → Visits (next_of train o) marks then ahead later → AreMarksReached train start then later
 reached_more train start o marks then ahead later r v = record {
   long = v.long ∙ r.long;
   sound = λ s m. sound s (v.found s m);
@@ -150,7 +150,7 @@ reached_more train start o marks then ahead later r v = record {
     closed p (inr (h, w)) = inl w
 
 -- where none waits, all that is reached is marked
-complete : (train : List Operation) (start : ℕ) (marks : List Bool) → AreReached train start marks [] → (n p s : ℕ) → ((q : ℕ) → IsSuccessor train p q → IsMarked marks q) → LeadsTo train n p s → IsMarked marks s
+complete : (train : List Operation) (start : ℕ) (marks : List Bool) → AreMarksReached train start marks [] → (n p s : ℕ) → ((q : ℕ) → IsSuccessor train p q → IsMarked marks q) → LeadsTo train n p s → IsMarked marks s
 complete train start marks r zero p s next h = next s h
 complete train start marks r (suc n) p s next (q, one, rest) = complete train start marks r n q s (behind (r.closed q (next q one))) rest
   where
@@ -158,7 +158,7 @@ complete train start marks r (suc n) p s next (q, one, rest) = complete train st
     behind (inl h) = absurd (contains_none q h)
     behind (inr f) = f
 
-pub marked_on_cycle : (train : List Operation) (start : ℕ) (marks : List Bool) → AreReached train start marks [] → (get_or marks start false ≡ true) ↔ IsOnCycle train start
+pub marked_on_cycle : (train : List Operation) (start : ℕ) (marks : List Bool) → AreMarksReached train start marks [] → (get_or marks start false ≡ true) ↔ IsOnCycle train start
 marked_on_cycle train start marks r = (λ e. r.sound start (record { is = e }), λ way. (complete train start marks r way.0 start start r.first way.1).is)
 
 marked_within : (marks : List Bool) (s : ℕ) → IsMarked marks s → s < length marks
@@ -172,7 +172,7 @@ marked_within marks s m = elim (cases_lt s (length marks)) [
 next_at : (train : List Operation) (o : ℕ) (p : Operation) → o < length train → p ≡ get_or train o p → next_of train o ≡ p.next
 next_at train o p lt is = let at : slice_get train o ≡ Some p = slice_get-get_or train o p lt ∙ ap Some (sym is) in rw at refl
 
-pub waiting_within : (train : List Operation) (start o : ℕ) (marks : List Bool) (ahead rest : List ℕ) → AreReached train start marks ahead → ahead ≡ rest ++ o ∷ [] → o < length train
+pub waiting_within : (train : List Operation) (start o : ℕ) (marks : List Bool) (ahead rest : List ℕ) → AreMarksReached train start marks ahead → ahead ≡ rest ++ o ∷ [] → o < length train
 waiting_within train start o marks ahead rest r is =
     let m = r.waiting o (subst (λ l. Contains l o) (sym is) (Contains-push rest o)) in
     omega (arith, marked_within marks o m, r.long)
@@ -184,17 +184,17 @@ next_inside train o p ns marks inside lt is ns-is long =
     subst (λ n. All (λ s. s < n) ns) (sym long) (subst (λ (l : List ℕ). All (λ s. s < length train) l) (sym ns-is) there)
 
 pub first_visited : (train : List Operation) (start : ℕ) (p : Operation) (ns : List ℕ) (old marks : List Bool) (before ahead : List ℕ) → start < length train → p ≡ get_or train start p → ns ≡ p.next
-    → old ≡ replicate (length train) false → before ≡ [] → Visits ns old marks before ahead → AreReached train start marks ahead
+    → old ≡ replicate (length train) false → before ≡ [] → Visits ns old marks before ahead → AreMarksReached train start marks ahead
 first_visited train start p ns old marks before ahead lt is ns-is clear none v =
     let e : ns ≡ next_of train start = ns-is ∙ sym (next_at train start p lt is) in
     reached_first train start marks ahead (subst (λ b. Visits (next_of train start) (replicate (length train) false) marks b ahead) none (subst (λ o. Visits (next_of train start) o marks before ahead) clear (subst (λ l. Visits l old marks before ahead) e v)))
 
-pub more_visited : (train : List Operation) (start o : ℕ) (p : Operation) (ns : List ℕ) (marks then : List Bool) (ahead rest later : List ℕ) → AreReached train start marks ahead → ahead ≡ rest ++ o ∷ []
-    → p ≡ get_or train o p → ns ≡ p.next → Visits ns marks then rest later → AreReached train start then later
+pub more_visited : (train : List Operation) (start o : ℕ) (p : Operation) (ns : List ℕ) (marks then : List Bool) (ahead rest later : List ℕ) → AreMarksReached train start marks ahead → ahead ≡ rest ++ o ∷ []
+    → p ≡ get_or train o p → ns ≡ p.next → Visits ns marks then rest later → AreMarksReached train start then later
 more_visited train start o p ns marks then ahead rest later r ahead-is is ns-is v =
     let lt = waiting_within train start o marks ahead rest r ahead-is in
     let e : ns ≡ next_of train o = ns-is ∙ sym (next_at train o p lt is) in
-    reached_more train start o marks then rest later (subst (λ l. AreReached train start marks l) ahead-is r) (subst (λ l. Visits l marks then rest later) e v)
+    reached_more train start o marks then rest later (subst (λ l. AreMarksReached train start marks l) ahead-is r) (subst (λ l. Visits l marks then rest later) e v)
 
 -- one more train without a cycle
 pub no_cycle_more : (trains : List (List Operation)) (t : ℕ) (train : List Operation) → t < length trains → train ≡ get_or trains t train → HasNoCycle train
@@ -232,7 +232,7 @@ on_cycle_within train o way =
 rises_step : (train : List Operation) (ranks : List ℕ) (o s : ℕ) → Rises train ranks → IsSuccessor train o s → slice_index ranks o < slice_index ranks s
 rises_step train ranks o s rises h =
     let p = successor_within train o s h in
-    All-contains (IsAbove ranks (slice_index ranks o)) p.0.next s (rises o p.0 p.1) p.2
+    All-contains (HasRankAbove ranks (slice_index ranks o)) p.0.next s (rises o p.0 p.1) p.2
 
 rises_along : (train : List Operation) (ranks : List ℕ) (n o s : ℕ) → Rises train ranks → LeadsTo train n o s → slice_index ranks o < slice_index ranks s
 rises_along train ranks zero o s rises h = rises_step train ranks o s rises h
@@ -256,7 +256,7 @@ keeps_along train ranks (suc n) o s keeps (p, one, rest) =
 before_step : (train : List Operation) (ranks : List ℕ) (v o s : ℕ) → RisesBefore train ranks v → o < v → IsSuccessor train o s → slice_index ranks o < slice_index ranks s
 before_step train ranks v o s rises lt h =
     let p = successor_within train o s h in
-    All-contains (IsAbove ranks (slice_index ranks o)) p.0.next s (rises o p.0 lt p.1) p.2
+    All-contains (HasRankAbove ranks (slice_index ranks o)) p.0.next s (rises o p.0 lt p.1) p.2
 
 -- ranks that never fall, and rise behind each operation before this one: none before it lies on a cycle
 pub none_before : (train : List Operation) (ranks : List ℕ) (v : ℕ) → NeverFalls train ranks → RisesBefore train ranks v → (o : ℕ) → o < v → IsOnCycle train o → ⊥

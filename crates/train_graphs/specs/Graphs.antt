@@ -53,6 +53,6 @@ AreInside train = All (λ p. All (λ s. s < length train) p.next) train
 -- ---- for private clauses
 
 -- the marks, and those of these numbers
-abbrev pub marked : List Bool → List ℕ → List Bool
-marked marks [] = marks
-marked marks (n ∷ ns) = marked (slice_set marks n true) ns
+abbrev pub marked_all : List Bool → List ℕ → List Bool
+marked_all marks [] = marks
+marked_all marks (n ∷ ns) = marked_all (slice_set marks n true) ns

@@ -3,12 +3,12 @@ use Rattle.std.specs.Prelude.{◌≡◌, ℕ, ◌<◌, ◌≤◌, List, Some, Al
 use Rattle.disp_model.specs.declared.train.Operation.{Operation}
 
 -- the operation has a rank above this one
-abbrev pub IsAbove : List ℕ → ℕ → ℕ → Type 0
-IsAbove ranks rank s = rank < slice_index ranks s
+abbrev pub HasRankAbove : List ℕ → ℕ → ℕ → Type 0
+HasRankAbove ranks rank s = rank < slice_index ranks s
 
 -- each successor has a higher rank
 abbrev pub Rises : List Operation → List ℕ → Type 0
-Rises train ranks = (o : ℕ) (p : Operation) → slice_get train o ≡ Some p → All (IsAbove ranks (slice_index ranks o)) p.next
+Rises train ranks = (o : ℕ) (p : Operation) → slice_get train o ≡ Some p → All (HasRankAbove ranks (slice_index ranks o)) p.next
 
 -- the operation has a rank that is not below this one
 abbrev pub IsNotBelow : List ℕ → ℕ → ℕ → Type 0
@@ -20,4 +20,4 @@ NeverFalls train ranks = (o : ℕ) (p : Operation) → slice_get train o ≡ Som
 
 -- each successor of an operation before this one has a higher rank
 abbrev pub RisesBefore : List Operation → List ℕ → ℕ → Type 0
-RisesBefore train ranks v = (o : ℕ) (p : Operation) → o < v → slice_get train o ≡ Some p → All (IsAbove ranks (slice_index ranks o)) p.next
+RisesBefore train ranks v = (o : ℕ) (p : Operation) → o < v → slice_get train o ≡ Some p → All (HasRankAbove ranks (slice_index ranks o)) p.next

@@ -26,7 +26,7 @@ pub record Visits (numbers : List ℕ) (old new : List Bool) (before after : Lis
   pub work : unmarked new + length after ≡ unmarked old + length before
 
 -- the marks so far: what is marked is reached, and what comes next to it is marked too unless it waits ahead
-pub record AreReached (train : List Operation) (start : ℕ) (marks : List Bool) (ahead : List ℕ) : Type 0 where
+pub record AreMarksReached (train : List Operation) (start : ℕ) (marks : List Bool) (ahead : List ℕ) : Type 0 where
   pub long : length marks ≡ length train
   pub sound : (s : ℕ) → IsMarked marks s → IsReached train start s
   pub waiting : (x : ℕ) → Contains ahead x → IsMarked marks x

@@ -1,7 +1,7 @@
 ghost use Rattle.std.specs.Prelude.{◌≡◌, ◌<◌, ◌^◌, ◌↔◌, [], ◌∷◌, false, All, IfOk, IfSome, IfNone, OnOk, IsTrue, length, vec_len, replicate};
 ghost use Rattle.train_graphs.specs.Graphs.{IsLeastOnCycle, HasNoCycle, AreInside, IsOnCycle};
-ghost use Rattle.train_graphs.specs.Ranks.{IsAbove, IsNotBelow, Rises, RisesBefore, NeverFalls};
-ghost use Rattle.train_graphs.specs.Reach.{Visits, AreReached};
+ghost use Rattle.train_graphs.specs.Ranks.{HasRankAbove, IsNotBelow, Rises, RisesBefore, NeverFalls};
+ghost use Rattle.train_graphs.specs.Reach.{Visits, AreMarksReached};
 
 use crate::ranks::ranks_of;
 use disp_model::{Memory, Operation};
@@ -10,7 +10,7 @@ use std::alloc::Global;
 /// Whether all of the operations have a higher rank.
 fn are_above(rank: u32, ranks: &[u32], numbers: &[u32]) -> bool
     requires inside { All (λ s. s < length ranks.now) numbers.now }
-    ensures { IsTrue result ↔ All (IsAbove ranks.now rank) numbers.now }
+    ensures { IsTrue result ↔ All (HasRankAbove ranks.now rank) numbers.now }
 {
     numbers.iter().all(|number| rank < ranks[*number as usize])
 }
@@ -88,7 +88,7 @@ fn mark_reached(
     requires inside { AreInside train.now }
     requires there { start < length train.now }
     requires clear { marks.old ≡ replicate (length train.now) false }
-    ensures ok { OnOk result (AreReached train.now start marks.new []) }
+    ensures ok { OnOk result (AreMarksReached train.now start marks.new []) }
 {
     let mut ahead = Vec::new(alloc);
     visit(train[start as usize].next.as_slice(), marks, &mut ahead)?;

@@ -1,6 +1,6 @@
 ghost use Rattle.std.specs.Prelude.{◌≡◌, ◌<◌, All, IfOk, length, count_by, not, replicate, false};
 ghost use Rattle.std.specs.List.{flat_map};
-ghost use Rattle.train_graphs.specs.Graphs.{entry_count, exit_count, AreInside, marked};
+ghost use Rattle.train_graphs.specs.Graphs.{entry_count, exit_count, AreInside, marked_all};
 
 use disp_model::{Memory, Operation};
 use std::alloc::Global;
@@ -8,7 +8,7 @@ use std::alloc::Global;
 /// Marks the operations of these numbers.
 fn mark(numbers: &[u32], marks: &mut [bool])
     requires { All (λ s. s < length marks.old) numbers.now }
-    ensures { marks.new ≡ marked marks.old numbers.now }
+    ensures { marks.new ≡ marked_all marks.old numbers.now }
 {
     for number in numbers {
         marks[*number as usize] = true;
@@ -18,7 +18,7 @@ fn mark(numbers: &[u32], marks: &mut [bool])
 /// Marks the operations that are successors of one.
 fn mark_successors(train: &[Operation], marks: &mut [bool])
     requires inside { All (λ p. All (λ s. s < length marks.old) p.next) train.now }
-    ensures { marks.new ≡ marked marks.old (flat_map (λ p. p.next) train.now) }
+    ensures { marks.new ≡ marked_all marks.old (flat_map (λ p. p.next) train.now) }
 {
     for operation in train {
         mark(operation.next.as_slice(), marks);
@@ -29,7 +29,7 @@ fn mark_successors(train: &[Operation], marks: &mut [bool])
 fn count_unmarked(marks: &[bool]) -> u64
     ensures { result ≡ count_by (λ b. not b) marks.now }
 {
-    marks.iter().filter(|marked| !**marked).count() as u64
+    marks.iter().filter(|marked_all| !**marked_all).count() as u64
 }
 
 /// How many operations are successors of none, by marks that are all clear yet.

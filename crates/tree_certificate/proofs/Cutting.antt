@@ -2,7 +2,7 @@
 use Rattle.std.proofs.Common.{◌≡◌, ℕ, zero, suc, ◌+◌, ◌<◌, List, [], ◌∷◌, ◌++◌, length, get_or, take, drop, refl, ap, arith, cond, ne_eqb, eq-eqb}
 use Rattle.std.proofs.lemmas.List.{take_all, drop_all}
 use Rattle.std.proofs.lemmas.List.Elements.{All-tail}
-use Rattle.tree_certificate.specs.FieldsRead.{HasNone, IsFirst, before, from}
+use Rattle.tree_certificate.specs.FieldsRead.{HasNone, IsFirstByte, before, from}
 
 abbrev Differs : ℕ → ℕ → Type 0
 Differs byte b = b ≡ byte → ⊥
@@ -39,8 +39,8 @@ first_is byte (b ∷ bytes) (suc k) within is none =
     let rest = first_is byte bytes k (omega arith) is (All-tail (Differs byte) b (take k bytes) none) in
     (rw (ne_eqb b byte differs) (ap (λ (l : List ℕ). b ∷ l) rest.0), rw (ne_eqb b byte differs) rest.1)
 
-pub first_before : (byte : ℕ) (bytes : List ℕ) (k : ℕ) → IsFirst byte bytes k → take k bytes ≡ before byte bytes
+pub first_before : (byte : ℕ) (bytes : List ℕ) (k : ℕ) → IsFirstByte byte bytes k → take k bytes ≡ before byte bytes
 first_before byte bytes k first = rw (first_is byte bytes k first.within first.is first.none_before).0 refl
 
-pub first_from : (byte : ℕ) (bytes : List ℕ) (k : ℕ) → IsFirst byte bytes k → drop k bytes ≡ from byte bytes
+pub first_from : (byte : ℕ) (bytes : List ℕ) (k : ℕ) → IsFirstByte byte bytes k → drop k bytes ≡ from byte bytes
 first_from byte bytes k first = rw (first_is byte bytes k first.within first.is first.none_before).1 refl

@@ -17,7 +17,7 @@ use Rattle.disp_model.specs.Trees.{FitsOp}
 use Rattle.tree_certificate.specs.declared.fault.Fault.{Fault}
 use Rattle.tree_certificate.specs.TreeTexts.{op_text, ops_text}
 use Rattle.tree_certificate.specs.Reading.{◌>>=◌}
-use Rattle.tree_certificate.specs.FieldsRead.{HasNone, before, from, number_of, number_at, op_at, ops_at}
+use Rattle.tree_certificate.specs.FieldsRead.{HasNone, before, from, whole_field, field_number, op_at, ops_at}
 use Rattle.tree_certificate.proofs.Cutting.{none_is, around}
 use Rattle.tree_certificate.proofs.Numbers.{reads_number}
 use Rattle.tree_certificate.proofs.Looping.{step_ops}
@@ -42,7 +42,7 @@ text_is_decimal n small = record {
   zero_alone = alone n small;
 }
 
-pub number_again : (left most n : ℕ) → n ≤ most → most < 2 ^ 64 → number_of left most (decimal n) ≡ Ok n
+pub number_again : (left most n : ℕ) → n ≤ most → most < 2 ^ 64 → whole_field left most (decimal n) ≡ Ok n
 number_again left most n within small =
     let fits : n < 2 ^ 64 = omega (arith, within, small) in
     reads_number left most (decimal n) n (record { decimal = text_is_decimal n fits; value = sym (digits_value-decimal own n fits); within = within })
@@ -76,15 +76,15 @@ sep_cut d [] none sep =
     (rw (append-nil d) e.0, rw (append-nil d) e.1)
 sep_cut d (b ∷ r) none sep = subst (λ (c : ℕ). (before 32 (d ++ c ∷ r) ≡ d) × (from 32 (d ++ c ∷ r) ≡ c ∷ r)) (sym sep) (around 32 d r none)
 
-pub field_again : (left most n : ℕ) (r : List ℕ) → n ≤ most → most < 2 ^ 64 → IsSep r → number_at left most (32 ∷ (decimal n ++ r)) ≡ Ok (n, r)
-unfolding number_at
+pub field_again : (left most n : ℕ) (r : List ℕ) → n ≤ most → most < 2 ^ 64 → IsSep r → field_number left most (32 ∷ (decimal n ++ r)) ≡ Ok (n, r)
+unfolding field_number
 field_again left most n r within small sep =
     let cut = sep_cut (decimal n) r (none_in_number 32 n (omega (arith, within, small)) (omega arith)) sep in
     rw (cut.0, cut.1, number_again left most n within small) refl
 
-pub last_again : (left most n : ℕ) → n ≤ most → most < 2 ^ 64 → number_at left most (32 ∷ decimal n) ≡ Ok (n, [])
+pub last_again : (left most n : ℕ) → n ≤ most → most < 2 ^ 64 → field_number left most (32 ∷ decimal n) ≡ Ok (n, [])
 last_again left most n within small =
-    subst (λ (l : List ℕ). number_at left most (32 ∷ l) ≡ Ok (n, [])) (append-nil (decimal n)) (field_again left most n [] within small tt)
+    subst (λ (l : List ℕ). field_number left most (32 ∷ l) ≡ Ok (n, [])) (append-nil (decimal n)) (field_again left most n [] within small tt)
 
 pub op_again : (left : ℕ) (o : Op) (r : List ℕ) → FitsOp o → IsSep r → op_at left (op_text o ++ r) ≡ Ok (o, r)
 unfolding op_at

@@ -16,7 +16,7 @@ use Rattle.disp_model.specs.Trees.{FitsOp}
 use Rattle.tree_certificate.specs.declared.fault.Fault.{Fault}
 use Rattle.tree_certificate.specs.TreeTexts.{op_text, ops_text}
 use Rattle.tree_certificate.specs.Reading.{◌>>=◌}
-use Rattle.tree_certificate.specs.FieldsRead.{before, from, behind, is_decimal, number_of, number_at, op_at, ops_at, ended, found, word_at, or_word}
+use Rattle.tree_certificate.specs.FieldsRead.{before, from, behind, is_decimal, whole_field, field_number, op_at, ops_at, line_ended, found, word_at, or_word}
 use Rattle.tree_certificate.proofs.Numbers.{decimal_true}
 use Rattle.tree_certificate.proofs.FieldsAgain.{own}
 
@@ -46,8 +46,8 @@ all_digits : (bytes : List ℕ) → AreDigits bytes → AllDigits 10 bytes
 all_digits [] digits = tt
 all_digits (c ∷ cs) digits = (digits 0 0 (omega arith), all_digits cs (All-tail (λ (byte : ℕ). digit_value byte < 10) c cs digits))
 
-pub number_taken : (left most : ℕ) (field : List ℕ) (n : ℕ) → most < 2 ^ 64 → number_of left most field ≡ Ok n → (field ≡ decimal n) × (n ≤ most)
-unfolding number_of
+pub number_taken : (left most : ℕ) (field : List ℕ) (n : ℕ) → most < 2 ^ 64 → whole_field left most field ≡ Ok n → (field ≡ decimal n) × (n ≤ most)
+unfolding whole_field
 number_taken left most field n small e =
     let outer = test_ok (is_decimal field) _ _ n e in
     let inner = test_ok (nat_le (value_of field) most) _ _ n outer.1 in
@@ -66,12 +66,12 @@ joined_again byte (b ∷ bytes) = by_test (b == byte) (joined_again byte bytes)
     by_test true more = refl
     by_test false more = ap (λ (l : List ℕ). b ∷ l) more
 
-pub field_taken : (left most : ℕ) (bytes : List ℕ) (n : ℕ) (rest : List ℕ) → most < 2 ^ 64 → number_at left most bytes ≡ Ok (n, rest) → (bytes ≡ 32 ∷ (decimal n ++ rest)) × (n ≤ most)
-unfolding number_at
+pub field_taken : (left most : ℕ) (bytes : List ℕ) (n : ℕ) (rest : List ℕ) → most < 2 ^ 64 → field_number left most bytes ≡ Ok (n, rest) → (bytes ≡ 32 ∷ (decimal n ++ rest)) × (n ≤ most)
+unfolding field_number
 field_taken left most [] n rest small e = absurd cc
 field_taken left most (space ∷ bytes) n rest small e =
     let outer = test_ok (space == 32) _ _ (n, rest) e in
-    let inner = bind_ok (number_of left most (before 32 bytes)) (λ m. Ok (m, from 32 bytes)) (n, rest) outer.1 in
+    let inner = bind_ok (whole_field left most (before 32 bytes)) (λ m. Ok (m, from 32 bytes)) (n, rest) outer.1 in
     let both = parts inner.0 n (from 32 bytes) rest inner.2 in
     let read = number_taken left most (before 32 bytes) inner.0 small inner.1 in
     let is : space ≡ 32 = eqb-true space 32 outer.0 in
@@ -81,8 +81,8 @@ field_taken left most (space ∷ bytes) n rest small e =
 pub op_taken : (left : ℕ) (bytes : List ℕ) (o : Op) (rest : List ℕ) → op_at left bytes ≡ Ok (o, rest) → (bytes ≡ op_text o ++ rest) × FitsOp o
 unfolding op_at
 op_taken left bytes o rest e =
-    let a = bind_ok (number_at left GREATEST_NUMBER bytes) _ (o, rest) e in
-    let b = bind_ok (number_at left GREATEST_NUMBER a.0.1) _ (o, rest) a.2 in
+    let a = bind_ok (field_number left GREATEST_NUMBER bytes) _ (o, rest) e in
+    let b = bind_ok (field_number left GREATEST_NUMBER a.0.1) _ (o, rest) a.2 in
     let both = parts _ o _ rest b.2 in
     let t = field_taken left GREATEST_NUMBER bytes a.0.0 a.0.1 (omega arith) a.1 in
     let u = field_taken left GREATEST_NUMBER a.0.1 b.0.0 b.0.1 (omega arith) b.1 in
@@ -90,8 +90,8 @@ op_taken left bytes o rest e =
     t.0 ∙ ap (λ (l : List ℕ). 32 ∷ (decimal a.0.0 ++ l)) u.0 ∙ sym (simp append_assoc) in
     (text ∙ ap (λ (x : Op). op_text x ++ b.0.1) both.0 ∙ ap (λ (l : List ℕ). op_text o ++ l) both.1, subst FitsOp both.0 (t.1, u.1))
 
-pub end_taken : (left : ℕ) (bytes : List ℕ) (x : ⊤) → ended left bytes ≡ Ok x → bytes ≡ []
-unfolding ended
+pub end_taken : (left : ℕ) (bytes : List ℕ) (x : ⊤) → line_ended left bytes ≡ Ok x → bytes ≡ []
+unfolding line_ended
 end_taken left [] x e = refl
 end_taken left (b ∷ bytes) x e = absurd cc
 

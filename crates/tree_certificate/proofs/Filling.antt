@@ -6,8 +6,8 @@ use Rattle.tree_certificate.specs.declared.fault.Fault.{Fault}
 use Rattle.tree_certificate.specs.declared.fault.Fault.TheVariants.{Truncated}
 use Rattle.tree_certificate.specs.declared.fault.ReadError.{ReadError}
 use Rattle.tree_certificate.specs.declared.fault.ReadError.TheVariants as errors
-use Rattle.tree_certificate.specs.Reading.{◌>>=◌, Fails}
-use Rattle.tree_certificate.specs.NodesRead.{node_at, nodes_at, children_of}
+use Rattle.tree_certificate.specs.Reading.{◌>>=◌, FailsRead}
+use Rattle.tree_certificate.specs.NodesRead.{node_read, nodes_at, places_opened}
 use Rattle.tree_certificate.proofs.Looping.{with_front, regroup}
 
 -- where no place is open all is read
@@ -18,19 +18,19 @@ nodes_done third most zero front bytes total none so_far = sym so_far ∙ ap (λ
 nodes_done third most (suc p) front bytes total none so_far = absurd (omega arith)
 
 pub nodes_go_on : (third : Bool) (count i places next : ℕ) (front : List TreeNode) (bytes : List ℕ) (n : TreeNode) (after : List ℕ) (total : Result (List TreeNode × List ℕ) Fault) → i < count → (places ≡ 0 → ⊥)
-    → next + 1 ≡ places + children_of n → node_at third bytes ≡ Ok (n, after)
+    → next + 1 ≡ places + places_opened n → node_read third bytes ≡ Ok (n, after)
     → with_front front (nodes_at third (count - i) places bytes) ≡ total → with_front (front ++ n ∷ []) (nodes_at third (count - (i + 1)) next after) ≡ total
 unfolding nodes_at
 nodes_go_on third count i zero next front bytes n after total lt some now h so_far = absurd (some refl)
 nodes_go_on third count i (suc p) next front bytes n after total lt some now h so_far =
     let k : count - i ≡ suc (count - (i + 1)) = omega arith in
-    let e : next ≡ p + children_of n = omega (arith, now) in
-    let one : with_front front (nodes_at third (count - i) (suc p) bytes) ≡ with_front (front ++ n ∷ []) (nodes_at third (count - (i + 1)) (p + children_of n) after) =
-    rw (k, h) (regroup front n (nodes_at third (count - (i + 1)) (p + children_of n) after)) in
+    let e : next ≡ p + places_opened n = omega (arith, now) in
+    let one : with_front front (nodes_at third (count - i) (suc p) bytes) ≡ with_front (front ++ n ∷ []) (nodes_at third (count - (i + 1)) (p + places_opened n) after) =
+    rw (k, h) (regroup front n (nodes_at third (count - (i + 1)) (p + places_opened n) after)) in
     rw e (sym one ∙ so_far)
 
 pub nodes_end : (e : ReadError) (third : Bool) (count i places : ℕ) (front : List TreeNode) (bytes : List ℕ) (total : Result (List TreeNode × List ℕ) Fault) → i < count → (places ≡ 0 → ⊥)
-    → Fails e (node_at third bytes) → with_front front (nodes_at third (count - i) places bytes) ≡ total → Fails e total
+    → FailsRead e (node_read third bytes) → with_front front (nodes_at third (count - i) places bytes) ≡ total → FailsRead e total
 unfolding nodes_at
 nodes_end errors.Memory third count i places front bytes total lt some h so_far = tt
 nodes_end (errors.Fault f) third count i zero front bytes total lt some h so_far = absurd (some refl)

@@ -10,10 +10,10 @@ use Rattle.disp_model.specs.declared.tree.TrainWalks.{TrainWalks}
 use Rattle.disp_model.specs.declared.limits.TheConstants.{GREATEST_NUMBER, MOST_COMPONENTS}
 use Rattle.disp_model.specs.Trees.{FitsOp, FitsWalk, FitsTrain}
 use Rattle.tree_certificate.specs.declared.fault.Fault.{Fault}
-use Rattle.tree_certificate.specs.TreeTexts.{op_text, ops_text, walk_text, to_text, train_text}
+use Rattle.tree_certificate.specs.TreeTexts.{op_text, ops_text, walk_text, to_text, listed_text}
 use Rattle.tree_certificate.specs.Reading.{◌>>=◌}
-use Rattle.tree_certificate.specs.FieldsRead.{HasNone, before, from, number_at, ops_at, ended, word_at}
-use Rattle.tree_certificate.specs.LinesRead.{line_at, items_at, count_at, walk_at, to_at, train_at}
+use Rattle.tree_certificate.specs.FieldsRead.{HasNone, before, from, field_number, ops_at, line_ended, word_at}
+use Rattle.tree_certificate.specs.LinesRead.{line_at, items_at, last_count, walk_at, to_at, train_read}
 use Rattle.tree_certificate.proofs.Cutting.{around}
 use Rattle.tree_certificate.proofs.FieldsAgain.{none_by, none_in_number, none_in_ops, field_again, last_again, all_ops_again, sep_ops}
 
@@ -33,8 +33,8 @@ items_again item text Fits each [] rest fits = refl
 items_again item text Fits each (x ∷ xs) rest fits =
     rw (append_assoc (text x) (flat_map text xs) rest, each x (flat_map text xs ++ rest) (All-head Fits x xs fits), items_again item text Fits each xs rest (All-tail Fits x xs fits)) refl
 
-pub count_again : (left n : ℕ) → n ≤ MOST_COMPONENTS → count_at left (32 ∷ decimal n) ≡ Ok n
-unfolding count_at ended
+pub count_again : (left n : ℕ) → n ≤ MOST_COMPONENTS → last_count left (32 ∷ decimal n) ≡ Ok n
+unfolding last_count line_ended
 count_again left n within = rw (last_again left MOST_COMPONENTS n within (omega arith)) refl
 
 -- a line of a word, a number and more, and what stands behind it
@@ -86,12 +86,12 @@ none_in_two w a b none fits_a fits_b =
     (All-append NotEnd (decimal a) (codes " " ++ decimal b) (none_in_number 10 a fits_a (omega arith))
     (All-append NotEnd (codes " ") (decimal b) (none_by 10 (codes " ") refl) (none_in_number 10 b fits_b (omega arith))))
 
-pub train_again : (listed : TrainWalks) (rest : List ℕ) → FitsTrain listed → train_at (train_text listed ++ rest) ≡ Ok (listed, rest)
-unfolding train_at
+pub train_again : (listed : TrainWalks) (rest : List ℕ) → FitsTrain listed → train_read (listed_text listed ++ rest) ≡ Ok (listed, rest)
+unfolding train_read
 train_again listed rest fits =
     let none : HasNone 10 (codes "train " ++ (decimal listed.train ++ (codes " " ++ decimal (length listed.walks)))) =
     none_in_two (codes "train ") listed.train (length listed.walks) (none_by 10 (codes "train ") refl) (omega (arith, fits.0)) (omega (arith, fits.1)) in
-    ap train_at (seven (codes "train ") (decimal listed.train) (codes " ") (decimal (length listed.walks)) (codes "\n") (flat_map to_text listed.walks) rest)
+    ap train_read (seven (codes "train ") (decimal listed.train) (codes " ") (decimal (length listed.walks)) (codes "\n") (flat_map to_text listed.walks) rest)
     ∙ rw (
       line_again (codes "train " ++ (decimal listed.train ++ (codes " " ++ decimal (length listed.walks)))) (flat_map to_text listed.walks ++ rest) none,
       field_again _ GREATEST_NUMBER listed.train (codes " " ++ decimal (length listed.walks)) fits.0 (omega arith) refl,

@@ -11,10 +11,10 @@ use Rattle.disp_model.specs.declared.tree.TrainWalks.{TrainWalks}
 use Rattle.disp_model.specs.declared.limits.TheConstants.{GREATEST_NUMBER, MOST_COMPONENTS}
 use Rattle.disp_model.specs.Trees.{FitsOp, FitsWalk, FitsTrain}
 use Rattle.tree_certificate.specs.declared.fault.Fault.{Fault}
-use Rattle.tree_certificate.specs.TreeTexts.{op_text, ops_text, walk_text, to_text, train_text}
+use Rattle.tree_certificate.specs.TreeTexts.{op_text, ops_text, walk_text, to_text, listed_text}
 use Rattle.tree_certificate.specs.Reading.{◌>>=◌}
-use Rattle.tree_certificate.specs.FieldsRead.{before, from, number_at, ops_at, ended, word_at}
-use Rattle.tree_certificate.specs.LinesRead.{line_with, line_at, items_at, count_at, walk_at, to_at, train_at}
+use Rattle.tree_certificate.specs.FieldsRead.{before, from, field_number, ops_at, line_ended, word_at}
+use Rattle.tree_certificate.specs.LinesRead.{line_with, line_at, items_at, last_count, walk_at, to_at, train_read}
 use Rattle.tree_certificate.proofs.FieldsTaken.{bind_ok, done, ok_is, parts, joined_again, field_taken, end_taken, ops_taken, word_taken}
 use Rattle.tree_certificate.proofs.LinesAgain.{three, four, seven}
 
@@ -55,11 +55,11 @@ items_taken {A} item text Fits each (suc count) bytes xs rest e =
     subst (λ (l : List A). (bytes ≡ flat_map text l ++ rest) × All Fits l × (suc count ≡ length l)) both.0
     (text_is, All-cons Fits a.0.0 more.0.0 t.1 u.1, ap suc u.2)
 
-pub count_taken : (left : ℕ) (fields : List ℕ) (n : ℕ) → count_at left fields ≡ Ok n → (fields ≡ 32 ∷ decimal n) × (n ≤ MOST_COMPONENTS)
-unfolding count_at
+pub count_taken : (left : ℕ) (fields : List ℕ) (n : ℕ) → last_count left fields ≡ Ok n → (fields ≡ 32 ∷ decimal n) × (n ≤ MOST_COMPONENTS)
+unfolding last_count
 count_taken left fields n e =
-    let a = bind_ok (number_at left MOST_COMPONENTS fields) _ n e in
-    let b = bind_ok (ended left a.0.1) _ n a.2 in
+    let a = bind_ok (field_number left MOST_COMPONENTS fields) _ n e in
+    let b = bind_ok (line_ended left a.0.1) _ n a.2 in
     let same : a.0.0 ≡ n = ok_is a.0.0 n b.2 in
     let none : a.0.1 ≡ [] = end_taken left a.0.1 b.0 b.1 in
     let t = field_taken left MOST_COMPONENTS fields a.0.0 a.0.1 (omega arith) a.1 in
@@ -70,7 +70,7 @@ unfolding walk_at
 walk_taken bytes w rest e =
     let l = bind_ok (line_at bytes) _ (w, rest) e in
     let f = bind_ok (word_at (length bytes) (codes "walk") l.0.0) _ (w, rest) l.2 in
-    let c = bind_ok (number_at (length bytes) GREATEST_NUMBER f.0) _ (w, rest) f.2 in
+    let c = bind_ok (field_number (length bytes) GREATEST_NUMBER f.0) _ (w, rest) f.2 in
     let o = bind_ok (ops_at (length bytes) (length c.0.1) c.0.1) _ (w, rest) c.2 in
     let line = line_taken bytes l.0.0 l.0.1 l.1 in
     let word = word_taken (length bytes) (codes "walk") l.0.0 f.0 f.1 in
@@ -98,13 +98,13 @@ to_taken bytes walk rest e =
     ∙ sym (three (codes "to") (ops_text o.0) (codes "\n") l.0.1) in
     (text ∙ ap (λ (x : List Op). to_text x ++ l.0.1) both.0 ∙ ap (λ (k : List ℕ). to_text walk ++ k) both.1, subst (All FitsOp) both.0 ops.1)
 
-pub train_taken : (bytes : List ℕ) (listed : TrainWalks) (rest : List ℕ) → train_at bytes ≡ Ok (listed, rest) → (bytes ≡ train_text listed ++ rest) × FitsTrain listed
-unfolding train_at
+pub train_taken : (bytes : List ℕ) (listed : TrainWalks) (rest : List ℕ) → train_read bytes ≡ Ok (listed, rest) → (bytes ≡ listed_text listed ++ rest) × FitsTrain listed
+unfolding train_read
 train_taken bytes listed rest e =
     let l = bind_ok (line_at bytes) _ (listed, rest) e in
     let f = bind_ok (word_at (length bytes) (codes "train") l.0.0) _ (listed, rest) l.2 in
-    let t = bind_ok (number_at (length bytes) GREATEST_NUMBER f.0) _ (listed, rest) f.2 in
-    let n = bind_ok (count_at (length bytes) t.0.1) _ (listed, rest) t.2 in
+    let t = bind_ok (field_number (length bytes) GREATEST_NUMBER f.0) _ (listed, rest) f.2 in
+    let n = bind_ok (last_count (length bytes) t.0.1) _ (listed, rest) t.2 in
     let w = bind_ok (items_at to_at n.0 l.0.1) _ (listed, rest) n.2 in
     let line = line_taken bytes l.0.0 l.0.1 l.1 in
     let word = word_taken (length bytes) (codes "train") l.0.0 f.0 f.1 in
@@ -113,10 +113,10 @@ train_taken bytes listed rest e =
     let walks = items_taken to_at to_text (All FitsOp) to_taken n.0 l.0.1 w.0.0 w.0.1 w.1 in
     let made : TrainWalks = record { train = t.0.0; walks = w.0.0 } in
     let both = parts made listed w.0.1 rest w.2 in
-    let text : bytes ≡ train_text made ++ w.0.1 =
+    let text : bytes ≡ listed_text made ++ w.0.1 =
     line ∙ ap (λ (k : List ℕ). k ++ 10 ∷ l.0.1) (word ∙ ap (λ (k : List ℕ). codes "train" ++ k) (train.0 ∙ ap (λ (k : List ℕ). 32 ∷ (decimal t.0.0 ++ k)) (count.0 ∙ ap (λ (k : ℕ). 32 ∷ decimal k) walks.2)))
     ∙ ap (λ (k : List ℕ). (codes "train " ++ (decimal t.0.0 ++ (codes " " ++ decimal (length w.0.0)))) ++ 10 ∷ k) walks.0
     ∙ sym (seven (codes "train ") (decimal t.0.0) (codes " ") (decimal (length w.0.0)) (codes "\n") (flat_map to_text w.0.0) w.0.1) in (
-      text ∙ ap (λ (x : TrainWalks). train_text x ++ w.0.1) both.0 ∙ ap (λ (k : List ℕ). train_text listed ++ k) both.1,
+      text ∙ ap (λ (x : TrainWalks). listed_text x ++ w.0.1) both.0 ∙ ap (λ (k : List ℕ). listed_text listed ++ k) both.1,
       subst FitsTrain both.0 (train.1, rw (← walks.2) count.1, walks.1),
     )

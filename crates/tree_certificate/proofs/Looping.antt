@@ -6,8 +6,8 @@ use Rattle.disp_model.specs.declared.train.Op.{Op}
 use Rattle.tree_certificate.specs.declared.fault.Fault.{Fault}
 use Rattle.tree_certificate.specs.declared.fault.ReadError.{ReadError}
 use Rattle.tree_certificate.specs.declared.fault.ReadError.TheVariants as errors
-use Rattle.tree_certificate.specs.Reading.{◌>>=◌, Fails}
-use Rattle.tree_certificate.specs.FieldsRead.{op_at, ops_at, ended}
+use Rattle.tree_certificate.specs.Reading.{◌>>=◌, FailsRead}
+use Rattle.tree_certificate.specs.FieldsRead.{op_at, ops_at, line_ended}
 use Rattle.tree_certificate.specs.LinesRead.{items_at}
 
 -- ---- so many of one kind
@@ -29,7 +29,7 @@ goes_on {A} item front count i bytes n after total lt h so_far =
     sym one ∙ so_far
 
 pub ends : {A : Type 0} (item : List ℕ → Result (A × List ℕ) Fault) (e : ReadError) (front : List A) (count i : ℕ) (bytes : List ℕ) (total : Result (List A × List ℕ) Fault) → i < count
-    → Fails e (item bytes) → with_front front (items_at item (count - i) bytes) ≡ total → Fails e total
+    → FailsRead e (item bytes) → with_front front (items_at item (count - i) bytes) ≡ total → FailsRead e total
 unfolding items_at
 ends item errors.Memory front count i bytes total lt h so_far = tt
 ends item (errors.Fault f) front count i bytes total lt h so_far =
@@ -83,8 +83,8 @@ ops_go_on left count i front bytes o after total lt some h so_far =
     rw (k, step_ops left (count - (i + 1)) bytes some, h) (regroup_ops front o (ops_at left (count - (i + 1)) after)) in
     sym one ∙ so_far
 
-pub ops_end : (e : ReadError) (left count i : ℕ) (front : List Op) (bytes : List ℕ) (total : Result (List Op) Fault) → i < count → (bytes ≡ [] → ⊥) → Fails e (op_at left bytes)
-    → ops_front front (ops_at left (count - i) bytes) ≡ total → Fails e total
+pub ops_end : (e : ReadError) (left count i : ℕ) (front : List Op) (bytes : List ℕ) (total : Result (List Op) Fault) → i < count → (bytes ≡ [] → ⊥) → FailsRead e (op_at left bytes)
+    → ops_front front (ops_at left (count - i) bytes) ≡ total → FailsRead e total
 ops_end errors.Memory left count i front bytes total lt some h so_far = tt
 ops_end (errors.Fault f) left count i front bytes total lt some h so_far =
     let k : count - i ≡ suc (count - (i + 1)) = omega arith in
@@ -92,18 +92,18 @@ ops_end (errors.Fault f) left count i front bytes total lt some h so_far =
     sym so_far ∙ one
 
 -- behind as many as there may be the line ends
-last_ops : (left : ℕ) (front : List Op) (bytes : List ℕ) → ops_front front (ops_at left 0 bytes) ≡ (ended left bytes >>= λ done. Ok front)
-unfolding ops_at ended
+last_ops : (left : ℕ) (front : List Op) (bytes : List ℕ) → ops_front front (ops_at left 0 bytes) ≡ (line_ended left bytes >>= λ done. Ok front)
+unfolding ops_at line_ended
 last_ops left front [] = ap Ok (append-nil front)
 last_ops left front (b ∷ bytes) = refl
 
-pub ops_last : (left count i : ℕ) (front : List Op) (bytes : List ℕ) (total : Result (List Op) Fault) (done : ⊤) → count ≤ i → ended left bytes ≡ Ok done → ops_front front (ops_at left (count - i) bytes) ≡ total → total ≡ Ok front
+pub ops_last : (left count i : ℕ) (front : List Op) (bytes : List ℕ) (total : Result (List Op) Fault) (done : ⊤) → count ≤ i → line_ended left bytes ≡ Ok done → ops_front front (ops_at left (count - i) bytes) ≡ total → total ≡ Ok front
 ops_last left count i front bytes total done le h so_far =
     let k : count - i ≡ 0 = omega arith in
     let one : ops_front front (ops_at left (count - i) bytes) ≡ Ok front = rw (k, last_ops left front bytes, h) refl in
     sym so_far ∙ one
 
-pub ops_surplus : (e : ReadError) (left count i : ℕ) (front : List Op) (bytes : List ℕ) (total : Result (List Op) Fault) → count ≤ i → Fails e (ended left bytes) → ops_front front (ops_at left (count - i) bytes) ≡ total → Fails e total
+pub ops_surplus : (e : ReadError) (left count i : ℕ) (front : List Op) (bytes : List ℕ) (total : Result (List Op) Fault) → count ≤ i → FailsRead e (line_ended left bytes) → ops_front front (ops_at left (count - i) bytes) ≡ total → FailsRead e total
 ops_surplus errors.Memory left count i front bytes total le h so_far = tt
 ops_surplus (errors.Fault f) left count i front bytes total le h so_far =
     let k : count - i ≡ 0 = omega arith in

@@ -18,11 +18,11 @@ use Rattle.tree_certificate.specs.declared.fault.Fault.{Fault}
 use Rattle.tree_certificate.specs.declared.fault.Fault.TheVariants.{Bad}
 use Rattle.tree_certificate.specs.declared.word.Word.{Word}
 use Rattle.tree_certificate.specs.declared.word.Word.TheVariants as word
-use Rattle.tree_certificate.specs.TreeTexts.{op_text, ops_text, walk_text, train_text, node_text, is_third}
+use Rattle.tree_certificate.specs.TreeTexts.{op_text, ops_text, walk_text, listed_text, node_text, is_third}
 use Rattle.tree_certificate.specs.Reading.{◌>>=◌}
-use Rattle.tree_certificate.specs.FieldsRead.{behind, number_at, op_at, ops_at, ended, or_word}
-use Rattle.tree_certificate.specs.LinesRead.{line_at, items_at, count_at, walk_at, train_at}
-use Rattle.tree_certificate.specs.NodesRead.{node_word_at, not_none, only_third, route_at, order_at, run_at, no_route_at, cycle_at, late_at, costs_at, shares_at, and_rest, node_by, node_at, children_of, nodes_at}
+use Rattle.tree_certificate.specs.FieldsRead.{behind, field_number, op_at, ops_at, line_ended, or_word}
+use Rattle.tree_certificate.specs.LinesRead.{line_at, items_at, last_count, walk_at, train_read}
+use Rattle.tree_certificate.specs.NodesRead.{node_word_at, not_none, only_third, route_at, order_at, run_at, no_route_at, cycle_at, late_at, costs_at, shares_at, and_rest, node_by, node_read, places_opened, nodes_at}
 use Rattle.tree_certificate.specs.Versions.{Completes}
 use Rattle.tree_certificate.proofs.FieldsTaken.{bind_ok, done, ok_is, parts, field_taken, op_taken, ops_taken, end_taken, behind_taken, or_word_taken}
 use Rattle.tree_certificate.proofs.LinesAgain.{three, four, five, six, eight}
@@ -93,9 +93,9 @@ route_taken : (third : Bool) (left : ℕ) (fields : List ℕ) (n : TreeNode) →
 unfolding route_at
 route_taken third left fields n e =
     let o = bind_ok (op_at left fields) _ n e in
-    let c = bind_ok (number_at left MOST_COMPONENTS o.0.1) _ n o.2 in
+    let c = bind_ok (field_number left MOST_COMPONENTS o.0.1) _ n o.2 in
     let k = bind_ok (not_none left c.0.0) _ n c.2 in
-    let d = bind_ok (ended left c.0.1) _ n k.2 in
+    let d = bind_ok (line_ended left c.0.1) _ n k.2 in
     let op = op_taken left fields o.0.0 o.0.1 o.1 in
     let number = field_taken left MOST_COMPONENTS o.0.1 c.0.0 c.0.1 (omega arith) c.1 in
     let some = some_children left c.0.0 k.0 k.1 in
@@ -111,7 +111,7 @@ unfolding order_at
 order_taken third left fields n e =
     let a = bind_ok (op_at left fields) _ n e in
     let b = bind_ok (op_at left a.0.1) _ n a.2 in
-    let d = bind_ok (ended left b.0.1) _ n b.2 in
+    let d = bind_ok (line_ended left b.0.1) _ n b.2 in
     let one = op_taken left fields a.0.0 a.0.1 a.1 in
     let other = op_taken left a.0.1 b.0.0 b.0.1 b.1 in
     let none = end_taken left b.0.1 d.0 d.1 in
@@ -125,7 +125,7 @@ unfolding run_at
 run_taken third left fields n e =
     let t = bind_ok (only_third third left) _ n e in
     let o = bind_ok (op_at left fields) _ n t.2 in
-    let d = bind_ok (ended left o.0.1) _ n o.2 in
+    let d = bind_ok (line_ended left o.0.1) _ n o.2 in
     let op = op_taken left fields o.0.0 o.0.1 o.1 in
     let none = end_taken left o.0.1 d.0 d.1 in
     let text : fields ≡ op_text o.0.0 = op.0 ∙ ap (λ (l : List ℕ). op_text o.0.0 ++ l) none ∙ append-nil (op_text o.0.0) in
@@ -135,7 +135,7 @@ run_taken third left fields n e =
 no_route_taken : (third : Bool) (left : ℕ) (fields : List ℕ) (n : TreeNode) → no_route_at left fields ≡ Ok n → LineOf third (codes "noroute" ++ fields) n
 unfolding no_route_at
 no_route_taken third left fields n e =
-    let d = bind_ok (ended left fields) _ n e in
+    let d = bind_ok (line_ended left fields) _ n e in
     let none = end_taken left fields d.0 d.1 in
     subst (LineOf third (codes "noroute" ++ fields)) (ok_is (Leaf NoRoute) n d.2)
     (λ rest. ap (λ (l : List ℕ). (codes "noroute" ++ l) ++ 10 ∷ rest) none, tt, inr refl)
@@ -163,7 +163,7 @@ LinesOf third line rest x = (line ++ 10 ∷ rest ≡ node_text x.0 ++ x.1) × Fi
 costs_taken : (third : Bool) (left : ℕ) (fields rest : List ℕ) (x : TreeNode × List ℕ) → costs_at left fields rest ≡ Ok x → LinesOf third (codes "costs" ++ fields) rest x
 unfolding costs_at
 costs_taken third left fields rest x e =
-    let c = bind_ok (count_at left fields) _ x e in
+    let c = bind_ok (last_count left fields) _ x e in
     let w = bind_ok (items_at walk_at c.0 rest) _ x c.2 in
     let count = count_taken left fields c.0 c.1 in
     let walks = items_taken walk_at walk_text FitsWalk walk_taken c.0 rest w.0.0 w.0.1 w.1 in
@@ -178,22 +178,22 @@ shares_taken : (third : Bool) (left : ℕ) (fields rest : List ℕ) (x : TreeNod
 unfolding shares_at
 shares_taken third left fields rest x e =
     let t = bind_ok (only_third third left) _ x e in
-    let c = bind_ok (number_at left MOST_COMPONENTS fields) _ x t.2 in
-    let m = bind_ok (count_at left c.0.1) _ x c.2 in
+    let c = bind_ok (field_number left MOST_COMPONENTS fields) _ x t.2 in
+    let m = bind_ok (last_count left c.0.1) _ x c.2 in
     let w = bind_ok (items_at walk_at c.0.0 rest) _ x m.2 in
-    let g = bind_ok (items_at train_at m.0 w.0.1) _ x w.2 in
+    let g = bind_ok (items_at train_read m.0 w.0.1) _ x w.2 in
     let number = field_taken left MOST_COMPONENTS fields c.0.0 c.0.1 (omega arith) c.1 in
     let count = count_taken left c.0.1 m.0 m.1 in
     let walks = items_taken walk_at walk_text FitsWalk walk_taken c.0.0 rest w.0.0 w.0.1 w.1 in
-    let trains = items_taken train_at train_text FitsTrain train_taken m.0 w.0.1 g.0.0 g.0.1 g.1 in
+    let trains = items_taken train_read listed_text FitsTrain train_taken m.0 w.0.1 g.0.0 g.0.1 g.1 in
     let line : fields ≡ 32 ∷ (decimal (length w.0.0) ++ (32 ∷ decimal (length g.0.0))) =
     number.0 ∙ ap (λ (l : List ℕ). 32 ∷ (decimal c.0.0 ++ l)) (count.0 ∙ ap (λ (k : ℕ). 32 ∷ decimal k) trains.2)
     ∙ ap (λ (k : ℕ). 32 ∷ (decimal k ++ (32 ∷ decimal (length g.0.0)))) walks.2 in
-    let behind_line : rest ≡ flat_map walk_text w.0.0 ++ (flat_map train_text g.0.0 ++ g.0.1) = walks.0 ∙ ap (λ (l : List ℕ). flat_map walk_text w.0.0 ++ l) trains.0 in
+    let behind_line : rest ≡ flat_map walk_text w.0.0 ++ (flat_map listed_text g.0.0 ++ g.0.1) = walks.0 ∙ ap (λ (l : List ℕ). flat_map walk_text w.0.0 ++ l) trains.0 in
     let text : (codes "shares" ++ fields) ++ 10 ∷ rest ≡ node_text (Leaf (Shares w.0.0 g.0.0)) ++ g.0.1 =
     ap (λ (l : List ℕ). (codes "shares" ++ l) ++ 10 ∷ rest) line
     ∙ ap (λ (l : List ℕ). (codes "shares " ++ (decimal (length w.0.0) ++ (codes " " ++ decimal (length g.0.0)))) ++ 10 ∷ l) behind_line
-    ∙ sym (eight (codes "shares ") (decimal (length w.0.0)) (codes " ") (decimal (length g.0.0)) (codes "\n") (flat_map walk_text w.0.0) (flat_map train_text g.0.0) g.0.1) in
+    ∙ sym (eight (codes "shares ") (decimal (length w.0.0)) (codes " ") (decimal (length g.0.0)) (codes "\n") (flat_map walk_text w.0.0) (flat_map listed_text g.0.0) g.0.1) in
     subst (LinesOf third (codes "shares" ++ fields) rest) (ok_is {A = TreeNode × List ℕ} (Leaf (Shares w.0.0 g.0.0), g.0.1) x g.2)
     (text, (rw (← walks.2) number.1, walks.1, rw (← trains.2) count.1, trains.1), inl (allowed third left t.0 t.1))
 
@@ -215,8 +215,8 @@ by_taken word.Late third left fields rest x e = one_line third (codes "late" ++ 
 by_taken word.Costs third left fields rest x e = costs_taken third left fields rest x e
 by_taken word.Shares third left fields rest x e = shares_taken third left fields rest x e
 
-pub node_taken : (third : Bool) (bytes : List ℕ) (x : TreeNode × List ℕ) → node_at third bytes ≡ Ok x → (bytes ≡ node_text x.0 ++ x.1) × FitsNode x.0 × HasLine third x.0
-unfolding node_at
+pub node_taken : (third : Bool) (bytes : List ℕ) (x : TreeNode × List ℕ) → node_read third bytes ≡ Ok x → (bytes ≡ node_text x.0 ++ x.1) × FitsNode x.0 × HasLine third x.0
+unfolding node_read
 node_taken third bytes x e =
     let l = bind_ok (line_at bytes) _ x e in
     let w = bind_ok (node_word_at (length bytes) l.0.0) _ x l.2 in
@@ -235,10 +235,10 @@ unfolding nodes_at
 nodes_taken third most zero bytes x e = subst (Taken third 0 bytes) (ok_is {A = List TreeNode × List ℕ} ([], bytes) x e) (refl, All-nil FitsNode, All-nil (HasLine third), tt)
 nodes_taken third zero (suc places) bytes x e = absurd cc
 nodes_taken third (suc most) (suc places) bytes x e =
-    let n = bind_ok (node_at third bytes) _ x e in
-    let m = bind_ok (nodes_at third most (places + children_of n.0.0) n.0.1) _ x n.2 in
+    let n = bind_ok (node_read third bytes) _ x e in
+    let m = bind_ok (nodes_at third most (places + places_opened n.0.0) n.0.1) _ x n.2 in
     let t = node_taken third bytes n.0 n.1 in
-    let u = nodes_taken third most (places + children_of n.0.0) n.0.1 m.0 m.1 in
+    let u = nodes_taken third most (places + places_opened n.0.0) n.0.1 m.0 m.1 in
     subst (Taken third (suc places) bytes) (ok_is {A = List TreeNode × List ℕ} (n.0.0 ∷ m.0.0, m.0.1) x m.2) (
       t.0 ∙ ap (λ (l : List ℕ). node_text n.0.0 ++ l) u.0 ∙ sym (append_assoc (node_text n.0.0) (flat_map node_text m.0.0) m.0.1),
       All-cons FitsNode n.0.0 m.0.0 t.1 u.1,

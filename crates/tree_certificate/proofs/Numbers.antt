@@ -10,7 +10,7 @@ use Rattle.plain_values.specs.declared.number.NumberNo.TheVariants.{NotNumber, T
 use Rattle.plain_values.specs.Decimal.{AreDigits, IsDecimal, IsNumber, IsAbove, value_of}
 use Rattle.tree_certificate.specs.declared.fault.Fault.{Fault}
 use Rattle.tree_certificate.specs.declared.fault.Fault.TheVariants.{Bad, Large}
-use Rattle.tree_certificate.specs.FieldsRead.{is_decimal, number_of}
+use Rattle.tree_certificate.specs.FieldsRead.{is_decimal, whole_field}
 
 -- one answer of the reader of numbers
 pub is_error : (e f : NumberNo) → e ≡ f → IsErrOf {T = ℕ} (Err e) f
@@ -94,17 +94,17 @@ false_decimal_by bytes true is not_decimal = absurd (not_decimal (decimal_true b
 false_decimal_by bytes false is not_decimal = refl
 
 -- the reader of numbers answers what the number of the field is
-pub reads_number : (left most : ℕ) (field : List ℕ) (n : ℕ) → IsNumber field most n → number_of left most field ≡ Ok n
-unfolding number_of
+pub reads_number : (left most : ℕ) (field : List ℕ) (n : ℕ) → IsNumber field most n → whole_field left most field ≡ Ok n
+unfolding whole_field
 reads_number left most field n read =
     let same : n ≡ value_of field = read.value in
     let within : value_of field ≤ most = rw (← same) read.within in
     rw (true_decimal field read.decimal, le-leb (value_of field) most within) (ap Ok (sym same))
 
-pub reads_none : (left most : ℕ) (field : List ℕ) → (IsDecimal field → ⊥) → number_of left most field ≡ Err (Bad left)
-unfolding number_of
+pub reads_none : (left most : ℕ) (field : List ℕ) → (IsDecimal field → ⊥) → whole_field left most field ≡ Err (Bad left)
+unfolding whole_field
 reads_none left most field not_decimal = rw (false_decimal_by field (is_decimal field) refl not_decimal) refl
 
-pub reads_above : (left most : ℕ) (field : List ℕ) → IsAbove field most → number_of left most field ≡ Err (Large left)
-unfolding number_of
+pub reads_above : (left most : ℕ) (field : List ℕ) → IsAbove field most → whole_field left most field ≡ Err (Large left)
+unfolding whole_field
 reads_above left most field above = rw (true_decimal field above.decimal, lt-leb (value_of field) most above.above) refl

@@ -19,30 +19,30 @@ use Rattle.tree_certificate.specs.declared.word.Version.{Version}
 use Rattle.tree_certificate.specs.declared.word.Version.TheVariants.{First, Second, Third}
 use Rattle.tree_certificate.specs.TreeTexts.{node_text, verdict_line, is_third, needs_third, later_text, body_text, tree_text}
 use Rattle.tree_certificate.specs.Reading.{◌>>=◌}
-use Rattle.tree_certificate.specs.FieldsRead.{HasNone, ended}
+use Rattle.tree_certificate.specs.FieldsRead.{HasNone, line_ended}
 use Rattle.tree_certificate.specs.LinesRead.{line_at}
 use Rattle.tree_certificate.specs.NodesRead.{nodes_at}
-use Rattle.tree_certificate.specs.TreesRead.{TreeRead, version_word_at, version_at, edition_line_at, edition_at, optimal_at, infeasible_at, verdict_at, end_at, is_third_version, tree_at, read_of, Refuses}
-use Rattle.tree_certificate.specs.Versions.{version_line, edition_line, version_text, FitsEdition, HasLines, Completes, IsText, later_version}
+use Rattle.tree_certificate.specs.TreesRead.{TreeRead, version_word_at, version_at, edition_line_at, edition_at, optimal_at, infeasible_at, verdict_at, end_at, is_third_version, tree_at, read_of, AnswersTree}
+use Rattle.tree_certificate.specs.Versions.{version_line, edition_head, version_text, FitsEdition, HasLines, Completes, IsText, later_version}
 use Rattle.tree_certificate.proofs.FieldsAgain.{none_by, none_in_number, last_again}
 use Rattle.tree_certificate.proofs.FieldsTaken.{ok_is}
 use Rattle.tree_certificate.proofs.LinesAgain.{NotEnd, line_again, three}
 use Rattle.tree_certificate.proofs.NodesAgain.{HasLine, nodes_again}
 
 version_again : (version : Version) (rest : List ℕ) → version_at (version_line version ++ rest) ≡ Ok (version, rest)
-unfolding version_at version_word_at ended
+unfolding version_at version_word_at line_ended
 version_again First rest = rw (line_again (codes "displib-tree 1") rest (none_by 10 (codes "displib-tree 1") refl)) refl
 version_again Second rest = rw (line_again (codes "displib-tree 2") rest (none_by 10 (codes "displib-tree 2") refl)) refl
 version_again Third rest = rw (line_again (codes "displib-tree 3") rest (none_by 10 (codes "displib-tree 3") refl)) refl
 
-edition_line_again : (e : ℕ) (rest : List ℕ) → e ≤ 65535 → edition_line_at (edition_line (Some e) ++ rest) ≡ Ok (Some e, rest)
-unfolding edition_line_at ended
+edition_line_again : (e : ℕ) (rest : List ℕ) → e ≤ 65535 → edition_line_at (edition_head (Some e) ++ rest) ≡ Ok (Some e, rest)
+unfolding edition_line_at line_ended
 edition_line_again e rest within =
     let none : HasNone 10 (codes "edition " ++ decimal e) = All-append NotEnd (codes "edition ") (decimal e) (none_by 10 (codes "edition ") refl) (none_in_number 10 e (omega (arith, within)) (omega arith)) in
     ap edition_line_at (three (codes "edition ") (decimal e) (codes "\n") rest)
     ∙ rw (line_again (codes "edition " ++ decimal e) rest none, last_again _ 65535 e within (omega arith)) refl
 
-edition_again : (version : Version) (edition : Option ℕ) (rest : List ℕ) → FitsEdition version edition → edition_at version (edition_line edition ++ rest) ≡ Ok (edition, rest)
+edition_again : (version : Version) (edition : Option ℕ) (rest : List ℕ) → FitsEdition version edition → edition_at version (edition_head edition ++ rest) ≡ Ok (edition, rest)
 unfolding edition_at
 edition_again First None rest fits = refl
 edition_again First (Some e) rest fits = absurd fits
@@ -52,7 +52,7 @@ edition_again Third None rest fits = absurd fits
 edition_again Third (Some e) rest fits = edition_line_again e rest fits
 
 verdict_again : (verdict : Verdict) (rest : List ℕ) → FitsVerdict verdict → verdict_at (verdict_line verdict ++ rest) ≡ Ok (verdict, rest)
-unfolding verdict_at optimal_at infeasible_at ended
+unfolding verdict_at optimal_at infeasible_at line_ended
 verdict_again (Optimal cost) rest fits =
     let none : HasNone 10 (codes "verdict optimal " ++ decimal cost) = All-append NotEnd (codes "verdict optimal ") (decimal cost) (none_by 10 (codes "verdict optimal ") refl) (none_in_number 10 cost (omega (arith, fits)) (omega arith)) in
     ap verdict_at (three (codes "verdict optimal ") (decimal cost) (codes "\n") rest)
@@ -60,7 +60,7 @@ verdict_again (Optimal cost) rest fits =
 verdict_again Infeasible rest fits = rw (line_again (codes "verdict infeasible") rest (none_by 10 (codes "verdict infeasible") refl)) refl
 
 end_again : end_at (codes "end\n") ≡ Ok tt
-unfolding end_at ended
+unfolding end_at line_ended
 end_again = rw (line_again (codes "end") [] (none_by 10 (codes "end") refl)) refl
 
 node_some : (n : TreeNode) → 1 ≤ length (node_text n)
@@ -107,9 +107,9 @@ pub tree_again : (bytes : List ℕ) (version : Version) (read : TreeRead) → Is
 unfolding tree_at
 tree_again bytes version read is =
     let long : length read.tree ≤ length (flat_map node_text read.tree ++ codes "end\n") = omega (arith, nodes_len read.tree, length-append (flat_map node_text read.tree) (codes "end\n")) in
-    ap tree_at (is.text ∙ regroup (version_line version) (edition_line read.edition) (verdict_line read.verdict) (flat_map node_text read.tree) (codes "end\n"))
+    ap tree_at (is.text ∙ regroup (version_line version) (edition_head read.edition) (verdict_line read.verdict) (flat_map node_text read.tree) (codes "end\n"))
     ∙ rw (
-      version_again version (edition_line read.edition ++ (verdict_line read.verdict ++ (flat_map node_text read.tree ++ codes "end\n"))),
+      version_again version (edition_head read.edition ++ (verdict_line read.verdict ++ (flat_map node_text read.tree ++ codes "end\n"))),
       edition_again version read.edition (verdict_line read.verdict ++ (flat_map node_text read.tree ++ codes "end\n")) is.edition_fits,
       verdict_again read.verdict (flat_map node_text read.tree ++ codes "end\n") is.verdict_fits,
       nodes_again (is_third_version version) (length (flat_map node_text read.tree ++ codes "end\n")) 1 read.tree (codes "end\n") long is.complete is.nodes_fit (have_lines version read.tree is.lines),
@@ -118,7 +118,7 @@ tree_again bytes version read is =
 
 -- a text is answered by what it says, unless memory runs out
 pub only_text : (bytes : List ℕ) (version : Version) (read : TreeRead) (answer : Result (Option ℕ × Verdict × List TreeNode) TreeNo)
-    → MatchResult answer (λ x. tree_at bytes ≡ Ok (read_of x.0 x.1 x.2)) (λ why. Refuses bytes why (tree_at bytes)) → IsText bytes version read
+    → MatchResult answer (λ x. tree_at bytes ≡ Ok (read_of x.0 x.1 x.2)) (λ why. AnswersTree bytes why (tree_at bytes)) → IsText bytes version read
     → MatchResult answer (λ x. read_of x.0 x.1 x.2 ≡ read) (λ why. why ≡ no.Memory)
 only_text bytes version read (Ok x) exact is = let t = tree_again bytes version read is in ok_is (read_of x.0 x.1 x.2) read (sym exact ∙ t)
 only_text bytes version read (Err no.Memory) exact is = refl

@@ -16,11 +16,11 @@ use Rattle.tree_certificate.specs.declared.word.Version.{Version}
 use Rattle.tree_certificate.specs.declared.word.Version.TheVariants.{First, Second, Third}
 use Rattle.tree_certificate.specs.TreeTexts.{node_text, verdict_line, body_text, is_third, needs_third}
 use Rattle.tree_certificate.specs.Reading.{◌>>=◌}
-use Rattle.tree_certificate.specs.FieldsRead.{behind, number_at, ended, word_at, or_word}
+use Rattle.tree_certificate.specs.FieldsRead.{behind, field_number, line_ended, word_at, or_word}
 use Rattle.tree_certificate.specs.LinesRead.{line_at}
 use Rattle.tree_certificate.specs.NodesRead.{nodes_at}
-use Rattle.tree_certificate.specs.TreesRead.{TreeRead, version_word_at, version_at, edition_line_at, edition_at, optimal_at, infeasible_at, verdict_by, verdict_at, nothing_behind, end_at, is_third_version, tree_at, read_of, Refuses}
-use Rattle.tree_certificate.specs.Versions.{version_line, edition_line, version_text, FitsEdition, HasLines, Completes, IsText}
+use Rattle.tree_certificate.specs.TreesRead.{TreeRead, version_word_at, version_at, edition_line_at, edition_at, optimal_at, infeasible_at, verdict_by, verdict_at, nothing_behind, end_at, is_third_version, tree_at, read_of, AnswersTree}
+use Rattle.tree_certificate.specs.Versions.{version_line, edition_head, version_text, FitsEdition, HasLines, Completes, IsText}
 use Rattle.tree_certificate.proofs.FieldsTaken.{bind_ok, done, ok_is, parts, field_taken, end_taken, behind_taken, word_taken, or_word_taken}
 use Rattle.tree_certificate.proofs.LinesAgain.{three}
 use Rattle.tree_certificate.proofs.LinesTaken.{line_taken}
@@ -60,7 +60,7 @@ unfolding version_at
 version_taken bytes x e =
     let l = bind_ok (line_at bytes) _ x e in
     let v = bind_ok (version_word_at (length bytes) l.0.0) _ x l.2 in
-    let d = bind_ok (ended (length bytes) v.0.1) _ x v.2 in
+    let d = bind_ok (line_ended (length bytes) v.0.1) _ x v.2 in
     let line = line_taken bytes l.0.0 l.0.1 l.1 in
     let word = version_word_taken (length bytes) l.0.0 v.0 v.1 in
     let none = end_taken (length bytes) v.0.1 d.0 d.1 in
@@ -70,20 +70,20 @@ version_taken bytes x e =
 
 -- the edition's line
 abbrev IsLaterEdition : List ℕ → (Option ℕ × List ℕ) → Type 0
-IsLaterEdition bytes x = (bytes ≡ edition_line x.0 ++ x.1) × FitsEdition Third x.0
+IsLaterEdition bytes x = (bytes ≡ edition_head x.0 ++ x.1) × FitsEdition Third x.0
 
 edition_line_taken : (bytes : List ℕ) (x : Option ℕ × List ℕ) → edition_line_at bytes ≡ Ok x → IsLaterEdition bytes x
 unfolding edition_line_at
 edition_line_taken bytes x e =
     let l = bind_ok (line_at bytes) _ x e in
     let f = bind_ok (word_at (length bytes) (codes "edition") l.0.0) _ x l.2 in
-    let n = bind_ok (number_at (length bytes) 65535 f.0) _ x f.2 in
-    let d = bind_ok (ended (length bytes) n.0.1) _ x n.2 in
+    let n = bind_ok (field_number (length bytes) 65535 f.0) _ x f.2 in
+    let d = bind_ok (line_ended (length bytes) n.0.1) _ x n.2 in
     let line = line_taken bytes l.0.0 l.0.1 l.1 in
     let word = word_taken (length bytes) (codes "edition") l.0.0 f.0 f.1 in
     let number = field_taken (length bytes) 65535 f.0 n.0.0 n.0.1 (omega arith) n.1 in
     let none = end_taken (length bytes) n.0.1 d.0 d.1 in
-    let text : bytes ≡ edition_line (Some n.0.0) ++ l.0.1 =
+    let text : bytes ≡ edition_head (Some n.0.0) ++ l.0.1 =
     line ∙ ap (λ (k : List ℕ). k ++ 10 ∷ l.0.1) (word ∙ ap (λ (k : List ℕ). codes "edition" ++ k) (number.0 ∙ ap (λ (k : List ℕ). 32 ∷ (decimal n.0.0 ++ k)) none ∙ ap (λ (k : List ℕ). 32 ∷ k) (append-nil (decimal n.0.0))))
     ∙ sym (three (codes "edition ") (decimal n.0.0) (codes "\n") l.0.1) in
     subst (IsLaterEdition bytes) (ok_is {A = Option ℕ × List ℕ} (Some n.0.0, l.0.1) x d.2) (text, number.1)
@@ -92,9 +92,9 @@ same_limit : (edition : Option ℕ) → FitsEdition Third edition → FitsEditio
 same_limit None fits = fits
 same_limit (Some e) fits = fits
 
-edition_taken : (version : Version) (bytes : List ℕ) (x : Option ℕ × List ℕ) → edition_at version bytes ≡ Ok x → (bytes ≡ edition_line x.0 ++ x.1) × FitsEdition version x.0
+edition_taken : (version : Version) (bytes : List ℕ) (x : Option ℕ × List ℕ) → edition_at version bytes ≡ Ok x → (bytes ≡ edition_head x.0 ++ x.1) × FitsEdition version x.0
 unfolding edition_at
-edition_taken First bytes x e = subst (λ (y : Option ℕ × List ℕ). (bytes ≡ edition_line y.0 ++ y.1) × FitsEdition First y.0) (ok_is {A = Option ℕ × List ℕ} (None, bytes) x e) (refl, tt)
+edition_taken First bytes x e = subst (λ (y : Option ℕ × List ℕ). (bytes ≡ edition_head y.0 ++ y.1) × FitsEdition First y.0) (ok_is {A = Option ℕ × List ℕ} (None, bytes) x e) (refl, tt)
 edition_taken Second bytes x e = let is = edition_line_taken bytes x e in (is.0, same_limit x.0 is.1)
 edition_taken Third bytes x e = edition_line_taken bytes x e
 
@@ -105,8 +105,8 @@ IsVerdict line verdict = ((rest : List ℕ) → line ++ 10 ∷ rest ≡ verdict_
 optimal_taken : (left : ℕ) (fields : List ℕ) (verdict : Verdict) → optimal_at left fields ≡ Ok verdict → IsVerdict (codes "verdict optimal" ++ fields) verdict
 unfolding optimal_at
 optimal_taken left fields verdict e =
-    let n = bind_ok (number_at left GREATEST_COST fields) _ verdict e in
-    let d = bind_ok (ended left n.0.1) _ verdict n.2 in
+    let n = bind_ok (field_number left GREATEST_COST fields) _ verdict e in
+    let d = bind_ok (line_ended left n.0.1) _ verdict n.2 in
     let number = field_taken left GREATEST_COST fields n.0.0 n.0.1 (omega arith) n.1 in
     let none = end_taken left n.0.1 d.0 d.1 in
     let text : fields ≡ 32 ∷ decimal n.0.0 = number.0 ∙ ap (λ (k : List ℕ). 32 ∷ (decimal n.0.0 ++ k)) none ∙ ap (λ (k : List ℕ). 32 ∷ k) (append-nil (decimal n.0.0)) in
@@ -117,7 +117,7 @@ infeasible_taken : (left : ℕ) (line : List ℕ) (verdict : Verdict) → infeas
 unfolding infeasible_at
 infeasible_taken left line verdict e =
     let f = bind_ok (word_at left (codes "verdict infeasible") line) _ verdict e in
-    let d = bind_ok (ended left f.0) _ verdict f.2 in
+    let d = bind_ok (line_ended left f.0) _ verdict f.2 in
     let word = word_taken left (codes "verdict infeasible") line f.0 f.1 in
     let none = end_taken left f.0 d.0 d.1 in
     subst (IsVerdict line) (ok_is Infeasible verdict d.2)
@@ -146,7 +146,7 @@ unfolding end_at
 last_taken bytes x e =
     let l = bind_ok (line_at bytes) _ x e in
     let f = bind_ok (word_at (length bytes) (codes "end") l.0.0) _ x l.2 in
-    let d = bind_ok (ended (length bytes) f.0) _ x f.2 in
+    let d = bind_ok (line_ended (length bytes) f.0) _ x f.2 in
     let line = line_taken bytes l.0.0 l.0.1 l.1 in
     let word = word_taken (length bytes) (codes "end") l.0.0 f.0 f.1 in
     let none = end_taken (length bytes) f.0 d.0 d.1 in
@@ -188,8 +188,8 @@ tree_taken bytes read e =
     let nodes = nodes_taken (is_third_version v.0.0) (length vd.0.1) 1 vd.0.1 ns.0 ns.1 in
     let last = last_taken ns.0.1 d.0 d.1 in
     let text : bytes ≡ version_text v.0.0 (read_of ed.0.0 vd.0.0 ns.0.0) =
-    first ∙ ap (λ (k : List ℕ). version_line v.0.0 ++ k) (second.0 ∙ ap (λ (k : List ℕ). edition_line ed.0.0 ++ k) (third.0 ∙ ap (λ (k : List ℕ). verdict_line vd.0.0 ++ k) (nodes.0 ∙ ap (λ (k : List ℕ). flat_map node_text ns.0.0 ++ k) last)))
-    ∙ sym (regroup (version_line v.0.0) (edition_line ed.0.0) (verdict_line vd.0.0) (flat_map node_text ns.0.0) (codes "end\n")) in
+    first ∙ ap (λ (k : List ℕ). version_line v.0.0 ++ k) (second.0 ∙ ap (λ (k : List ℕ). edition_head ed.0.0 ++ k) (third.0 ∙ ap (λ (k : List ℕ). verdict_line vd.0.0 ++ k) (nodes.0 ∙ ap (λ (k : List ℕ). flat_map node_text ns.0.0 ++ k) last)))
+    ∙ sym (regroup (version_line v.0.0) (edition_head ed.0.0) (verdict_line vd.0.0) (flat_map node_text ns.0.0) (codes "end\n")) in
     let is : IsText bytes v.0.0 (read_of ed.0.0 vd.0.0 ns.0.0) = record {
       edition_fits = second.1;
       verdict_fits = third.1;
@@ -201,7 +201,7 @@ tree_taken bytes read e =
     subst (Says bytes) (ok_is (read_of ed.0.0 vd.0.0 ns.0.0) read d.2) (v.0.0, is)
 
 pub found_text : (bytes : List ℕ) (answer : Result (Option ℕ × Verdict × List TreeNode) TreeNo)
-    → MatchResult answer (λ x. tree_at bytes ≡ Ok (read_of x.0 x.1 x.2)) (λ why. Refuses bytes why (tree_at bytes))
+    → MatchResult answer (λ x. tree_at bytes ≡ Ok (read_of x.0 x.1 x.2)) (λ why. AnswersTree bytes why (tree_at bytes))
     → IfOk answer (λ x. (version : Version) × IsText bytes version (read_of x.0 x.1 x.2))
 found_text bytes (Ok x) exact = tree_taken bytes (read_of x.0 x.1 x.2) exact
 found_text bytes (Err why) exact = tt

@@ -16,7 +16,7 @@ abbrev pub HasNone : ℕ → List ℕ → Type 0
 HasNone byte bytes = All (λ b. b ≡ byte → ⊥) bytes
 
 -- the first such byte stands there
-pub record IsFirst (byte : ℕ) (bytes : List ℕ) (place : ℕ) : Type 0 where
+pub record IsFirstByte (byte : ℕ) (bytes : List ℕ) (place : ℕ) : Type 0 where
   pub within : place < length bytes
   pub is : get_or bytes place 0 ≡ byte
   pub none_before : HasNone byte (take place bytes)
@@ -42,20 +42,20 @@ is_decimal bytes =
     && (nat_lt (length bytes) 2 || not (get_or bytes 0 0 == 48))
 
 -- the number of a whole field
-unfoldable pub number_of : ℕ → ℕ → List ℕ → Result ℕ Fault
-number_of left most field =
+unfoldable pub whole_field : ℕ → ℕ → List ℕ → Result ℕ Fault
+whole_field left most field =
     if is_decimal field then (if nat_le (value_of field) most then Ok (value_of field) else Err (Large left)) else Err (Bad left)
 
 -- a space, and the number of the field behind it
-unfoldable pub number_at : ℕ → ℕ → List ℕ → Result (ℕ × List ℕ) Fault
-number_at left most [] = Err (Bad left)
-number_at left most (space ∷ bytes) =
-    if space == 32 then (number_of left most (before 32 bytes) >>= λ n. Ok (n, from 32 bytes)) else Err (Bad left)
+unfoldable pub field_number : ℕ → ℕ → List ℕ → Result (ℕ × List ℕ) Fault
+field_number left most [] = Err (Bad left)
+field_number left most (space ∷ bytes) =
+    if space == 32 then (whole_field left most (before 32 bytes) >>= λ n. Ok (n, from 32 bytes)) else Err (Bad left)
 
 unfoldable pub op_at : ℕ → List ℕ → Result (Op × List ℕ) Fault
 op_at left bytes = do
-  t ← number_at left GREATEST_NUMBER bytes
-  o ← number_at left GREATEST_NUMBER t.1
+  t ← field_number left GREATEST_NUMBER bytes
+  o ← field_number left GREATEST_NUMBER t.1
   Ok (record { train = t.0; op = o.0 }, o.1)
 
 -- operations up to the end of the line, so many at most
@@ -68,9 +68,9 @@ ops_at left (suc most) (b ∷ bytes) = do
   Ok (o.0 ∷ ops)
 
 -- the line has no further field
-unfoldable pub ended : ℕ → List ℕ → Result ⊤ Fault
-ended left [] = Ok tt
-ended left (b ∷ bytes) = Err (Bad left)
+unfoldable pub line_ended : ℕ → List ℕ → Result ⊤ Fault
+line_ended left [] = Ok tt
+line_ended left (b ∷ bytes) = Err (Bad left)
 
 -- what stands behind the word that the line begins with
 abbrev pub found : ℕ → Option (List ℕ) → Result (List ℕ) Fault

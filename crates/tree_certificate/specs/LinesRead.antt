@@ -7,7 +7,7 @@ use Rattle.disp_model.specs.declared.limits.TheConstants.{GREATEST_NUMBER, MOST_
 use Rattle.tree_certificate.specs.declared.fault.Fault.{Fault}
 use Rattle.tree_certificate.specs.declared.fault.Fault.TheVariants.{Truncated}
 use Rattle.tree_certificate.specs.Reading.{◌>>=◌}
-use Rattle.tree_certificate.specs.FieldsRead.{before, from, number_at, ops_at, ended, word_at}
+use Rattle.tree_certificate.specs.FieldsRead.{before, from, field_number, ops_at, line_ended, word_at}
 
 -- a line, without its end, which has to be there
 abbrev pub line_with : List ℕ → List ℕ → Result (List ℕ × List ℕ) Fault
@@ -26,17 +26,17 @@ items_at item (suc count) bytes = do
   Ok (first.0 ∷ others.0, others.1)
 
 -- a count that ends its line
-unfoldable pub count_at : ℕ → List ℕ → Result ℕ Fault
-count_at left fields = do
-  count ← number_at left MOST_COMPONENTS fields
-  done ← ended left count.1
+unfoldable pub last_count : ℕ → List ℕ → Result ℕ Fault
+last_count left fields = do
+  count ← field_number left MOST_COMPONENTS fields
+  done ← line_ended left count.1
   Ok count.0
 
 unfoldable pub walk_at : List ℕ → Result (ComponentWalk × List ℕ) Fault
 walk_at bytes = do
   line ← line_at bytes
   fields ← word_at (length bytes) (codes "walk") line.0
-  component ← number_at (length bytes) GREATEST_NUMBER fields
+  component ← field_number (length bytes) GREATEST_NUMBER fields
   ops ← ops_at (length bytes) (length component.1) component.1
   Ok (record { component = component.0; walk = ops }, line.1)
 
@@ -47,11 +47,11 @@ to_at bytes = do
   ops ← ops_at (length bytes) (length fields) fields
   Ok (ops, line.1)
 
-unfoldable pub train_at : List ℕ → Result (TrainWalks × List ℕ) Fault
-train_at bytes = do
+unfoldable pub train_read : List ℕ → Result (TrainWalks × List ℕ) Fault
+train_read bytes = do
   line ← line_at bytes
   fields ← word_at (length bytes) (codes "train") line.0
-  train ← number_at (length bytes) GREATEST_NUMBER fields
-  count ← count_at (length bytes) train.1
+  train ← field_number (length bytes) GREATEST_NUMBER fields
+  count ← last_count (length bytes) train.1
   walks ← items_at to_at count line.1
   Ok (record { train = train.0; walks = walks.0 }, walks.1)

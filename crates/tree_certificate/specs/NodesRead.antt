@@ -10,8 +10,8 @@ use Rattle.tree_certificate.specs.declared.fault.Fault.TheVariants.{Bad, Truncat
 use Rattle.tree_certificate.specs.declared.word.Word.{Word}
 use Rattle.tree_certificate.specs.declared.word.Word.TheVariants as word
 use Rattle.tree_certificate.specs.Reading.{◌>>=◌}
-use Rattle.tree_certificate.specs.FieldsRead.{behind, number_at, op_at, ops_at, ended, or_word}
-use Rattle.tree_certificate.specs.LinesRead.{line_at, items_at, count_at, walk_at, train_at}
+use Rattle.tree_certificate.specs.FieldsRead.{behind, field_number, op_at, ops_at, line_ended, or_word}
+use Rattle.tree_certificate.specs.LinesRead.{line_at, items_at, last_count, walk_at, train_read}
 
 -- the word of a node's line
 unfoldable pub node_word_at : ℕ → List ℕ → Result (Word × List ℕ) Fault
@@ -33,16 +33,16 @@ not_none left (suc n) = Ok (suc n)
 unfoldable pub route_at : ℕ → List ℕ → Result TreeNode Fault
 route_at left fields = do
   op ← op_at left fields
-  count ← number_at left MOST_COMPONENTS op.1
+  count ← field_number left MOST_COMPONENTS op.1
   children ← not_none left count.0
-  done ← ended left count.1
+  done ← line_ended left count.1
   Ok (Branch (Route op.0) children)
 
 unfoldable pub order_at : ℕ → List ℕ → Result TreeNode Fault
 order_at left fields = do
   a ← op_at left fields
   b ← op_at left a.1
-  done ← ended left b.1
+  done ← line_ended left b.1
   Ok (Branch (Order a.0 b.0) 2)
 
 -- a line that only the third version has
@@ -54,12 +54,12 @@ unfoldable pub run_at : Bool → ℕ → List ℕ → Result TreeNode Fault
 run_at third left fields = do
   allowed ← only_third third left
   op ← op_at left fields
-  done ← ended left op.1
+  done ← line_ended left op.1
   Ok (Branch (Run op.0) 2)
 
 unfoldable pub no_route_at : ℕ → List ℕ → Result TreeNode Fault
 no_route_at left fields = do
-  done ← ended left fields
+  done ← line_ended left fields
   Ok (Leaf leaf.NoRoute)
 
 unfoldable pub cycle_at : ℕ → List ℕ → Result TreeNode Fault
@@ -74,17 +74,17 @@ late_at left fields = do
 
 unfoldable pub costs_at : ℕ → List ℕ → List ℕ → Result (TreeNode × List ℕ) Fault
 costs_at left fields rest = do
-  count ← count_at left fields
+  count ← last_count left fields
   walks ← items_at walk_at count rest
   Ok (Leaf (leaf.Costs walks.0), walks.1)
 
 unfoldable pub shares_at : Bool → ℕ → List ℕ → List ℕ → Result (TreeNode × List ℕ) Fault
 shares_at third left fields rest = do
   allowed ← only_third third left
-  count ← number_at left MOST_COMPONENTS fields
-  train_count ← count_at left count.1
+  count ← field_number left MOST_COMPONENTS fields
+  train_count ← last_count left count.1
   walks ← items_at walk_at count.0 rest
-  trains ← items_at train_at train_count walks.1
+  trains ← items_at train_read train_count walks.1
   Ok (Leaf (leaf.Shares walks.0 trains.0), trains.1)
 
 -- a node that is one line, and the lines behind it
@@ -102,22 +102,22 @@ node_by word.Late third left fields rest = and_rest (late_at left fields) rest
 node_by word.Costs third left fields rest = costs_at left fields rest
 node_by word.Shares third left fields rest = shares_at third left fields rest
 
-unfoldable pub node_at : Bool → List ℕ → Result (TreeNode × List ℕ) Fault
-node_at third bytes = do
+unfoldable pub node_read : Bool → List ℕ → Result (TreeNode × List ℕ) Fault
+node_read third bytes = do
   line ← line_at bytes
   word ← node_word_at (length bytes) line.0
   node_by word.0 third (length bytes) word.1 line.1
 
 -- how many places a node opens
-abbrev pub children_of : TreeNode → ℕ
-children_of (Branch choice children) = children
-children_of (Leaf leaf) = 0
+abbrev pub places_opened : TreeNode → ℕ
+places_opened (Branch choice children) = children
+places_opened (Leaf leaf) = 0
 
 -- the nodes that fill so many open places; each takes a line at least, so there are no more than bytes
 unfoldable pub nodes_at : Bool → ℕ → ℕ → List ℕ → Result (List TreeNode × List ℕ) Fault
 nodes_at third most zero bytes = Ok ([], bytes)
 nodes_at third zero (suc open_places) bytes = Err Truncated
 nodes_at third (suc most) (suc open_places) bytes = do
-  node ← node_at third bytes
-  more ← nodes_at third most (open_places + children_of node.0) node.1
+  node ← node_read third bytes
+  more ← nodes_at third most (open_places + places_opened node.0) node.1
   Ok (node.0 ∷ more.0, more.1)

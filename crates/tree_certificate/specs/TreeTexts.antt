@@ -29,8 +29,8 @@ abbrev pub to_text : List Op → List ℕ
 to_text walk = codes "to" ++ ops_text walk ++ codes "\n"
 
 -- a train and its walks
-abbrev pub train_text : TrainWalks → List ℕ
-train_text listed = codes "train " ++ decimal listed.train ++ codes " " ++ decimal (length listed.walks) ++ codes "\n" ++ flat_map to_text listed.walks
+abbrev pub listed_text : TrainWalks → List ℕ
+listed_text listed = codes "train " ++ decimal listed.train ++ codes " " ++ decimal (length listed.walks) ++ codes "\n" ++ flat_map to_text listed.walks
 
 abbrev pub leaf_text : TreeLeaf → List ℕ
 leaf_text NoRoute = codes "noroute\n"
@@ -39,7 +39,7 @@ leaf_text (Late walk) = codes "late" ++ ops_text walk ++ codes "\n"
 leaf_text (Costs walks) = codes "costs " ++ decimal (length walks) ++ codes "\n" ++ flat_map walk_text walks
 leaf_text (Shares walks trains) =
     codes "shares " ++ decimal (length walks) ++ codes " " ++ decimal (length trains) ++ codes "\n"
-    ++ flat_map walk_text walks ++ flat_map train_text trains
+    ++ flat_map walk_text walks ++ flat_map listed_text trains
 
 -- a branch; only that of a route says how many children it has
 abbrev pub branch_text : Choice → ℕ → List ℕ

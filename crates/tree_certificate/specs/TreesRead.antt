@@ -11,7 +11,7 @@ use Rattle.tree_certificate.specs.declared.fault.TreeNo.TheVariants as no
 use Rattle.tree_certificate.specs.declared.word.Version.{Version}
 use Rattle.tree_certificate.specs.declared.word.Version.TheVariants.{First, Second, Third}
 use Rattle.tree_certificate.specs.Reading.{◌>>=◌}
-use Rattle.tree_certificate.specs.FieldsRead.{behind, number_at, ended, word_at, or_word}
+use Rattle.tree_certificate.specs.FieldsRead.{behind, field_number, line_ended, word_at, or_word}
 use Rattle.tree_certificate.specs.LinesRead.{line_at}
 use Rattle.tree_certificate.specs.NodesRead.{nodes_at}
 
@@ -26,7 +26,7 @@ unfoldable pub version_at : List ℕ → Result (Version × List ℕ) Fault
 version_at bytes = do
   line ← line_at bytes
   version ← version_word_at (length bytes) line.0
-  done ← ended (length bytes) version.1
+  done ← line_ended (length bytes) version.1
   Ok (version.0, line.1)
 
 -- the second line of the later versions
@@ -34,8 +34,8 @@ unfoldable pub edition_line_at : List ℕ → Result (Option ℕ × List ℕ) Fa
 edition_line_at bytes = do
   line ← line_at bytes
   fields ← word_at (length bytes) (codes "edition") line.0
-  edition ← number_at (length bytes) 65535 fields
-  done ← ended (length bytes) edition.1
+  edition ← field_number (length bytes) 65535 fields
+  done ← line_ended (length bytes) edition.1
   Ok (Some edition.0, line.1)
 
 unfoldable pub edition_at : Version → List ℕ → Result (Option ℕ × List ℕ) Fault
@@ -46,14 +46,14 @@ edition_at Third bytes = edition_line_at bytes
 -- the verdict's line
 unfoldable pub optimal_at : ℕ → List ℕ → Result Verdict Fault
 optimal_at left fields = do
-  cost ← number_at left GREATEST_COST fields
-  done ← ended left cost.1
+  cost ← field_number left GREATEST_COST fields
+  done ← line_ended left cost.1
   Ok (Optimal cost.0)
 
 unfoldable pub infeasible_at : ℕ → List ℕ → Result Verdict Fault
 infeasible_at left line = do
   fields ← word_at left (codes "verdict infeasible") line
-  done ← ended left fields
+  done ← line_ended left fields
   Ok Infeasible
 
 abbrev pub verdict_by : Option (List ℕ) → ℕ → List ℕ → Result Verdict Fault
@@ -75,7 +75,7 @@ unfoldable pub end_at : List ℕ → Result ⊤ Fault
 end_at bytes = do
   line ← line_at bytes
   fields ← word_at (length bytes) (codes "end") line.0
-  done ← ended (length bytes) fields
+  done ← line_ended (length bytes) fields
   nothing_behind line.1
 
 abbrev pub is_third_version : Version → Bool
@@ -110,12 +110,12 @@ refusal_of bytes faults.Truncated = no.Truncated
 refusal_of bytes (faults.Trailing left) = no.Trailing (line_number bytes left)
 
 -- what is answered of bytes: what reading gives, or the refusal for its fault, unless memory ran out
-abbrev pub Refuses : List ℕ → TreeNo → Result TreeRead Fault → Type 0
-Refuses bytes no.Memory read = Unit {0}
-Refuses bytes (no.BadLine n) read = (fault : Fault) × (read ≡ Err fault) × (no.BadLine n ≡ refusal_of bytes fault)
-Refuses bytes (no.TooLarge n) read = (fault : Fault) × (read ≡ Err fault) × (no.TooLarge n ≡ refusal_of bytes fault)
-Refuses bytes no.Truncated read = (fault : Fault) × (read ≡ Err fault) × (no.Truncated ≡ refusal_of bytes fault)
-Refuses bytes (no.Trailing n) read = (fault : Fault) × (read ≡ Err fault) × (no.Trailing n ≡ refusal_of bytes fault)
+abbrev pub AnswersTree : List ℕ → TreeNo → Result TreeRead Fault → Type 0
+AnswersTree bytes no.Memory read = Unit {0}
+AnswersTree bytes (no.BadLine n) read = (fault : Fault) × (read ≡ Err fault) × (no.BadLine n ≡ refusal_of bytes fault)
+AnswersTree bytes (no.TooLarge n) read = (fault : Fault) × (read ≡ Err fault) × (no.TooLarge n ≡ refusal_of bytes fault)
+AnswersTree bytes no.Truncated read = (fault : Fault) × (read ≡ Err fault) × (no.Truncated ≡ refusal_of bytes fault)
+AnswersTree bytes (no.Trailing n) read = (fault : Fault) × (read ≡ Err fault) × (no.Trailing n ≡ refusal_of bytes fault)
 
 abbrev pub read_of : Option ℕ → Verdict → List TreeNode → TreeRead
 read_of edition verdict tree = record { edition = edition; verdict = verdict; tree = tree }

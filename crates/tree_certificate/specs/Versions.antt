@@ -6,7 +6,7 @@ use Rattle.disp_model.specs.Trees.{FitsNode, FitsVerdict}
 use Rattle.tree_certificate.specs.declared.word.Version.{Version}
 use Rattle.tree_certificate.specs.declared.word.Version.TheVariants.{First, Second, Third}
 use Rattle.tree_certificate.specs.TreeTexts.{body_text, needs_third}
-use Rattle.tree_certificate.specs.NodesRead.{children_of}
+use Rattle.tree_certificate.specs.NodesRead.{places_opened}
 use Rattle.tree_certificate.specs.TreesRead.{TreeRead}
 
 abbrev pub version_line : Version → List ℕ
@@ -19,12 +19,12 @@ abbrev pub later_version : Bool → Version
 later_version true = Third
 later_version false = Second
 
-abbrev pub edition_line : Option ℕ → List ℕ
-edition_line None = []
-edition_line (Some edition) = codes "edition " ++ decimal edition ++ codes "\n"
+abbrev pub edition_head : Option ℕ → List ℕ
+edition_head None = []
+edition_head (Some edition) = codes "edition " ++ decimal edition ++ codes "\n"
 
 abbrev pub version_text : Version → TreeRead → List ℕ
-version_text version read = version_line version ++ edition_line read.edition ++ body_text read.verdict read.tree
+version_text version read = version_line version ++ edition_head read.edition ++ body_text read.verdict read.tree
 
 -- the first version names no edition, the others one up to 65535
 abbrev pub FitsEdition : Version → Option ℕ → Type 0
@@ -46,7 +46,7 @@ abbrev pub Completes : ℕ → List TreeNode → Type 0
 Completes zero [] = Unit {0}
 Completes (suc places) [] = ⊥
 Completes zero (n ∷ tree) = ⊥
-Completes (suc places) (n ∷ tree) = Completes (places + children_of n) tree
+Completes (suc places) (n ∷ tree) = Completes (places + places_opened n) tree
 
 -- the bytes are the text of a tree within the limits, each of whose branches has its children
 pub record IsText (bytes : List ℕ) (version : Version) (read : TreeRead) : Type 0 where

@@ -1,6 +1,6 @@
 ghost use Rattle.std.specs.Prelude.{◌≡◌, ◌≤◌, length, MatchOption, IfOk, None, Some};
-ghost use Rattle.tree_certificate.specs.Reading.{Gives};
-ghost use Rattle.tree_certificate.specs.FieldsRead.{HasNone, IsFirst, before, from, behind, number_of, number_at, op_at, ops_at, ended, word_at};
+ghost use Rattle.tree_certificate.specs.Reading.{GivesRead};
+ghost use Rattle.tree_certificate.specs.FieldsRead.{HasNone, IsFirstByte, before, from, behind, whole_field, field_number, op_at, ops_at, line_ended, word_at};
 
 use crate::fault::{Fault, ReadError};
 use disp_model::{GREATEST_NUMBER, Op};
@@ -9,7 +9,7 @@ use std::alloc::Global;
 
 /// Where the first such byte stands.
 fn first(bytes: &[u8], byte: u8) -> Option<usize>
-    ensures { MatchOption result (HasNone byte bytes.now) (IsFirst byte bytes.now) }
+    ensures { MatchOption result (HasNone byte bytes.now) (IsFirstByte byte bytes.now) }
 {
     bytes.iter().position(|b| *b == byte)
 }
@@ -36,7 +36,7 @@ pub(crate) fn behind<'a>(line: &'a [u8], word: &[u8]) -> Option<&'a [u8]>
 
 /// What stands behind the word that the line has to begin with.
 pub(crate) fn word_at<'a>(left: usize, line: &'a [u8], word: &[u8]) -> Result<&'a [u8], ReadError>
-    ensures { Gives (λ x. x.now) result (word_at left word.now line.now) }
+    ensures { GivesRead (λ x. x.now) result (word_at left word.now line.now) }
 {
     match behind(line, word) {
         Some(fields) => Ok(fields),
@@ -45,8 +45,8 @@ pub(crate) fn word_at<'a>(left: usize, line: &'a [u8], word: &[u8]) -> Result<&'
 }
 
 /// The number of a whole field.
-fn number_of(left: usize, most: u64, field: &[u8]) -> Result<u64, ReadError>
-    ensures gives { Gives (λ n. n) result (number_of left most field.now) }
+fn whole_field(left: usize, most: u64, field: &[u8]) -> Result<u64, ReadError>
+    ensures gives { GivesRead (λ n. n) result (whole_field left most field.now) }
     ensures within { IfOk result (λ n. n ≤ most) }
 {
     match read_number(field, u128::from(most)) {
@@ -57,9 +57,9 @@ fn number_of(left: usize, most: u64, field: &[u8]) -> Result<u64, ReadError>
 }
 
 /// A space, and the number of the field behind it.
-#[tactic(auto, unfolding(crate::specs::FieldsRead::number_at))]
-pub(crate) fn number_at(left: usize, most: u64, bytes: &[u8]) -> Result<(u64, &[u8]), ReadError>
-    ensures gives { Gives (λ x. (x.0, x.1.now)) result (number_at left most bytes.now) }
+#[tactic(auto, unfolding(crate::specs::FieldsRead::field_number))]
+pub(crate) fn field_number(left: usize, most: u64, bytes: &[u8]) -> Result<(u64, &[u8]), ReadError>
+    ensures gives { GivesRead (λ x. (x.0, x.1.now)) result (field_number left most bytes.now) }
     ensures within { IfOk result (λ x. x.0 ≤ most) }
 {
     match bytes {
@@ -69,7 +69,7 @@ pub(crate) fn number_at(left: usize, most: u64, bytes: &[u8]) -> Result<(u64, &[
                 return Err(ReadError::Fault(Fault::Bad(left)));
             }
             let (field, rest) = cut(fields, b' ');
-            let number = number_of(left, most, field)?;
+            let number = whole_field(left, most, field)?;
             Ok((number, rest))
         }
     }
@@ -77,16 +77,16 @@ pub(crate) fn number_at(left: usize, most: u64, bytes: &[u8]) -> Result<(u64, &[
 
 /// A space, and the smaller number of the field behind it.
 pub(crate) fn index_at(left: usize, most: u32, bytes: &[u8]) -> Result<(u32, &[u8]), ReadError>
-    ensures { Gives (λ x. (x.0, x.1.now)) result (number_at left most bytes.now) }
+    ensures { GivesRead (λ x. (x.0, x.1.now)) result (field_number left most bytes.now) }
 {
-    let (number, rest) = number_at(left, u64::from(most), bytes)?;
+    let (number, rest) = field_number(left, u64::from(most), bytes)?;
     Ok((number as u32, rest))
 }
 
 /// An operation.
 #[tactic(auto, unfolding(crate::specs::FieldsRead::op_at))]
 pub(crate) fn op_at(left: usize, bytes: &[u8]) -> Result<(Op, &[u8]), ReadError>
-    ensures { Gives (λ x. (x.0, x.1.now)) result (op_at left bytes.now) }
+    ensures { GivesRead (λ x. (x.0, x.1.now)) result (op_at left bytes.now) }
 {
     let (train, rest) = index_at(left, GREATEST_NUMBER, bytes)?;
     let (op, rest) = index_at(left, GREATEST_NUMBER, rest)?;
@@ -94,9 +94,9 @@ pub(crate) fn op_at(left: usize, bytes: &[u8]) -> Result<(Op, &[u8]), ReadError>
 }
 
 /// Nothing more stands in the line.
-#[tactic(auto, unfolding(crate::specs::FieldsRead::ended))]
-pub(crate) fn ended(left: usize, bytes: &[u8]) -> Result<(), ReadError>
-    ensures { Gives (λ x. x) result (ended left bytes.now) }
+#[tactic(auto, unfolding(crate::specs::FieldsRead::line_ended))]
+pub(crate) fn line_ended(left: usize, bytes: &[u8]) -> Result<(), ReadError>
+    ensures { GivesRead (λ x. x) result (line_ended left bytes.now) }
 {
     match bytes {
         [] => Ok(()),
@@ -106,7 +106,7 @@ pub(crate) fn ended(left: usize, bytes: &[u8]) -> Result<(), ReadError>
 
 /// Operations up to the end of the line.
 pub(crate) fn ops_at(alloc: Global, left: usize, bytes: &[u8]) -> Result<Vec<Op>, ReadError>
-    ensures { Gives (λ x. x.items) result (ops_at left (length bytes.now) bytes.now) }
+    ensures { GivesRead (λ x. x.items) result (ops_at left (length bytes.now) bytes.now) }
 {
     let mut ops = Vec::new(alloc);
     let mut rest = bytes;
@@ -118,6 +118,6 @@ pub(crate) fn ops_at(alloc: Global, left: usize, bytes: &[u8]) -> Result<Vec<Op>
         ops.push(op)?;
         rest = after;
     }
-    ended(left, rest)?;
+    line_ended(left, rest)?;
     Ok(ops)
 }

@@ -1,7 +1,7 @@
 ghost use Rattle.std.specs.Prelude.{◌++◌, OnOk, codes, string_bytes};
 ghost use Rattle.std.specs.List.{flat_map};
 ghost use Rattle.plain_values.specs.Texts.{Adds};
-ghost use Rattle.tree_certificate.specs.TreeTexts.{op_text, ops_text, walk_text, to_text, train_text, leaf_text};
+ghost use Rattle.tree_certificate.specs.TreeTexts.{op_text, ops_text, walk_text, to_text, listed_text, leaf_text};
 
 use disp_model::{ComponentWalk, Leaf, List, Memory, Op, TrainWalks};
 use plain_values::push_text;
@@ -72,7 +72,7 @@ fn push_tos(text: &mut String, walks: &[List<Op>]) -> Result<(), Memory>
 /// Adds the lines of a train.
 fn push_train(text: &mut String, listed: &TrainWalks) -> Result<(), Memory>
     ensures { OnOk result
-        (Adds (string_bytes text.old) (string_bytes text.new) (train_text listed.now)) }
+        (Adds (string_bytes text.old) (string_bytes text.new) (listed_text listed.now)) }
 {
     let train = listed.train;
     let count = listed.walks.len();
@@ -83,7 +83,7 @@ fn push_train(text: &mut String, listed: &TrainWalks) -> Result<(), Memory>
 /// Adds the lines of trains.
 fn push_trains(text: &mut String, trains: &[TrainWalks]) -> Result<(), Memory>
     ensures { OnOk result (Adds (string_bytes text.old) (string_bytes text.new)
-        (flat_map train_text trains.now)) }
+        (flat_map listed_text trains.now)) }
 {
     for listed in trains {
         push_train(text, listed)?;

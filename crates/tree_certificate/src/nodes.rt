@@ -1,12 +1,12 @@
 ghost use Rattle.std.specs.Prelude.{◌≡◌, length, Result};
 ghost use Rattle.disp_model.specs.declared.tree.TreeNode.{TreeNode};
 ghost use Rattle.tree_certificate.specs.declared.fault.Fault.{Fault};
-ghost use Rattle.tree_certificate.specs.Reading.{Gives};
-ghost use Rattle.tree_certificate.specs.NodesRead.{node_word_at, only_third, not_none, route_at, order_at, run_at, no_route_at, cycle_at, late_at, costs_at, shares_at, and_rest, node_by, node_at, children_of, nodes_at};
+ghost use Rattle.tree_certificate.specs.Reading.{GivesRead};
+ghost use Rattle.tree_certificate.specs.NodesRead.{node_word_at, only_third, not_none, route_at, order_at, run_at, no_route_at, cycle_at, late_at, costs_at, shares_at, and_rest, node_by, node_read, places_opened, nodes_at};
 
 use crate::fault::{Fault, ReadError};
-use crate::fields::{behind, ended, index_at, op_at, ops_at};
-use crate::lines::{MOST, count_at, line_at, trains_at, walks_at};
+use crate::fields::{behind, index_at, line_ended, op_at, ops_at};
+use crate::lines::{MOST, last_count, line_at, trains_at, walks_at};
 use crate::word::Word;
 use disp_model::{Choice, Leaf, List, TreeNode};
 use std::alloc::Global;
@@ -14,7 +14,7 @@ use std::alloc::Global;
 /// The word of a node's line, and what stands behind it.
 #[tactic(auto, unfolding(crate::specs::NodesRead::node_word_at))]
 fn node_word_at(left: usize, line: &[u8]) -> Result<(Word, &[u8]), ReadError>
-    ensures { Gives (λ x. (x.0, x.1.now)) result (node_word_at left line.now) }
+    ensures { GivesRead (λ x. (x.0, x.1.now)) result (node_word_at left line.now) }
 {
     if let Some(fields) = behind(line, b"route") {
         return Ok((Word::Route, fields));
@@ -45,7 +45,7 @@ fn node_word_at(left: usize, line: &[u8]) -> Result<(Word, &[u8]), ReadError>
 
 /// A line that only the third version has.
 fn only_third(third: bool, left: usize) -> Result<(), ReadError>
-    ensures { Gives (λ x. x) result (only_third third left) }
+    ensures { GivesRead (λ x. x) result (only_third third left) }
 {
     if third {
         Ok(())
@@ -56,7 +56,7 @@ fn only_third(third: bool, left: usize) -> Result<(), ReadError>
 
 /// A number of children that is not 0.
 fn not_none(left: usize, count: u32) -> Result<u32, ReadError>
-    ensures { Gives (λ x. x) result (not_none left count) }
+    ensures { GivesRead (λ x. x) result (not_none left count) }
 {
     if count == 0 {
         return Err(ReadError::Fault(Fault::Bad(left)));
@@ -67,12 +67,12 @@ fn not_none(left: usize, count: u32) -> Result<u32, ReadError>
 /// A branch of a route.
 #[tactic(auto, unfolding(crate::specs::NodesRead::route_at))]
 fn route_at(left: usize, fields: &[u8]) -> Result<TreeNode, ReadError>
-    ensures { Gives (λ x. x) result (route_at left fields.now) }
+    ensures { GivesRead (λ x. x) result (route_at left fields.now) }
 {
     let (op, fields) = op_at(left, fields)?;
     let (count, fields) = index_at(left, MOST, fields)?;
     let children = not_none(left, count)?;
-    ended(left, fields)?;
+    line_ended(left, fields)?;
     let choice = Choice::Route(op);
     Ok(TreeNode::Branch { choice, children })
 }
@@ -80,11 +80,11 @@ fn route_at(left: usize, fields: &[u8]) -> Result<TreeNode, ReadError>
 /// A branch of an order.
 #[tactic(auto, unfolding(crate::specs::NodesRead::order_at))]
 fn order_at(left: usize, fields: &[u8]) -> Result<TreeNode, ReadError>
-    ensures { Gives (λ x. x) result (order_at left fields.now) }
+    ensures { GivesRead (λ x. x) result (order_at left fields.now) }
 {
     let (a, fields) = op_at(left, fields)?;
     let (b, fields) = op_at(left, fields)?;
-    ended(left, fields)?;
+    line_ended(left, fields)?;
     let choice = Choice::Order(a, b);
     Ok(TreeNode::Branch {
         choice,
@@ -95,11 +95,11 @@ fn order_at(left: usize, fields: &[u8]) -> Result<TreeNode, ReadError>
 /// A branch whether an operation is run.
 #[tactic(auto, unfolding(crate::specs::NodesRead::run_at))]
 fn run_at(third: bool, left: usize, fields: &[u8]) -> Result<TreeNode, ReadError>
-    ensures { Gives (λ x. x) result (run_at third left fields.now) }
+    ensures { GivesRead (λ x. x) result (run_at third left fields.now) }
 {
     only_third(third, left)?;
     let (op, fields) = op_at(left, fields)?;
-    ended(left, fields)?;
+    line_ended(left, fields)?;
     let choice = Choice::Run(op);
     Ok(TreeNode::Branch {
         choice,
@@ -110,16 +110,16 @@ fn run_at(third: bool, left: usize, fields: &[u8]) -> Result<TreeNode, ReadError
 /// A leaf where some train has no route.
 #[tactic(auto, unfolding(crate::specs::NodesRead::no_route_at))]
 fn no_route_at(left: usize, fields: &[u8]) -> Result<TreeNode, ReadError>
-    ensures { Gives (λ x. x) result (no_route_at left fields.now) }
+    ensures { GivesRead (λ x. x) result (no_route_at left fields.now) }
 {
-    ended(left, fields)?;
+    line_ended(left, fields)?;
     Ok(TreeNode::Leaf(Leaf::NoRoute))
 }
 
 /// A leaf that lists a cycle.
 #[tactic(auto, unfolding(crate::specs::NodesRead::cycle_at))]
 fn cycle_at(alloc: Global, left: usize, fields: &[u8]) -> Result<TreeNode, ReadError>
-    ensures { Gives (λ x. x) result (cycle_at left fields.now) }
+    ensures { GivesRead (λ x. x) result (cycle_at left fields.now) }
 {
     let ops = ops_at(alloc, left, fields)?;
     Ok(TreeNode::Leaf(Leaf::Cycle(List::from_vec(ops))))
@@ -128,7 +128,7 @@ fn cycle_at(alloc: Global, left: usize, fields: &[u8]) -> Result<TreeNode, ReadE
 /// A leaf that lists a late walk.
 #[tactic(auto, unfolding(crate::specs::NodesRead::late_at))]
 fn late_at(alloc: Global, left: usize, fields: &[u8]) -> Result<TreeNode, ReadError>
-    ensures { Gives (λ x. x) result (late_at left fields.now) }
+    ensures { GivesRead (λ x. x) result (late_at left fields.now) }
 {
     let ops = ops_at(alloc, left, fields)?;
     Ok(TreeNode::Leaf(Leaf::Late(List::from_vec(ops))))
@@ -142,9 +142,9 @@ fn costs_at<'a>(
     fields: &[u8],
     rest: &'a [u8],
 ) -> Result<(TreeNode, &'a [u8]), ReadError>
-    ensures { Gives (λ x. (x.0, x.1.now)) result (costs_at left fields.now rest.now) }
+    ensures { GivesRead (λ x. (x.0, x.1.now)) result (costs_at left fields.now rest.now) }
 {
-    let count = count_at(left, fields)?;
+    let count = last_count(left, fields)?;
     let (walks, rest) = walks_at(alloc, count, rest)?;
     let leaf = Leaf::Costs(List::from_vec(walks));
     Ok((TreeNode::Leaf(leaf), rest))
@@ -159,11 +159,11 @@ fn shares_at<'a>(
     fields: &[u8],
     rest: &'a [u8],
 ) -> Result<(TreeNode, &'a [u8]), ReadError>
-    ensures { Gives (λ x. (x.0, x.1.now)) result (shares_at third left fields.now rest.now) }
+    ensures { GivesRead (λ x. (x.0, x.1.now)) result (shares_at third left fields.now rest.now) }
 {
     only_third(third, left)?;
     let (count, fields) = index_at(left, MOST, fields)?;
-    let train_count = count_at(left, fields)?;
+    let train_count = last_count(left, fields)?;
     let (walks, rest) = walks_at(alloc, count, rest)?;
     let (trains, rest) = trains_at(alloc, train_count, rest)?;
     let walks = List::from_vec(walks);
@@ -173,8 +173,8 @@ fn shares_at<'a>(
 
 /// A node that is one line, and the lines behind it.
 fn and_rest(node: Result<TreeNode, ReadError>, rest: &[u8]) -> Result<(TreeNode, &[u8]), ReadError>
-    ensures { (read : Result TreeNode Fault) → Gives (λ x. x) node read
-        → Gives (λ x. (x.0, x.1.now)) result (and_rest read rest.now) }
+    ensures { (read : Result TreeNode Fault) → GivesRead (λ x. x) node read
+        → GivesRead (λ x. (x.0, x.1.now)) result (and_rest read rest.now) }
 {
     match node {
         Ok(node) => Ok((node, rest)),
@@ -192,7 +192,7 @@ fn node_by<'a>(
     fields: &[u8],
     rest: &'a [u8],
 ) -> Result<(TreeNode, &'a [u8]), ReadError>
-    ensures { Gives (λ x. (x.0, x.1.now)) result (node_by word third left fields.now rest.now) }
+    ensures { GivesRead (λ x. (x.0, x.1.now)) result (node_by word third left fields.now rest.now) }
 {
     match word {
         Word::Route => and_rest(route_at(left, fields), rest),
@@ -207,9 +207,9 @@ fn node_by<'a>(
 }
 
 /// A node.
-#[tactic(auto, unfolding(crate::specs::NodesRead::node_at))]
-fn node_at(alloc: Global, third: bool, bytes: &[u8]) -> Result<(TreeNode, &[u8]), ReadError>
-    ensures { Gives (λ x. (x.0, x.1.now)) result (node_at third bytes.now) }
+#[tactic(auto, unfolding(crate::specs::NodesRead::node_read))]
+fn node_read(alloc: Global, third: bool, bytes: &[u8]) -> Result<(TreeNode, &[u8]), ReadError>
+    ensures { GivesRead (λ x. (x.0, x.1.now)) result (node_read third bytes.now) }
 {
     let (line, rest) = line_at(bytes)?;
     let (word, fields) = node_word_at(bytes.len(), line)?;
@@ -217,8 +217,8 @@ fn node_at(alloc: Global, third: bool, bytes: &[u8]) -> Result<(TreeNode, &[u8])
 }
 
 /// How many places a node opens.
-fn children_of(node: &TreeNode) -> u32
-    ensures { result ≡ children_of node.now }
+fn places_opened(node: &TreeNode) -> u32
+    ensures { result ≡ places_opened node.now }
 {
     match node {
         TreeNode::Branch { children, .. } => *children,
@@ -232,7 +232,7 @@ pub(crate) fn nodes_at(
     third: bool,
     bytes: &[u8],
 ) -> Result<(Vec<TreeNode>, &[u8]), ReadError>
-    ensures { Gives (λ x. (x.0.items, x.1.now)) result
+    ensures { GivesRead (λ x. (x.0.items, x.1.now)) result
         (nodes_at third (length bytes.now) 1 bytes.now) }
 {
     let mut nodes = Vec::new(alloc);
@@ -242,8 +242,8 @@ pub(crate) fn nodes_at(
         if open == 0 {
             return Ok((nodes, rest));
         }
-        let (node, after) = node_at(alloc, third, rest)?;
-        open = open - 1 + u128::from(children_of(&node));
+        let (node, after) = node_read(alloc, third, rest)?;
+        open = open - 1 + u128::from(places_opened(&node));
         nodes.push(node)?;
         rest = after;
     }

@@ -2,11 +2,11 @@ ghost use Rattle.std.specs.Prelude.{◌≡◌, codes, IfOk, MatchResult, Ok};
 ghost use Rattle.tree_certificate.specs.declared.word.Version.{Version};
 ghost use Rattle.tree_certificate.specs.Versions.{IsText};
 ghost use Rattle.tree_certificate.specs.FieldsRead.{behind};
-ghost use Rattle.tree_certificate.specs.Reading.{Gives};
-ghost use Rattle.tree_certificate.specs.TreesRead.{TreeRead, version_word_at, version_at, edition_line_at, edition_at, optimal_at, infeasible_at, verdict_by, verdict_at, nothing_behind, end_at, is_third_version, tree_at, line_number, refusal_of, read_of, Refuses};
+ghost use Rattle.tree_certificate.specs.Reading.{GivesRead};
+ghost use Rattle.tree_certificate.specs.TreesRead.{TreeRead, version_word_at, version_at, edition_line_at, edition_at, optimal_at, infeasible_at, verdict_by, verdict_at, nothing_behind, end_at, is_third_version, tree_at, line_number, refusal_of, read_of, AnswersTree};
 
 use crate::fault::{Fault, ReadError, TreeNo};
-use crate::fields::{behind, ended, index_at, number_at, word_at};
+use crate::fields::{behind, field_number, index_at, line_ended, word_at};
 use crate::lines::line_at;
 use crate::nodes::nodes_at;
 use crate::word::Version;
@@ -17,7 +17,7 @@ use std::alloc::Global;
 /// The version of a text, by its first line.
 #[tactic(auto, unfolding(crate::specs::TreesRead::version_word_at))]
 fn version_word_at(left: usize, line: &[u8]) -> Result<(Version, &[u8]), ReadError>
-    ensures { Gives (λ x. (x.0, x.1.now)) result (version_word_at left line.now) }
+    ensures { GivesRead (λ x. (x.0, x.1.now)) result (version_word_at left line.now) }
 {
     if let Some(fields) = behind(line, b"displib-tree 1") {
         return Ok((Version::First, fields));
@@ -34,30 +34,30 @@ fn version_word_at(left: usize, line: &[u8]) -> Result<(Version, &[u8]), ReadErr
 /// The first line.
 #[tactic(auto, unfolding(crate::specs::TreesRead::version_at))]
 fn version_at(bytes: &[u8]) -> Result<(Version, &[u8]), ReadError>
-    ensures { Gives (λ x. (x.0, x.1.now)) result (version_at bytes.now) }
+    ensures { GivesRead (λ x. (x.0, x.1.now)) result (version_at bytes.now) }
 {
     let (line, rest) = line_at(bytes)?;
     let (version, fields) = version_word_at(bytes.len(), line)?;
-    ended(bytes.len(), fields)?;
+    line_ended(bytes.len(), fields)?;
     Ok((version, rest))
 }
 
 /// The line of an edition.
 #[tactic(auto, unfolding(crate::specs::TreesRead::edition_line_at))]
 fn edition_line_at(bytes: &[u8]) -> Result<(Option<u32>, &[u8]), ReadError>
-    ensures { Gives (λ x. (x.0, x.1.now)) result (edition_line_at bytes.now) }
+    ensures { GivesRead (λ x. (x.0, x.1.now)) result (edition_line_at bytes.now) }
 {
     let (line, rest) = line_at(bytes)?;
     let fields = word_at(bytes.len(), line, b"edition")?;
     let (edition, fields) = index_at(bytes.len(), 65535, fields)?;
-    ended(bytes.len(), fields)?;
+    line_ended(bytes.len(), fields)?;
     Ok((Some(edition), rest))
 }
 
 /// The second line of the later versions.
 #[tactic(auto, unfolding(crate::specs::TreesRead::edition_at))]
 fn edition_at(version: Version, bytes: &[u8]) -> Result<(Option<u32>, &[u8]), ReadError>
-    ensures { Gives (λ x. (x.0, x.1.now)) result (edition_at version bytes.now) }
+    ensures { GivesRead (λ x. (x.0, x.1.now)) result (edition_at version bytes.now) }
 {
     match version {
         Version::First => Ok((None, bytes)),
@@ -69,26 +69,26 @@ fn edition_at(version: Version, bytes: &[u8]) -> Result<(Option<u32>, &[u8]), Re
 /// The cost of an optimal plan.
 #[tactic(auto, unfolding(crate::specs::TreesRead::optimal_at))]
 fn optimal_at(left: usize, fields: &[u8]) -> Result<Verdict, ReadError>
-    ensures { Gives (λ x. x) result (optimal_at left fields.now) }
+    ensures { GivesRead (λ x. x) result (optimal_at left fields.now) }
 {
-    let (cost, fields) = number_at(left, GREATEST_COST, fields)?;
-    ended(left, fields)?;
+    let (cost, fields) = field_number(left, GREATEST_COST, fields)?;
+    line_ended(left, fields)?;
     Ok(Verdict::Optimal(cost))
 }
 
 /// That no plan is valid.
 #[tactic(auto, unfolding(crate::specs::TreesRead::infeasible_at))]
 fn infeasible_at(left: usize, line: &[u8]) -> Result<Verdict, ReadError>
-    ensures { Gives (λ x. x) result (infeasible_at left line.now) }
+    ensures { GivesRead (λ x. x) result (infeasible_at left line.now) }
 {
     let fields = word_at(left, line, b"verdict infeasible")?;
-    ended(left, fields)?;
+    line_ended(left, fields)?;
     Ok(Verdict::Infeasible)
 }
 
 /// The verdict of a line.
 fn verdict_of(left: usize, line: &[u8]) -> Result<Verdict, ReadError>
-    ensures { Gives (λ x. x) result
+    ensures { GivesRead (λ x. x) result
         (verdict_by (behind (codes "verdict optimal") line.now) left line.now) }
 {
     match behind(line, b"verdict optimal") {
@@ -100,7 +100,7 @@ fn verdict_of(left: usize, line: &[u8]) -> Result<Verdict, ReadError>
 /// The line of a verdict.
 #[tactic(auto, unfolding(crate::specs::TreesRead::verdict_at))]
 fn verdict_at(bytes: &[u8]) -> Result<(Verdict, &[u8]), ReadError>
-    ensures { Gives (λ x. (x.0, x.1.now)) result (verdict_at bytes.now) }
+    ensures { GivesRead (λ x. (x.0, x.1.now)) result (verdict_at bytes.now) }
 {
     let (line, rest) = line_at(bytes)?;
     let verdict = verdict_of(bytes.len(), line)?;
@@ -109,7 +109,7 @@ fn verdict_at(bytes: &[u8]) -> Result<(Verdict, &[u8]), ReadError>
 
 /// Nothing stands behind the last line.
 fn nothing_behind(rest: &[u8]) -> Result<(), ReadError>
-    ensures { Gives (λ x. x) result (nothing_behind rest.now) }
+    ensures { GivesRead (λ x. x) result (nothing_behind rest.now) }
 {
     if !rest.is_empty() {
         return Err(ReadError::Fault(Fault::Trailing(rest.len())));
@@ -120,11 +120,11 @@ fn nothing_behind(rest: &[u8]) -> Result<(), ReadError>
 /// The last line.
 #[tactic(auto, unfolding(crate::specs::TreesRead::end_at))]
 fn end_at(bytes: &[u8]) -> Result<(), ReadError>
-    ensures { Gives (λ x. x) result (end_at bytes.now) }
+    ensures { GivesRead (λ x. x) result (end_at bytes.now) }
 {
     let (line, rest) = line_at(bytes)?;
     let fields = word_at(bytes.len(), line, b"end")?;
-    ended(bytes.len(), fields)?;
+    line_ended(bytes.len(), fields)?;
     nothing_behind(rest)
 }
 
@@ -142,7 +142,7 @@ fn is_third_version(version: Version) -> bool
 /// What a text says.
 #[tactic(auto, unfolding(crate::specs::TreesRead::tree_at))]
 fn tree_at(alloc: Global, bytes: &[u8]) -> Result<(Option<u32>, Verdict, Tree), ReadError>
-    ensures { Gives (λ x. read_of x.0 x.1 x.2) result (tree_at bytes.now) }
+    ensures { GivesRead (λ x. read_of x.0 x.1 x.2) result (tree_at bytes.now) }
 {
     let (version, rest) = version_at(bytes)?;
     let (edition, rest) = edition_at(version, rest)?;
@@ -181,7 +181,7 @@ fn refusal_of(bytes: &[u8], fault: Fault) -> TreeNo
 /// What is read of the bytes, or the refusal.
 fn answer(alloc: Global, bytes: &[u8]) -> Result<(Option<u32>, Verdict, Tree), TreeNo>
     ensures { MatchResult result (λ x. tree_at bytes.now ≡ Ok (read_of x.0 x.1 x.2))
-        (λ why. Refuses bytes.now why (tree_at bytes.now)) }
+        (λ why. AnswersTree bytes.now why (tree_at bytes.now)) }
 {
     match tree_at(alloc, bytes) {
         Ok(read) => Ok(read),
@@ -204,7 +204,7 @@ pub fn read_tree(alloc: Global, bytes: &[u8]) -> Result<(Option<u32>, Verdict, T
         → MatchResult result (λ x. read_of x.0 x.1 x.2 ≡ read) (λ why. why ≡ TreeNo.Memory) }
     // Which refusal it is.
     ensures exact { MatchResult result (λ x. tree_at bytes.now ≡ Ok (read_of x.0 x.1 x.2))
-        (λ why. Refuses bytes.now why (tree_at bytes.now)) }
+        (λ why. AnswersTree bytes.now why (tree_at bytes.now)) }
 {
     answer(alloc, bytes)
 }

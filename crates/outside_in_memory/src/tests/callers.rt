@@ -1,7 +1,7 @@
 // A caller that is generic over the traits, and says by their ghost members what it does.
 ghost use Rattle.std.specs.Prelude.{◌≡◌, ◌≢◌, ◌<◌, ◌↔◌, ◌⊎◌, List, ℕ, [], Ok, Err, OnOk, IfSome, IsErrOf};
 ghost use Rattle.std.specs.Io.KnownBytes.{append_known};
-ghost use Rattle.disp_outside.specs.Lines.{lines_of};
+ghost use Rattle.disp_outside.specs.Lines.{feed_lines};
 
 use crate::{BrokenWrite, MemShelf, MemSink, SteadyShelf, SteadySink};
 use disp_outside::{
@@ -67,7 +67,8 @@ fn begin<S: Shelf>(
     ensures failed { ((result ≡ Err FeedNo.Failed) ⊎ (result ≡ Ok FeedLine.Failed))
         ↔ (S.reading_faults shelf.old name.now < S.reading_faults shelf.new name.now) }
     ensures end { result ≡ Ok FeedLine.End
-        → IfSome (S.holds shelf.old name.now) (λ file. IfSome file (λ bytes. lines_of bytes ≡ [])) }
+        → IfSome (S.holds shelf.old name.now)
+        (λ file. IfSome file (λ bytes. feed_lines bytes ≡ [])) }
     ensures others { (other : List ℕ) → other ≢ name.now → S.reading_faults shelf.new other
         ≡ S.reading_faults shelf.old other }
     ensures held { (other : List ℕ) → S.holds shelf.new other ≡ S.holds shelf.old other }

@@ -1,6 +1,6 @@
 use Rattle.std.proofs.Common.{[], None, refl, inr, arith}
 use Rattle.std.proofs.lemmas.Result.{IfOk-weaker, IfErr-weaker}
-use Rattle.dispatch_cli.specs.Outside.{Is, IsOfTwo}
+use Rattle.dispatch_cli.specs.Outside.{IsName, IsOneOfTwo}
 use Rattle.dispatch_cli.proofs.Stopped.{stops_solution, reads_of_one, reads_among}
 use Rattle.dispatch_cli.proofs.run.judge_files.Goals as goal
 
@@ -14,4 +14,4 @@ returns-in-None-clause-no g c =
     rw c.in-None.is (IfErr-weaker c.judge_file.result _ _ (λ cause h. stops_solution holds holds old old (g.S.Shelf.reading_faults c.judge_file.new.shelf) c.args.problem.now None c.args.solution.now cause ([], refl) (λ other. refl) (λ other. omega arith) h) c.judge_file.ensures.no)
 
 pub returns-in-None-clause-reads : goal.returns-in-None-clause-reads
-returns-in-None-clause-reads g c = rw c.in-None.is (reads_among (Is c.args.solution.now) (IsOfTwo None c.args.solution.now) _ _ _ _ _ _ _ (λ n e. inr e) (reads_of_one c.args.solution.now _ _ _ _ _ _ _ c.judge_file.ensures.reads))
+returns-in-None-clause-reads g c = rw c.in-None.is (reads_among (IsName c.args.solution.now) (IsOneOfTwo None c.args.solution.now) _ _ _ _ _ _ _ (λ n e. inr e) (reads_of_one c.args.solution.now _ _ _ _ _ _ _ c.judge_file.ensures.reads))

@@ -2,12 +2,12 @@ use Rattle.std.proofs.Common.{◌⊎◌, ℕ, List, Some, ap, refl, sym, inl, in
 use Rattle.std.proofs.lemmas.Result.{IfOk-weaker, IfErr-weaker}
 use Rattle.disp_model.specs.Changes.{standing_of}
 use Rattle.disp_model.specs.Replies.{IsEdition}
-use Rattle.dispatch_cli.specs.Outside.{Is, IsOfTwo}
+use Rattle.dispatch_cli.specs.Outside.{IsName, IsOneOfTwo}
 use Rattle.dispatch_cli.specs.Files.{IsFixingsTaken}
 use Rattle.dispatch_cli.proofs.Stopped.{never_falls, stops_solution, stops_fixings, judged_file_before, reads_of_one, reads_then, reads_among}
 use Rattle.dispatch_cli.proofs.run.judge_with.Goals as goal
 
-among : (one two name : List ℕ) → Is one name ⊎ Is two name → IsOfTwo (Some one) two name
+among : (one two name : List ℕ) → IsName one name ⊎ IsName two name → IsOneOfTwo (Some one) two name
 among one two name (inl e) = inl (ap Some (sym e))
 among one two name (inr e) = inr e
 
@@ -40,13 +40,13 @@ pub returns-in-Ok-clause-reads : goal.returns-in-Ok-clause-reads
 returns-in-Ok-clause-reads g c =
     let first = reads_of_one c.args.name.now _ _ _ _ _ _ _ (rw c.as_str.ensures at c.in-Ok.ensures.reads) in
     let second = reads_of_one c.args.solution.now _ _ _ _ _ _ _ c.judge_file.ensures.reads in
-    reads_among (λ n. Is c.args.name.now n ⊎ Is c.args.solution.now n) (IsOfTwo (Some c.args.name.now) c.args.solution.now) _ _ _ _ _ _ _ (λ n given. among c.args.name.now c.args.solution.now n given)
-    (reads_then (Is c.args.name.now) (Is c.args.solution.now) _ _ _ _ _ _ _ _ _ _ _ (λ e. e) first second)
+    reads_among (λ n. IsName c.args.name.now n ⊎ IsName c.args.solution.now n) (IsOneOfTwo (Some c.args.name.now) c.args.solution.now) _ _ _ _ _ _ _ (λ n given. among c.args.name.now c.args.solution.now n given)
+    (reads_then (IsName c.args.name.now) (IsName c.args.solution.now) _ _ _ _ _ _ _ _ _ _ _ (λ e. e) first second)
 
 pub returns-in-Err-clause-no : goal.returns-in-Err-clause-no
 returns-in-Err-clause-no g c = stops_fixings (g.S.Shelf.holds c.args.shelf.now) (g.S.Shelf.reading_faults c.args.shelf.now) (g.S.Shelf.reading_faults c.fixings_file.new.shelf) c.args.problem.now c.args.name.now c.args.solution.now
     c.in-Err.cause (rw (← c.as_str.ensures) c.in-Err.ensures.no)
 
 pub returns-in-Err-clause-reads : goal.returns-in-Err-clause-reads
-returns-in-Err-clause-reads g c = reads_among (Is c.args.name.now) (IsOfTwo (Some c.args.name.now) c.args.solution.now) _ _ _ _ _ _ _ (λ n e. inl (ap Some (sym e)))
+returns-in-Err-clause-reads g c = reads_among (IsName c.args.name.now) (IsOneOfTwo (Some c.args.name.now) c.args.solution.now) _ _ _ _ _ _ _ (λ n e. inl (ap Some (sym e)))
     (reads_of_one c.args.name.now _ _ _ _ _ _ _ (rw c.as_str.ensures at c.in-Err.ensures.reads))

@@ -1,7 +1,7 @@
 use Rattle.std.proofs.Common.{option_map, inl, inr}
 use Rattle.std.proofs.lemmas.Result.{IfOk-weaker, IfErr-weaker}
 use Rattle.dispatch_cli.specs.Files.{IsProblemFile}
-use Rattle.dispatch_cli.specs.Outside.{Is, IsOfTwo, IsOfThree}
+use Rattle.dispatch_cli.specs.Outside.{IsName, IsOneOfTwo, IsOneOfThree}
 use Rattle.dispatch_cli.proofs.Stopped.{never_falls, stops_judging, judged_file_before, fixings_before, reads_of_one, reads_then, reads_among}
 use Rattle.dispatch_cli.proofs.run.run_verify.Goals as goal
 
@@ -44,11 +44,11 @@ returns-in-Ok-clause-reads g c =
     let fixings = option_map (λ name. name.now) c.args.fixings in
     let first = reads_of_one c.args.problem.now _ _ _ _ _ _ _ (rw c.as_str.ensures at c.in-Ok.ensures.reads) in
     let second = rw c.as_str-in-Ok.ensures at c.judge_files.ensures.reads in
-    reads_then (Is c.args.problem.now) (IsOfTwo fixings c.args.solution.now) _ _ _ _ _ _ _ _ _ _ _ (λ e. e) first second
+    reads_then (IsName c.args.problem.now) (IsOneOfTwo fixings c.args.solution.now) _ _ _ _ _ _ _ _ _ _ _ (λ e. e) first second
 
 pub returns-in-Err-clause-no : goal.returns-in-Err-clause-no
 returns-in-Err-clause-no g c = inl (rw (← c.as_str.ensures) c.in-Err.ensures.no)
 
 pub returns-in-Err-clause-reads : goal.returns-in-Err-clause-reads
-returns-in-Err-clause-reads g c = reads_among (Is c.args.problem.now) (IsOfThree c.args.problem.now (option_map (λ name. name.now) c.args.fixings) c.args.solution.now) _ _ _ _ _ _ _ (λ n e. inl e)
+returns-in-Err-clause-reads g c = reads_among (IsName c.args.problem.now) (IsOneOfThree c.args.problem.now (option_map (λ name. name.now) c.args.fixings) c.args.solution.now) _ _ _ _ _ _ _ (λ n e. inl e)
     (reads_of_one c.args.problem.now _ _ _ _ _ _ _ (rw c.as_str.ensures at c.in-Err.ensures.reads))

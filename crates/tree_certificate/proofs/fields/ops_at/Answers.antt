@@ -17,10 +17,10 @@ loop-preserved c =
     rw c.in_ok-push.ensures.items
     (ops_go_on c.args.left (length c.args.bytes.now) c.loop.counter c.loop.ops.items c.loop.rest.now c.in_ok-op.op c.in_ok-op.after.now _ c.loop-test.true (not_empty c.loop.rest.now c.is_empty.result c.is_empty.ensures c.if-is_empty.false) c.in_ok-op.ensures c.loop.invariant)
 
-pub returns-in_err-ended : goal.returns-in_err-ended
-returns-in_err-ended c =
-    let p = err_from_is_err_and c.from_residual-in_err-ended.result c.from_residual-in_err-ended.ensures.1 in
-    rw (p.1, p.2) (ops_surplus c.in_err-ended.field-0.0 c.args.left (length c.args.bytes.now) c.loop.counter c.loop.ops.items c.loop.rest.now _ c.loop-test.false c.in_err-ended.ensures c.loop.invariant)
+pub returns-in_err-line_ended : goal.returns-in_err-line_ended
+returns-in_err-line_ended c =
+    let p = err_from_is_err_and c.from_residual-in_err-line_ended.result c.from_residual-in_err-line_ended.ensures.1 in
+    rw (p.1, p.2) (ops_surplus c.in_err-line_ended.field-0.0 c.args.left (length c.args.bytes.now) c.loop.counter c.loop.ops.items c.loop.rest.now _ c.loop-test.false c.in_err-line_ended.ensures c.loop.invariant)
 
 pub returns : goal.returns
-returns c = ops_last c.args.left (length c.args.bytes.now) c.loop.counter c.loop.ops.items c.loop.rest.now _ c.in_ok-ended.field-0 c.loop-test.false c.in_ok-ended.ensures c.loop.invariant
+returns c = ops_last c.args.left (length c.args.bytes.now) c.loop.counter c.loop.ops.items c.loop.rest.now _ c.in_ok-line_ended.field-0 c.loop-test.false c.in_ok-line_ended.ensures c.loop.invariant

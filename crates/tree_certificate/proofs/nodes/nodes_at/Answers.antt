@@ -1,6 +1,6 @@
 use Rattle.std.proofs.Common.{◌≡◌, ◌+◌, length, arith}
 use Rattle.std.proofs.lemmas.Result.{err_from_is_err_and}
-use Rattle.tree_certificate.specs.NodesRead.{children_of}
+use Rattle.tree_certificate.specs.NodesRead.{places_opened}
 use Rattle.tree_certificate.proofs.Filling.{nodes_done, nodes_go_on, nodes_end, nodes_cut}
 use Rattle.tree_certificate.proofs.nodes.nodes_at.Goals as goal
 
@@ -16,8 +16,8 @@ pub loop-preserved : goal.loop-preserved
 loop-preserved c = (
   rw c.in_ok-push.ensures.items
       (nodes_go_on c.args.third (length c.args.bytes.now) c.loop.counter c.loop.open _ c.loop.nodes.items c.loop.rest.now c.in_ok-node.node c.in_ok-node.after.now _ c.loop-test.true c.if-open-eq0.false
-      (omega (arith, c.from.ensures, c.children_of.ensures, c.if-open-eq0.false)) c.in_ok-node.ensures c.loop.invariant.0),
-  omega (arith, c.loop.invariant.1, c.children_of.type_inv, c.from.ensures),
+      (omega (arith, c.from.ensures, c.places_opened.ensures, c.if-open-eq0.false)) c.in_ok-node.ensures c.loop.invariant.0),
+  omega (arith, c.loop.invariant.1, c.places_opened.type_inv, c.from.ensures),
 )
 
 pub returns-then-open-eq0-2 : goal.returns-then-open-eq0-2

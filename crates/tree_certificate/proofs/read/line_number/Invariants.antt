@@ -1,4 +1,4 @@
--- the lines that ended so far, and one more
+-- the lines that line_ended so far, and one more
 use Rattle.std.proofs.Common.{◌≡◌, ◌+◌, ◌≤◌, take}
 use Rattle.std.specs.Prelude.{count_by, ◌==◌}
 use Rattle.tree_certificate.proofs.read.line_number.Given as goal

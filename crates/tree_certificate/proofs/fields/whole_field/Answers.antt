@@ -1,5 +1,5 @@
 use Rattle.tree_certificate.proofs.Numbers.{is_error, reads_number, reads_none, reads_above}
-use Rattle.tree_certificate.proofs.fields.number_of.Goals as goal
+use Rattle.tree_certificate.proofs.fields.whole_field.Goals as goal
 
 pub returns-in-Ok-clause-gives : goal.returns-in-Ok-clause-gives
 returns-in-Ok-clause-gives c = rw (← c.from.ensures) (reads_number c.args.left _ c.args.field.now c.in-Ok.number c.in-Ok.ensures.ok)
