@@ -1,10 +1,9 @@
 -- What an accepted change makes of an edition.
 use Rattle.std.proofs.Common.{◌≡◌, ◌≢◌, ℕ, zero, suc, ◌+◌, ◌<◌, List, [], ◌∷◌, ◌++◌, length, Option, Some, None, Bool, true, false, refl, sym, ap, subst, ◌∙◌, inl, inr, arith}
-use Rattle.std.specs.Prelude.{slice_get, All, MatchOption, IsTrue, ◌↔◌}
+use Rattle.std.specs.Prelude.{slice_get, MatchOption, IsTrue, ◌↔◌}
 use Rattle.std.proofs.lemmas.Bool.{false≢true}
 use Rattle.std.proofs.lemmas.Option.{none-some, slice_get_within}
 use Rattle.std.proofs.lemmas.List.{take-append-le, take_at}
-use Rattle.std.proofs.lemmas.List.Elements.{All-weaker}
 use Rattle.disp_model.specs.declared.train.Operation.{Operation}
 use Rattle.disp_model.specs.declared.fixing.Fixing.{Fixing}
 use Rattle.disp_model.specs.declared.fixing.Fixing.TheVariants.{Started, Chosen, NotBefore}
@@ -15,8 +14,6 @@ use Rattle.disp_model.specs.declared.limits.TheConstants.{MOST_CHANGES}
 use Rattle.disp_model.specs.declared.reply.Reply.{Reply}
 use Rattle.disp_model.specs.declared.reply.Reply.TheVariants.{Accepted, Known, Refused}
 use Rattle.disp_model.specs.declared.reply.Refusal.TheVariants.{NoTrain, NoOperation, NoSuccessor, TooLarge, BelowLower, AboveUpper, Withdrawn, StartedAt, ChosenIs, EarliestIs, NoRoute, Full}
-use Rattle.disp_model.specs.WellFormed.{RefersInside}
-use Rattle.disp_model.specs.Valid.{train_at}
 use Rattle.disp_model.specs.Changes.{numbered_standing, standing_of, change_at, withdrawn_from}
 use Rattle.disp_model.specs.Node.{root_of}
 use Rattle.disp_model.specs.Walks.{fixed_start, not_before}

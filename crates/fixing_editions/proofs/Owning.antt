@@ -7,7 +7,6 @@ use Rattle.disp_model.specs.declared.fixing.Fixing.{Fixing}
 use Rattle.disp_model.specs.declared.fixing.Fixing.TheVariants.{Started, Chosen, NotBefore}
 use Rattle.disp_model.specs.declared.fixing.Change.{Change}
 use Rattle.disp_model.specs.declared.problem.Problem.{Problem}
-use Rattle.disp_model.specs.Valid.{train_at}
 use Rattle.disp_model.specs.Changes.{numbered_standing, standing_of}
 use Rattle.disp_model.specs.Node.{Node, root_of}
 use Rattle.disp_model.specs.Walks.{fixed_start, not_before}

@@ -1,18 +1,18 @@
 -- What is kept of a train's routes, and what is answered by it.
-use Rattle.std.proofs.Common.{◌≡◌, ℕ, zero, suc, ◌+◌, ◌-◌, ◌^◌, ◌<◌, ◌≤◌, ◌⊎◌, List, [], ◌∷◌, length, get_or, Option, Some, None, Bool, true, false, refl, sym, ap, subst, ◌∙◌, inl, inr, arith}
-use Rattle.std.specs.Prelude.{slice_get, All, Contains, IsTrue, MatchOption, sum_by, ◌↔◌}
-use Rattle.std.proofs.lemmas.Bool.{cases_Bool, cases_lt, false≢true}
-use Rattle.std.proofs.lemmas.Option.{none-some, same_Some, slice_get-get_or}
+use Rattle.std.proofs.Common.{◌≡◌, ℕ, ◌+◌, ◌-◌, ◌^◌, ◌<◌, ◌≤◌, List, [], length, get_or, Option, Some, None, true, false, sym, subst, ◌∙◌, arith}
+use Rattle.std.specs.Prelude.{slice_get, IsTrue, MatchOption, ◌↔◌}
+use Rattle.std.proofs.lemmas.Bool.{false≢true}
+use Rattle.std.proofs.lemmas.Option.{none-some, slice_get-get_or}
 use Rattle.std.proofs.lemmas.List.{get_or_past, get_or_default}
 use Rattle.std.proofs.lemmas.List.Sums.{get_or-le-sum_by}
 use Rattle.disp_model.specs.declared.train.Operation.{Operation}
 use Rattle.disp_model.specs.declared.fixing.Fixing.{Fixing}
 use Rattle.disp_model.specs.declared.decision.Decision.{Decision}
 use Rattle.disp_model.specs.declared.problem.Problem.{Problem}
-use Rattle.disp_model.specs.WellFormed.{IsAcyclic, RefersInside}
+use Rattle.disp_model.specs.WellFormed.{IsAcyclic}
 use Rattle.disp_model.specs.Valid.{train_at}
 use Rattle.disp_model.specs.Node.{Node, node_at}
-use Rattle.disp_model.specs.Routes.{IsAllowed, HasRoute, IsForced}
+use Rattle.disp_model.specs.Routes.{HasRoute, IsForced}
 use Rattle.disp_model.specs.Arcs.{IsTrainArc, GoesTo}
 use Rattle.train_orders.specs.Orders.{IsInside, IsOrder}
 use Rattle.train_orders.proofs.Ordered.{has_last}
@@ -24,9 +24,10 @@ use Rattle.route_sets.specs.Asks.{AreAsks}
 use Rattle.route_sets.specs.Sweeps.{HasWay, IsSwept}
 use Rattle.route_sets.specs.Ways.{last_of}
 use Rattle.route_sets.specs.Marks.{IsLaid, mark_at, HasMarks}
-use Rattle.route_sets.specs.Sets.{op_of, IsMarkOf, AreOrdered, AreRoutesOf}
-use Rattle.route_sets.proofs.Walking.{IsTrimmed, IsTrimmedFor, route_is_way}
-use Rattle.route_sets.proofs.Knowing.{laid, AreWalks, are_walks, marks_are, ordered_are, route_there}
+use Rattle.route_sets.specs.Sets.{op_of, IsMarkOf, AreRoutesOf}
+use Rattle.route_sets.proofs.Walking.{IsTrimmedFor, route_is_way}
+use Rattle.route_sets.proofs.Knowing.{AreWalks, are_walks, marks_are, ordered_are, route_there, marked_forced}
+use Rattle.route_sets.proofs.Following.{begins_are, ends_are, short_are}
 
 -- ---- the train as it is read
 
@@ -94,11 +95,17 @@ none_are problem fixings decisions t asks order swept routes is not_held not_lef
   left = (λ left. absurd (false≢true (sym not_left ∙ left)), λ has. absurd (none has));
   marks = λ o. subst (λ (l : List (Option Mark)). MatchOption (mark_at l o) (IsForced node (op_of t o) → ⊥) (IsMarkOf node t o)) (sym empty)
       (subst (λ (m : Option Mark). MatchOption m (IsForced node (op_of t o) → ⊥) (IsMarkOf node t o)) (sym (get_or_past [] o None (omega arith))) (λ forced. none forced.allowed));
-  ordered = λ a b from to first second. absurd (none-some from (sym (get_or_past [] a None (omega arith)) ∙ subst (λ (l : List (Option Mark)). mark_at l a ≡ Some from) empty first));
+  ordered = λ a b from to first second. unmarked a from first;
+  begins = λ route allowed. absurd (none (route, allowed));
+  ends = λ o mark at. unmarked o mark at;
+  short = λ o mark at. unmarked o mark at;
 }
   where
     node : Node
     node = node_at problem fixings decisions
+
+    unmarked : {P : Type 0} → (o : ℕ) (mark : Mark) → mark_at routes.marks.items o ≡ Some mark → P
+    unmarked o mark at = absurd (none-some mark (sym (get_or_past [] o None (omega arith)) ∙ subst (λ (l : List (Option Mark)). mark_at l o ≡ Some mark) empty at))
 
     none : HasRoute node t → ⊥
     none (route, allowed) =
@@ -119,25 +126,20 @@ pub is_laid : (problem : Problem) (fixings : List Fixing) (decisions : List Deci
 is_laid problem fixings decisions t asks order swept is held = (walks problem fixings decisions t asks order swept is held).is_laid
 
 pub some_are : (problem : Problem) (fixings : List Fixing) (decisions : List Decision) (t : ℕ) (asks : List Ask) (order : List ℕ) (swept : Swept) (routes : Routes) → IsFound problem fixings decisions t asks order swept → swept.holds ≡ true
-    → routes.left ≡ true → HasMarks (train_at problem t) order swept.rows routes.marks.items → AreRoutesOf (node_at problem fixings decisions) t routes
-some_are problem fixings decisions t asks order swept routes is held left marks =
+    → routes.left ≡ true → routes.entry ≡ last_of order → HasMarks (train_at problem t) order swept.rows routes.marks.items → AreRoutesOf (node_at problem fixings decisions) t routes
+some_are problem fixings decisions t asks order swept routes is held left entry marks =
     let are = walks problem fixings decisions t asks order swept is held in
     let node = node_at problem fixings decisions in
     record {
       left = (λ h. route_there node t order swept.rows are, λ h. left);
       marks = marks_are node t order swept.rows routes.marks.items are marks;
       ordered = ordered_are node t order swept.rows routes.marks.items are marks;
+      begins = begins_are node t order swept.rows routes.entry are entry;
+      ends = ends_are node t order swept.rows routes.marks.items are marks;
+      short = short_are node t order swept.rows routes.marks.items are marks;
     }
 
 -- ---- answers
-
-pub marked_forced : (node : Node) (t o : ℕ) (found : Option Mark) (mark : Mark) → MatchOption found (IsForced node (op_of t o) → ⊥) (IsMarkOf node t o) → found ≡ Some mark → IsMarkOf node t o mark
-marked_forced node t o None mark h e = absurd (none-some mark e)
-marked_forced node t o (Some m) mark h e = subst (IsMarkOf node t o) (same_Some m mark e) h
-
-pub forced_marked : (node : Node) (t o : ℕ) (found : Option Mark) → MatchOption found (IsForced node (op_of t o) → ⊥) (IsMarkOf node t o) → IsForced node (op_of t o) → (mark : Mark) × (found ≡ Some mark)
-forced_marked node t o None h forced = absurd (h forced)
-forced_marked node t o (Some m) h forced = (m, refl)
 
 one_arc : (node : Node) (t a b n m : ℕ) → IsTrainArc node (op_of t a) (op_of t b) n → IsTrainArc node (op_of t a) (op_of t b) m → n ≡ m
 one_arc node t a b n m first second =

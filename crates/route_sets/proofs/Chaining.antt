@@ -1,13 +1,13 @@
 -- Chains and walks along rows.
-use Rattle.std.proofs.Common.{◌≡◌, ℕ, zero, suc, ◌+◌, ◌-◌, ◌<◌, ◌≤◌, ◌⊎◌, List, [], ◌∷◌, ◌++◌, length, get_or, Option, Some, None, refl, sym, ap, subst, ◌∙◌, inl, inr, arith}
+use Rattle.std.proofs.Common.{◌≡◌, ℕ, zero, suc, ◌+◌, ◌-◌, ◌<◌, ◌≤◌, ◌⊎◌, List, [], ◌∷◌, ◌++◌, length, get_or, Some, refl, sym, ap, subst, ◌∙◌, inl, inr, arith}
 use Rattle.std.specs.Prelude.{slice_get, Contains, All}
-use Rattle.std.proofs.lemmas.Option.{none-some, same_Some, slice_get-get_or, slice_get_within}
+use Rattle.std.proofs.lemmas.Option.{same_Some, slice_get-get_or, slice_get_within}
 use Rattle.std.proofs.lemmas.List.Elements.{Contains-get_or}
 use Rattle.disp_model.specs.declared.train.Operation.{Operation}
-use Rattle.disp_laws.proofs.Paths.{IsIn, is_in, contains_in}
-use Rattle.train_orders.proofs.Places.{contains_none, contains_at}
-use Rattle.train_orders.proofs.Ordered.{contains_here, contains_later}
-use Rattle.route_sets.specs.Ways.{Steps, Goes, IsWalk, Chain, IsOnEach, last_of}
+use Rattle.disp_laws.proofs.Paths.{IsIn}
+use Rattle.train_orders.proofs.Places.{contains_none}
+use Rattle.train_orders.proofs.Ordered.{contains_here}
+use Rattle.route_sets.specs.Ways.{Steps, Goes, IsWalk, Chain, last_of}
 use Rattle.route_sets.specs.Marks.{IsLaid}
 
 -- ---- chains and walks, joined and parted

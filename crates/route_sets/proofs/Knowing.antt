@@ -1,36 +1,35 @@
 -- What the marks of a pass say of the allowed routes of a train.
-use Rattle.std.proofs.Common.{◌≡◌, ◌≢◌, ℕ, zero, suc, ◌+◌, ◌-◌, ◌^◌, ◌<◌, ◌≤◌, ◌⊎◌, List, [], ◌∷◌, ◌++◌, length, take, get_or, Option, Some, None, Bool, true, false, refl, sym, ap, subst, ◌∙◌, inl, inr, arith, append_assoc}
-use Rattle.std.specs.Prelude.{nat_eq, slice_get, All, Contains, IsTrue, MatchOption, sum_by, ◌↔◌}
+use Rattle.std.proofs.Common.{◌≡◌, ℕ, suc, ◌+◌, ◌-◌, ◌^◌, ◌<◌, ◌≤◌, List, [], ◌∷◌, ◌++◌, length, Option, Some, None, refl, sym, ap, subst, ◌∙◌, inl, inr, arith, append_assoc}
+use Rattle.std.specs.Prelude.{nat_eq, slice_get, Contains, MatchOption, sum_by}
 use Rattle.std.specs.List.{IsDistinct}
 use Rattle.std.proofs.lemmas.Bool.{cases_lt, eq-eqb}
-use Rattle.std.proofs.lemmas.Option.{none-some, same_Some, slice_get_within}
+use Rattle.std.proofs.lemmas.Option.{none-some, same_Some}
 use Rattle.std.proofs.lemmas.List.{get_or_past}
 use Rattle.std.proofs.lemmas.List.Sums.{sum_by-append}
 use Rattle.std.proofs.lemmas.Map.Steps.{length-le_from_distinct_below}
 use Rattle.disp_model.specs.declared.train.Operation.{Operation}
-use Rattle.disp_model.specs.declared.train.Op.{Op}
-use Rattle.disp_model.specs.Train.{IsExit, IsRoute, GoesOn, duration_of}
+use Rattle.disp_model.specs.Train.{IsExit, duration_of}
 use Rattle.disp_model.specs.WellFormed.{IsAcyclic}
 use Rattle.disp_model.specs.Fixing.{after}
 use Rattle.disp_model.specs.Valid.{train_at}
 use Rattle.disp_model.specs.Node.{Node}
 use Rattle.disp_model.specs.Routes.{IsAllowed, HasRoute, IsForced}
-use Rattle.disp_model.specs.Arcs.{Passes, IsTrainArc, GoesTo}
+use Rattle.disp_model.specs.Arcs.{Passes, IsTrainArc}
 use Rattle.disp_laws.proofs.Paths.{IsIn, is_in, contains_in}
 use Rattle.disp_laws.proofs.RouteSearch.{each_within, not_among, any_is_in}
 use Rattle.disp_laws.proofs.Branching.{route_from}
 use Rattle.disp_laws.proofs.LeastSums.{Parted, parted, not_before_on_route}
 use Rattle.disp_laws.proofs.Composed.{in_front_or_back, after_behind}
 use Rattle.train_orders.specs.Orders.{IsOrder}
-use Rattle.train_orders.proofs.Places.{at_contains, contains_at, contains_none}
-use Rattle.train_orders.proofs.Ordered.{contains_here, contains_later, one_place}
+use Rattle.train_orders.proofs.Places.{at_contains, contains_at}
+use Rattle.train_orders.proofs.Ordered.{one_place}
 use Rattle.route_sets.specs.declared.asks.Ask.{Ask}
 use Rattle.route_sets.specs.declared.marks.Mark.{Mark}
 use Rattle.route_sets.specs.Sweeps.{HasWay}
-use Rattle.route_sets.specs.Ways.{Steps, Goes, IsWalk, Chain, IsLeast, IsOnEach, last_of}
+use Rattle.route_sets.specs.Ways.{Steps, Goes, IsWalk, Chain, IsOnEach, last_of}
 use Rattle.route_sets.specs.Marks.{IsLaid, IsMark, mark_at, HasMarks}
 use Rattle.route_sets.specs.Sets.{op_of, IsMarkOf, AreOrdered}
-use Rattle.route_sets.proofs.Walking.{IsTrimmed, IsTrimmedFor, earlier, row_at, route_is_walk, walk_is_route}
+use Rattle.route_sets.proofs.Walking.{IsTrimmedFor, earlier, row_at, route_is_walk, walk_is_route}
 use Rattle.route_sets.proofs.Chaining.{chain_walk, walk_parts, goes_on, goes_below, chain_above, last_here}
 use Rattle.route_sets.proofs.Passing.{matched}
 
@@ -105,7 +104,7 @@ some_route node t order rows are =
 next_on : (node : Node) (t : ℕ) (order : List ℕ) (rows : List (List ℕ)) (front : List ℕ) (o : ℕ) (rest : List ℕ) → AreWalks node t order rows → IsAllowed node t (front ++ o ∷ rest) → after o (front ++ o ∷ rest) ≡ after o (o ∷ rest)
 next_on node t order rows front o rest are allowed = after_behind o o front rest (λ there. not_before_on_route (train_at node.problem t) o front rest are.acyclic allowed.is_route there)
 
-after_first : (o s : ℕ) (rest : List ℕ) → after o (o ∷ s ∷ rest) ≡ Some s
+pub after_first : (o s : ℕ) (rest : List ℕ) → after o (o ∷ s ∷ rest) ≡ Some s
 after_first o s rest = rw (eq-eqb o o refl) refl
 
 -- a walk through an operation that a chain leads to is allowed
@@ -189,7 +188,7 @@ some_mark : (found : Option Mark) (P : Type 0) (Q : Mark → Type 0) (m : Mark) 
 some_mark None P Q m e h = absurd (none-some m e)
 some_mark (Some n) P Q m e h = subst Q (same_Some n m e) h
 
-marked : (node : Node) (t : ℕ) (order : List ℕ) (rows : List (List ℕ)) (marks : List (Option Mark)) (o : ℕ) (mark : Mark) → AreWalks node t order rows → HasMarks (train_at node.problem t) order rows marks → mark_at marks o ≡ Some mark
+pub marked : (node : Node) (t : ℕ) (order : List ℕ) (rows : List (List ℕ)) (marks : List (Option Mark)) (o : ℕ) (mark : Mark) → AreWalks node t order rows → HasMarks (train_at node.problem t) order rows marks → mark_at marks o ≡ Some mark
     → IsMark (train_at node.problem t) order rows o mark
 marked node t order rows marks o mark are has e = elim (cases_lt o (length marks)) [
   | inl lt ↦
@@ -297,3 +296,13 @@ ordered_are node t order rows marks are has a b from to first second =
 
 pub route_there : (node : Node) (t : ℕ) (order : List ℕ) (rows : List (List ℕ)) → AreWalks node t order rows → HasRoute node t
 route_there node t order rows are = some_route node t order rows are
+
+-- ---- marked and forced
+
+pub marked_forced : (node : Node) (t o : ℕ) (found : Option Mark) (mark : Mark) → MatchOption found (IsForced node (op_of t o) → ⊥) (IsMarkOf node t o) → found ≡ Some mark → IsMarkOf node t o mark
+marked_forced node t o None mark h e = absurd (none-some mark e)
+marked_forced node t o (Some m) mark h e = subst (IsMarkOf node t o) (same_Some m mark e) h
+
+pub forced_marked : (node : Node) (t o : ℕ) (found : Option Mark) → MatchOption found (IsForced node (op_of t o) → ⊥) (IsMarkOf node t o) → IsForced node (op_of t o) → (mark : Mark) × (found ≡ Some mark)
+forced_marked node t o None h forced = absurd (h forced)
+forced_marked node t o (Some m) h forced = (m, refl)

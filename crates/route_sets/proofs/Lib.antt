@@ -1,6 +1,7 @@
 mod Answering
 mod Asking
 mod Chaining
+mod Following
 mod Forks
 mod Knowing
 mod Passing

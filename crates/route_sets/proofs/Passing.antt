@@ -1,5 +1,5 @@
 -- A pass from the entry on: one operation of the order after another.
-use Rattle.std.proofs.Common.{◌≡◌, ◌≢◌, ℕ, zero, suc, ◌+◌, ◌*◌, ◌^◌, ◌<◌, ◌≤◌, ◌⊎◌, List, [], ◌∷◌, ◌++◌, length, get_or, set, replicate, Option, Some, None, refl, sym, ap, subst, ◌∙◌, inl, inr, arith}
+use Rattle.std.proofs.Common.{◌≡◌, ◌≢◌, ℕ, zero, suc, ◌+◌, ◌^◌, ◌<◌, ◌≤◌, ◌⊎◌, List, [], ◌∷◌, ◌++◌, length, get_or, set, replicate, Option, Some, None, refl, sym, ap, subst, ◌∙◌, inl, inr, arith}
 use Rattle.std.specs.Prelude.{slice_get, Contains, All, sum_by, MatchOption, ◌↔◌}
 use Rattle.std.specs.Option.{option_map_or}
 use Rattle.std.proofs.lemmas.Bool.{cases_lt}
@@ -9,15 +9,15 @@ use Rattle.std.proofs.lemmas.List.Elements.{Contains-get_or, All-contains}
 use Rattle.std.proofs.lemmas.List.Sums.{sum_by-append, sum_by-cons}
 use Rattle.disp_model.specs.declared.train.Operation.{Operation}
 use Rattle.disp_model.specs.Train.{duration_of}
-use Rattle.disp_laws.proofs.Paths.{IsIn, is_in, contains_in}
+use Rattle.disp_laws.proofs.Paths.{IsIn, is_in}
 use Rattle.disp_laws.proofs.Composed.{in_front_or_back}
-use Rattle.disp_laws.proofs.LeastSums.{Parted, parted}
-use Rattle.train_orders.proofs.Places.{contains_none, set_at, set_elsewhere, same_number}
+use Rattle.disp_laws.proofs.LeastSums.{parted}
+use Rattle.train_orders.proofs.Places.{set_at, set_elsewhere, same_number}
 use Rattle.train_orders.proofs.Ordered.{contains_here, contains_later}
 use Rattle.route_sets.specs.declared.marks.Mark.{Mark}
 use Rattle.route_sets.specs.Ways.{Steps, Goes, IsWalk, Chain, IsLeast, IsOnEach, last_of}
-use Rattle.route_sets.specs.Marks.{ArePlaces, IsLaid, Relaxes, IsLowest, IsOnly, Makes, IsMark, mark_at, AreMarks, Crosses, IsPass, Enters}
-use Rattle.route_sets.proofs.Chaining.{chain_more, LastStep, chain_last, chain_walk, walk_parts, steps_row, row_steps, goes_on, goes_below, chain_above, Ending, ending, last_here}
+use Rattle.route_sets.specs.Marks.{ArePlaces, IsLaid, Relaxes, IsLowest, IsOnly, Makes, IsMark, mark_at, Crosses, IsPass, Enters}
+use Rattle.route_sets.proofs.Chaining.{chain_more, LastStep, chain_last, chain_walk, walk_parts, steps_row, row_steps, goes_on, goes_below, chain_above, ending, last_here}
 
 -- ---- sums and marks
 

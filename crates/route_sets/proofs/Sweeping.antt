@@ -1,20 +1,19 @@
 -- What is held of the operations of an order, one after another.
-use Rattle.std.proofs.Common.{◌≡◌, ◌≢◌, ℕ, zero, suc, ◌+◌, ◌<◌, ◌≤◌, ◌⊎◌, List, [], ◌∷◌, ◌++◌, length, take, get_or, set, replicate, cond, Option, Some, None, Bool, true, false, refl, sym, ap, subst, ◌∙◌, inl, inr, arith}
-use Rattle.std.specs.Prelude.{nat_eq, nat_lt, slice_get, Contains, IsTrue, ◌↔◌, IfSome}
-use Rattle.std.proofs.lemmas.Bool.{cases_Bool, eqb-true, eqb-false, false≢true, lt-ltb}
-use Rattle.std.proofs.lemmas.Option.{none-some, same_Some, slice_get-get_or, slice_get_within}
+use Rattle.std.proofs.Common.{◌≡◌, ℕ, zero, suc, ◌+◌, ◌<◌, ◌≤◌, ◌⊎◌, List, [], ◌∷◌, ◌++◌, length, take, get_or, set, replicate, cond, Option, Some, None, Bool, true, false, refl, sym, ap, subst, ◌∙◌, inl, inr, arith}
+use Rattle.std.specs.Prelude.{nat_lt, slice_get, Contains, IsTrue, ◌↔◌}
+use Rattle.std.proofs.lemmas.Bool.{cases_Bool, false≢true, lt-ltb}
+use Rattle.std.proofs.lemmas.Option.{none-some, same_Some, slice_get-get_or}
 use Rattle.std.proofs.lemmas.List.{length-set, length_push, take_more, take_all, get_or_default}
 use Rattle.std.proofs.lemmas.List.Elements.{Contains-append_left, Contains-push, Contains-push_cases}
 use Rattle.disp_model.specs.declared.train.Operation.{Operation}
-use Rattle.disp_model.specs.Train.{next_of, IsSuccessor, GoesOn}
+use Rattle.disp_model.specs.Train.{next_of, IsSuccessor}
 use Rattle.route_sets.specs.declared.asks.Ask.{Ask}
-use Rattle.route_sets.specs.declared.sweep.Swept.{Swept}
 use Rattle.route_sets.specs.Asks.{ask_at, free}
 use Rattle.train_orders.specs.Orders.{IsBehind}
-use Rattle.route_sets.specs.Sweeps.{MayGo, MayEnd, IsWanted, Keeps, IsWay, HasWay, IsHeld, counted, CanEnd, IsKept, IsRow, AreRows, IsSwept}
+use Rattle.route_sets.specs.Sweeps.{MayGo, IsWanted, IsWay, HasWay, IsHeld, counted, CanEnd, IsKept, IsRow, AreRows, IsSwept}
 use Rattle.train_orders.proofs.Searching.{next_at}
-use Rattle.train_orders.proofs.Places.{at_contains, contains_at, contains_none, get_push_cases, set_at, set_elsewhere, same_number}
-use Rattle.train_orders.proofs.Ordered.{contains_here, contains_later, contains_cases, at_taken, taken_more, way_inside}
+use Rattle.train_orders.proofs.Places.{contains_at, contains_none, get_push_cases, set_at, set_elsewhere, same_number}
+use Rattle.train_orders.proofs.Ordered.{contains_here, contains_later, contains_cases, way_inside}
 
 -- ---- counts
 

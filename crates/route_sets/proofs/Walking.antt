@@ -1,11 +1,11 @@
 -- The allowed routes of a train are the walks along the rows of a sweep.
-use Rattle.std.proofs.Common.{◌≡◌, ℕ, zero, suc, ◌+◌, ◌<◌, ◌≤◌, ◌⊎◌, List, [], ◌∷◌, ◌++◌, length, take, get_or, Option, Some, None, Bool, true, false, refl, sym, ap, subst, ◌∙◌, inl, inr, arith}
-use Rattle.std.specs.Prelude.{nat_eq, slice_get, All, Contains, IsTrue, ◌↔◌, IfSome}
+use Rattle.std.proofs.Common.{◌≡◌, ℕ, ◌+◌, ◌<◌, List, [], ◌∷◌, length, take, get_or, Option, Some, None, Bool, true, false, refl, sym, ap, subst, ◌∙◌, inl, inr, arith}
+use Rattle.std.specs.Prelude.{nat_eq, slice_get, All, Contains, IfSome}
 use Rattle.std.proofs.lemmas.Bool.{cases_Bool, cases_lt, eqb-true, eqb-false, eq-eqb, false≢true}
 use Rattle.std.proofs.lemmas.Option.{none-some, same_Some, slice_get-get_or, slice_get_within}
 use Rattle.std.proofs.lemmas.List.{take_all, get_or_past}
 use Rattle.disp_model.specs.declared.train.Operation.{Operation}
-use Rattle.disp_model.specs.Train.{next_of, IsSuccessor, IsEntry, GoesOn, IsRoute}
+use Rattle.disp_model.specs.Train.{IsSuccessor, IsEntry, GoesOn}
 use Rattle.disp_model.specs.WellFormed.{IsAcyclic}
 use Rattle.disp_model.specs.Fixing.{after}
 use Rattle.disp_model.specs.Valid.{train_at}
@@ -14,11 +14,11 @@ use Rattle.disp_model.specs.Routes.{AgreesWithFixing, AgreesWithDecision, IsAllo
 use Rattle.disp_laws.proofs.Paths.{IsIn, is_in, contains_in, never_again}
 use Rattle.disp_laws.proofs.RouteSearch.{each_within}
 use Rattle.train_orders.specs.Orders.{IsOrder}
-use Rattle.train_orders.proofs.Places.{at_contains, contains_at, contains_none}
+use Rattle.train_orders.proofs.Places.{at_contains, contains_none}
 use Rattle.train_orders.proofs.Ordered.{contains_here, contains_later, contains_cases, at_taken, taken_at, taken_more, one_place, last_is_entry, way_inside}
 use Rattle.route_sets.specs.declared.asks.Ask.{Ask}
 use Rattle.route_sets.specs.Asks.{Meets, free, ask_at, AreMet, IsWithin, AreAsks}
-use Rattle.route_sets.specs.Sweeps.{MayGo, MayEnd, IsWanted, Keeps, IsWay, HasWay, IsRow, AreRows}
+use Rattle.route_sets.specs.Sweeps.{MayGo, MayEnd, IsWanted, Keeps, IsWay, HasWay, AreRows}
 use Rattle.route_sets.specs.Ways.{Steps, Goes, IsWalk}
 
 -- what the walks of a train go along

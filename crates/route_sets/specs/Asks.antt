@@ -1,5 +1,5 @@
 -- What is asked of the routes of a train, operation by operation.
-use Rattle.std.specs.Prelude.{◌≡◌, ◌↔◌, ℕ, ◌<◌, ◌==◌, ◌||◌, not, Bool, true, false, List, length, All, Contains, Option, Some, None, slice_index_or, IfSome, if◌then◌else◌}
+use Rattle.std.specs.Prelude.{◌≡◌, ◌↔◌, ℕ, ◌<◌, ◌==◌, ◌||◌, not, Bool, true, false, List, length, All, Contains, Option, Some, None, slice_index_or, if◌then◌else◌}
 use Rattle.disp_model.specs.declared.fixing.Fixing.{Fixing}
 use Rattle.disp_model.specs.declared.fixing.Fixing.TheVariants.{Started, Chosen, NotBefore}
 use Rattle.disp_model.specs.declared.decision.Decision.{Decision}

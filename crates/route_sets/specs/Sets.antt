@@ -1,8 +1,10 @@
 -- What is known of the allowed routes of a train.
-use Rattle.std.specs.Prelude.{◌≡◌, ◌↔◌, ℕ, ◌-◌, ◌<◌, ◌≤◌, List, Option, Some, IsTrue, MatchOption}
+use Rattle.std.specs.Prelude.{◌≡◌, ◌↔◌, ℕ, zero, suc, ◌-◌, ◌<◌, ◌≤◌, ◌==◌, List, [], ◌∷◌, length, Option, Some, None, option_map, IsTrue, MatchOption, if◌then◌else◌}
 use Rattle.disp_model.specs.declared.train.Op.{Op}
 use Rattle.disp_model.specs.Node.{Node}
-use Rattle.disp_model.specs.Routes.{HasRoute, IsForced}
+use Rattle.disp_model.specs.Train.{IsExit}
+use Rattle.disp_model.specs.Valid.{train_at}
+use Rattle.disp_model.specs.Routes.{IsAllowed, HasRoute, HasOneRoute, IsForced}
 use Rattle.disp_model.specs.Arcs.{IsTrainArc, GoesTo}
 use Rattle.route_sets.specs.declared.marks.Mark.{Mark}
 use Rattle.route_sets.specs.declared.routes.Routes.{Routes}
@@ -22,8 +24,35 @@ pub record AreOrdered (node : Node) (t : ℕ) (a b : ℕ) (from to : Mark) : Typ
   pub arc : to.place < from.place → IsTrainArc node (op_of t a) (op_of t b) (to.sum - from.sum)
   pub none : from.place ≤ to.place → (sum : ℕ) → IsTrainArc node (op_of t a) (op_of t b) sum → ⊥
 
+-- the operation that a mark names as the one that comes next, and what follows it
+abbrev pub next_followed : ℕ → Option ℕ → (ℕ → Option (List ℕ)) → Option (List ℕ)
+next_followed o None onward = None
+next_followed o (Some s) onward = option_map (λ rest. o ∷ rest) (onward s)
+
+-- a marked operation, and what follows it up to the exit
+abbrev pub mark_followed : ℕ → Option Mark → (ℕ → Option (List ℕ)) → Option (List ℕ)
+mark_followed o None onward = None
+mark_followed o (Some mark) onward = if mark.place == 0 then Some (o ∷ []) else next_followed o mark.next onward
+
+-- from an operation on, each time to the one that comes next, to the exit in so many steps at most
+abbrev pub follow : List (Option Mark) → ℕ → ℕ → Option (List ℕ)
+follow marks zero o = None
+follow marks (suc steps) o = mark_followed o (mark_at marks o) (λ s. follow marks steps s)
+
+-- each allowed route begins with the operation
+abbrev pub BeginsEach : Node → ℕ → ℕ → Type 0
+BeginsEach node t e = (route : List ℕ) → IsAllowed node t route → (rest : List ℕ) × (route ≡ e ∷ rest)
+
 -- what is kept of a train's routes says which are allowed at the node
 pub record AreRoutesOf (node : Node) (t : ℕ) (routes : Routes) : Type 0 where
   pub left : IsTrue routes.left ↔ HasRoute node t
   pub marks : (o : ℕ) → MatchOption (mark_at routes.marks.items o) (IsForced node (op_of t o) → ⊥) (IsMarkOf node t o)
   pub ordered : (a b : ℕ) (from to : Mark) → mark_at routes.marks.items a ≡ Some from → mark_at routes.marks.items b ≡ Some to → AreOrdered node t a b from to
+  pub begins : BeginsEach node t routes.entry
+  pub ends : (o : ℕ) (mark : Mark) → mark_at routes.marks.items o ≡ Some mark → (mark.place ≡ 0) ↔ IsExit (train_at node.problem t) o
+  pub short : (o : ℕ) (mark : Mark) → mark_at routes.marks.items o ≡ Some mark → mark.place < length routes.marks.items
+
+-- the one route that is allowed, or that there is no such one
+abbrev pub IsOnlyRoute : Node → ℕ → Option (List ℕ) → Type 0
+IsOnlyRoute node t (Some route) = HasOneRoute node t route
+IsOnlyRoute node t None = (route : List ℕ) → HasOneRoute node t route → ⊥

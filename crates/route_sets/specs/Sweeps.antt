@@ -1,5 +1,5 @@
 -- Ways from an operation to the exit that have what is asked of the operations so far, in an order.
-use Rattle.std.specs.Prelude.{◌≡◌, ◌↔◌, ℕ, ◌+◌, ◌<◌, ◌≤◌, Bool, true, false, List, [], ◌∷◌, ◌++◌, length, take, Contains, Option, Some, None, slice_get, IfSome, IsTrue, if◌then◌else◌}
+use Rattle.std.specs.Prelude.{◌≡◌, ◌↔◌, ℕ, ◌+◌, ◌<◌, ◌≤◌, true, false, List, [], ◌∷◌, length, take, Contains, Option, Some, None, slice_get, IfSome, IsTrue, if◌then◌else◌}
 use Rattle.disp_model.specs.declared.train.Operation.{Operation}
 use Rattle.disp_model.specs.Train.{IsSuccessor, GoesOn}
 use Rattle.route_sets.specs.declared.asks.Ask.{Ask}

@@ -2,12 +2,13 @@ ghost use Rattle.std.specs.Prelude.{◌≡◌, ◌↔◌, ◌<◌, ℕ, IfOk, Is
 ghost use Rattle.disp_model.specs.Node.{Node, node_at};
 ghost use Rattle.disp_model.specs.Routes.{HasRoute, IsForced};
 ghost use Rattle.disp_model.specs.Arcs.{IsTrainArc, GoesTo};
+ghost use Rattle.route_sets.specs.Ways.{last_of};
 ghost use Rattle.route_sets.specs.Marks.{mark_at};
 
 use crate::asks::asks_of;
 use crate::marks::{Mark, marks_of, places_of};
 use crate::sweep::sweep;
-use disp_model::{Decision, Fixing, Memory, Problem};
+use disp_model::{Decision, Fixing, List, Memory, Problem};
 use std::alloc::Global;
 use train_orders::order_of;
 
@@ -16,12 +17,24 @@ use train_orders::order_of;
 pub struct Routes {
     /// Whether some route is allowed.
     left: bool,
+    /// The operation that each route begins with.
+    entry: u32,
     /// The marks of the operations that each allowed route has.
     marks: Vec<Option<Mark>>,
 }
 
+/// The last operation of an order.
+fn last_of(order: &[u32]) -> u32
+    ensures { result ≡ last_of order.now }
+{
+    match order.last() {
+        Some(number) => *number,
+        None => 0,
+    }
+}
+
 impl Routes {
-    ghost use Rattle.route_sets.specs.Sets.{op_of, AreRoutesOf};
+    ghost use Rattle.route_sets.specs.Sets.{op_of, AreRoutesOf, follow, IsOnlyRoute};
 
     /// The routes of a train that the fixings and the decisions allow. Takes time linear in the
     /// operations of the train, their successors, the fixings and the decisions.
@@ -42,11 +55,19 @@ impl Routes {
         let swept = sweep(alloc, operations, &asks, &order)?;
         if !swept.holds {
             let marks = Vec::new(alloc);
-            return Ok(Routes { left: false, marks });
+            return Ok(Routes {
+                left: false,
+                entry: 0,
+                marks,
+            });
         }
         let places = places_of(alloc, operations, &order)?;
         let marks = marks_of(alloc, operations, &order, &places, &swept.rows)?;
-        Ok(Routes { left: true, marks })
+        Ok(Routes {
+            left: true,
+            entry: last_of(&order),
+            marks,
+        })
     }
 
     /// Whether no route is allowed.
@@ -99,5 +120,41 @@ impl Routes {
         } else {
             None
         }
+    }
+
+    /// The operations from one on, each the only one that comes next, up to the exit.
+    fn follow(&self, alloc: Global, first: u32) -> Result<Option<List<u32>>, Memory>
+        ensures { IfOk result (λ found.
+            found ≡ follow self.now.marks.items (length self.now.marks.items) first) }
+    {
+        let mut route = List::new(alloc);
+        let mut op = first;
+        for _ in 0..self.marks.len() {
+            route.push(op)?;
+            let Some(mark) = self.mark(op) else {
+                return Ok(None);
+            };
+            if mark.place == 0 {
+                return Ok(Some(route));
+            }
+            let Some(next) = mark.next else {
+                return Ok(None);
+            };
+            op = next;
+        }
+        Ok(None)
+    }
+
+    /// The route that is allowed, where one is and no other.
+    pub fn only_route(&self) -> Result<Option<List<u32>>, Memory>
+        ensures { (node : Node) (t : ℕ) → AreRoutesOf node t self.now
+            → IfOk result (λ found. IsOnlyRoute node t found) }
+    {
+        if !self.left {
+            return Ok(None);
+        }
+        let alloc = *self.marks.allocator();
+        let found = self.follow(alloc, self.entry)?;
+        Ok(found)
     }
 }

@@ -119,3 +119,30 @@ fn fixings_may_leave_none(rt: HostRuntime) -> Result<(), Fail> {
     }
     Ok(())
 }
+
+/// The one route that is allowed, and no operation where there is no such one.
+fn only_route(alloc: Global, problem: &Problem, decision: Decision) -> Result<List<u32>, Memory>
+    requires { 0 < length problem.now.trains }
+{
+    let routes = Routes::of(alloc, problem, 0, &[], &[decision])?;
+    match routes.only_route()? {
+        Some(route) => Ok(route),
+        None => Ok(List::new(alloc)),
+    }
+}
+
+#[test]
+fn the_only_route_is_given_whole(rt: HostRuntime) -> Result<(), Fail> {
+    let problem = forked(rt.alloc())?;
+    for (decision, wanted) in [
+        (Decision::Go { op: op(0), next: 1 }, [0, 1, 3].as_slice()),
+        (Decision::Run(op(2)), [0, 2, 3].as_slice()),
+        (Decision::Skip(op(2)), [0, 1, 3].as_slice()),
+        (Decision::Skip(op(4)), [].as_slice()),
+        (Decision::Skip(op(0)), [].as_slice()),
+    ] {
+        let route = only_route(rt.alloc(), &problem, decision)?;
+        assert_eq!(rt; route.as_slice(), wanted);
+    }
+    Ok(())
+}

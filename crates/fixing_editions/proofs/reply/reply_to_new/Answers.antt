@@ -1,9 +1,3 @@
-use Rattle.std.proofs.Common.{◌≡◌}
-use Rattle.std.specs.Prelude.{IsTrue, ◌↔◌}
-use Rattle.disp_model.specs.Changes.{numbered_standing}
-use Rattle.disp_model.specs.Node.{root_of}
-use Rattle.disp_model.specs.Routes.{HasRoute}
-use Rattle.fixing_editions.specs.Own.{own_of, fixings_with}
 use Rattle.fixing_editions.proofs.Accepting.{routed_none, routed_counted}
 use Rattle.fixing_editions.proofs.reply.reply_to_new.Goals as goal
 

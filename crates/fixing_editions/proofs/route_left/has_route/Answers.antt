@@ -1,4 +1,3 @@
-use Rattle.std.proofs.Common.{◌≡◌}
 use Rattle.disp_model.specs.Node.{Node, root_of}
 use Rattle.fixing_editions.specs.Own.{fixings_with}
 use Rattle.fixing_editions.proofs.Owning.{some_left}

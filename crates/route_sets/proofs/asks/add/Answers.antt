@@ -1,6 +1,6 @@
-use Rattle.std.proofs.Common.{◌≡◌, ℕ, ◌<◌, ◌≤◌, List, length, get_or, set, sym, subst, ap, ◌∙◌, refl, rules, arith}
+use Rattle.std.proofs.Common.{◌≡◌, ◌<◌, length, refl, rules, arith}
 use Rattle.std.proofs.lemmas.List.{get_or_read}
-use Rattle.route_sets.specs.Asks.{Meets, Takes, ask_at, free, joined}
+use Rattle.route_sets.specs.Asks.{ask_at, free}
 use Rattle.route_sets.proofs.Asking.{adds, adds_past, adds_nothing}
 use Rattle.route_sets.proofs.asks.add.Goals as goal
 

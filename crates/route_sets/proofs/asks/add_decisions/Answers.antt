@@ -1,9 +1,9 @@
-use Rattle.std.proofs.Common.{◌≡◌, ℕ, ◌+◌, ◌≤◌, List, length, take, get_or, sym, subst, ap, ◌∙◌, arith}
-use Rattle.std.specs.Prelude.{All, ◌↔◌}
+use Rattle.std.proofs.Common.{◌≡◌, List, take, subst, arith}
+use Rattle.std.specs.Prelude.{All}
 use Rattle.std.proofs.lemmas.List.{take_all}
 use Rattle.disp_model.specs.declared.decision.Decision.{Decision}
 use Rattle.disp_model.specs.Routes.{AgreesWithDecision}
-use Rattle.route_sets.specs.Asks.{Meets, demand_of_decision, Takes}
+use Rattle.route_sets.specs.Asks.{demand_of_decision, Takes}
 use Rattle.route_sets.proofs.Asking.{decision_asks, takes_more}
 use Rattle.route_sets.proofs.asks.add_decisions.Goals as goal
 

@@ -1,9 +1,9 @@
-use Rattle.std.proofs.Common.{◌≡◌, ℕ, ◌+◌, ◌≤◌, List, length, take, get_or, sym, subst, ap, ◌∙◌, arith}
-use Rattle.std.specs.Prelude.{All, ◌↔◌}
+use Rattle.std.proofs.Common.{◌≡◌, List, take, subst, arith}
+use Rattle.std.specs.Prelude.{All}
 use Rattle.std.proofs.lemmas.List.{take_all}
 use Rattle.disp_model.specs.declared.fixing.Fixing.{Fixing}
 use Rattle.disp_model.specs.Routes.{AgreesWithFixing}
-use Rattle.route_sets.specs.Asks.{Meets, demand_of_fixing, Takes}
+use Rattle.route_sets.specs.Asks.{demand_of_fixing, Takes}
 use Rattle.route_sets.proofs.Asking.{fixing_asks, takes_more}
 use Rattle.route_sets.proofs.asks.add_fixings.Goals as goal
 

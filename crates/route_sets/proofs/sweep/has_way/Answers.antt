@@ -1,4 +1,3 @@
-use Rattle.std.proofs.Common.{rules}
 use Rattle.std.proofs.lemmas.Bool.{false≢true}
 use Rattle.std.proofs.Common.{◌∙◌, sym}
 use Rattle.route_sets.specs.Sweeps.{CanEnd}

@@ -1,9 +1,7 @@
-use Rattle.std.proofs.Common.{◌≡◌, ◌<◌, ◌+◌, ◌∙◌, ℕ, List, [], length, get_or, take, replicate, Option, Some, None, sym, ap, subst, arith, rules}
-use Rattle.std.specs.Prelude.{slice_get, IsTrue, ◌↔◌}
-use Rattle.std.proofs.lemmas.List.{take_all}
+use Rattle.std.proofs.Common.{◌<◌, ℕ, List, length, get_or, Option, ap, arith}
 use Rattle.std.proofs.lemmas.List.Elements.{Contains-get_or}
 use Rattle.train_orders.proofs.Searching.{inside_at}
-use Rattle.route_sets.proofs.Sweeping.{sweep_turn, swept_all, nothing_swept}
+use Rattle.route_sets.proofs.Sweeping.{sweep_turn}
 use Rattle.route_sets.proofs.sweep.sweep.Goals as goal
 
 pub bounds-asks-at : goal.bounds-asks-at

@@ -1,4 +1,4 @@
-use Rattle.std.proofs.Common.{◌∙◌, None, Some, sym, ap}
+use Rattle.std.proofs.Common.{◌∙◌, Some, sym, ap}
 use Rattle.std.proofs.lemmas.Option.{none-some, same_Some}
 use Rattle.route_sets.proofs.Answering.{between_some, between_none}
 use Rattle.route_sets.proofs.routes.Routes.least_between.Goals as goal
