@@ -14,11 +14,12 @@ pub record AreUndone (lowers : List ℕ) (arcs : List Arc) (lengths : List ℕ) 
   pub within : (i : ℕ) → stale ≤ i → i < length arcs → slice_index starts i ≤ length trail
   pub each : (left : ℕ) → stale ≤ left → left < length arcs → AreLengths lowers (take left arcs) (restored lengths (drop (slice_index starts left) trail))
 
-pub record AreKept (lowers : List ℕ) (arcs : List Arc) (begun ended : Threaded) (places : List ℕ) (marks : List Bool) (lengths : List ℕ) (trail : List Change) (starts : List ℕ) (stale : ℕ) : Type 0 where
+pub record AreKept (lowers : List ℕ) (arcs : List Arc) (begun ended : Threaded) (places : List ℕ) (marks : List Bool) (lengths : List ℕ) (trail : List Change) (starts : List ℕ) (stale room : ℕ) : Type 0 where
   pub few : length lowers < 2 ^ 32
   pub a_place_each : length places ≡ length lowers
   pub a_mark_each : length marks ≡ length lowers
   pub a_length_each : length lengths ≡ length lowers
+  pub room_for_each : room ≡ length lowers
   pub within : AreWithin (length lowers) arcs
   pub rising : AreRising arcs places
   pub begun_is : begun ≡ record { size = length lowers; keys = begins arcs }

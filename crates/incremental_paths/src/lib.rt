@@ -15,6 +15,7 @@ mod changes;
 mod faults;
 mod laws;
 mod marks;
+mod node_set;
 mod order;
 mod ordering;
 mod paths;

@@ -1,7 +1,7 @@
 ghost use Rattle.std.specs.Prelude.{ℕ, ◌≡◌, ◌<◌, ◌≤◌, ◌↔◌, ◌^◌, List, [], length, All, IfOk, IfErr, IfSome, IfNone, OnOk, OnErr, IsErrOf, ◌≢◌, slice_index};
 ghost use Rattle.incremental_paths.specs.Walks.{IsWalkTo, walk_length, HasNoNodeTwice, Leads, IsLongest, HasCycle};
 ghost use Rattle.incremental_paths.specs.Marked.{AreRising};
-ghost use Rattle.incremental_paths.specs.Network.{IsNode, IsShort, with_arc, without_last, raised};
+ghost use Rattle.incremental_paths.specs.Network.{IsNode, IsShort, with_arc, without_last, raised, unchanged, TellsChanged};
 
 use crate::arc::Arc;
 use crate::back::{find_way, walk_back};
@@ -40,16 +40,16 @@ impl Model for Paths {
 
     ghost Value = { Network };
 
-    ghost view = { λ p. record { lowers = p.lowers.items; arcs = p.arcs.items } };
+    ghost view = { λ p. record { lowers = p.lowers.items; arcs = p.arcs.items; changed = p.changes.grown.listed } };
 
-    ghost invariant = { λ p. AreKept p.lowers.items p.arcs.items p.begun p.ended p.order p.marks p.lengths.items p.trail.items p.starts.items p.stale };
+    ghost invariant = { λ p. AreKept p.lowers.items p.arcs.items p.begun p.ended p.order p.marks p.lengths.items p.trail.items p.starts.items p.stale p.changes.grown.size };
 }
 
 impl Paths {
     /// Nodes with these lowers, and no arcs.
     pub fn new(alloc: Global, lowers: &[u64]) -> Result<Self, Memory>
         requires { length lowers.now < 2 ^ 32 }
-        ensures { IfOk result (λ paths. paths ≡ record { lowers = lowers.now; arcs = [] }) }
+        ensures { IfOk result (λ paths. paths ≡ record { lowers = lowers.now; arcs = []; changed = [] }) }
     {
         let nodes = lowers.len();
         Ok(Paths {
@@ -74,10 +74,12 @@ impl Paths {
         requires to { IsNode self.old to }
         requires short { IsShort (with_arc self.old from to length) }
 
-        ensures ok { OnOk result (self.new ≡ with_arc self.old from to length) }
+        ensures lowers { self.new.lowers ≡ self.old.lowers }
+        ensures ok { OnOk result (self.new.arcs ≡ (with_arc self.old from to length).arcs) }
+        ensures changed { OnOk result (TellsChanged self.old self.new) }
         ensures closes { IsErrOf result (AddNo.Closes from to) ↔ HasCycle (with_arc self.old from to length).arcs }
         ensures faults { IfErr result (λ no. no ≢ AddNo.Memory → no ≡ AddNo.Closes from to) }
-        ensures err { OnErr result (self.new ≡ self.old) }
+        ensures err { OnErr result (self.new ≡ unchanged self.old) }
     {
         let alloc = *self.arcs.allocator();
         let arc = Arc { from, to, length };
@@ -121,6 +123,7 @@ impl Paths {
         requires { let kept = self.old.arcs in k ≤ length kept }
         ensures { self.new ≡ without_last self.old k }
     {
+        self.changes.clear();
         if k == 0 {
             return;
         }
@@ -144,6 +147,7 @@ impl Paths {
                 &mut self.lengths,
                 &mut self.changes,
             );
+            self.changes.clear();
         }
     }
 
@@ -151,7 +155,9 @@ impl Paths {
     pub fn raise(&mut self, node: u32, lower: u64)
         requires node { IsNode self.old node }
         requires short { IsShort (raised self.old node lower) }
-        ensures { self.new ≡ raised self.old node lower }
+        ensures lowers { self.new.lowers ≡ (raised self.old node lower).lowers }
+        ensures arcs { self.new.arcs ≡ self.old.arcs }
+        ensures changed { TellsChanged self.old self.new }
     {
         self.changes.clear();
         let at = node as usize;
@@ -179,6 +185,16 @@ impl Paths {
             → walk_length self.now.lowers self.now.arcs nodes ≤ result }
     {
         self.lengths[node as usize]
+    }
+
+    /// The nodes whose lengths the last call of `add` or `raise` made greater, each once. There are none
+    /// after `new`, `withdraw`, and an arc that was not added.
+    pub fn changed(&self) -> &[u32]
+        ensures all { result.now ≡ self.now.changed }
+        ensures nodes { All (IsNode self.now) self.now.changed }
+        ensures once { HasNoNodeTwice self.now.changed }
+    {
+        self.changes.grown()
     }
 
     /// An order of the nodes in which each kept arc leads from a lower place to a higher. Only `add`

@@ -8,6 +8,8 @@ use Rattle.incremental_paths.specs.Marked.{AreRising}
 use Rattle.incremental_paths.specs.Spread.{WalksFit, TellsMore}
 use Rattle.incremental_paths.proofs.Reordering.{rising_free}
 use Rattle.incremental_paths.proofs.KeptFields.{longest_spread, longest_reached, reached_more, fits_from_short, kept_more, written_back}
+use Rattle.incremental_paths.proofs.Longer.{changed_told}
+use Rattle.incremental_paths.proofs.Tracing.{spread_lengths}
 use Rattle.incremental_paths.proofs.paths.Paths.add.Goals as goal
 use Rattle.incremental_paths.proofs.paths.Paths.add.Goals.{In_default}
 
@@ -93,5 +95,24 @@ invariant_of-self-2 c =
     let start : c.len-start.result ≡ length f.trail.items = omega (arith, c.len-start.ensures, c.in_ok-reserve.ensures.len, f.trail.ok.0) in
     let count : c.len-count.result ≡ length f.arcs.items + 1 = omega (arith, c.len-count.ensures, c.keep_arc.new.arcs.ok.0, ap length c.in_ok-keep_arc.ensures.arcs, length-append f.arcs.items (arc d ∷ [])) in
     rw (c.in_ok-keep_arc.ensures.arcs, c.in_ok-keep_arc.ensures.starts, c.in_ok-keep_arc.ensures.begun, c.in_ok-keep_arc.ensures.ended, start, written_back f.lengths.items c.spread_last.new.lengths f.lengths.len same)
-    (kept_more f.lowers.items f.arcs.items f.begun f.ended f.order f.marks f.lengths.items f.trail.items f.starts.items f.stale c.self.invariant (arc d) c.order_with.new.order c.order_with.new.marks c.spread_last.new.lengths c.spread_last.new.changes c.keep_changes-self-inside.new.trail.items c.keep_changes-self-inside.result c.len-count.result tells
+    (kept_more f.lowers.items f.arcs.items f.begun f.ended f.order f.marks f.lengths.items f.trail.items f.starts.items f.stale f.changes.grown.size c.self.invariant (arc d) c.order_with.new.order c.order_with.new.marks c.spread_last.new.lengths c.spread_last.new.changes c.keep_changes-self-inside.new.trail.items c.keep_changes-self-inside.result c.len-count.result tells
     from to (c.order_with.ensures.size ∙ k.a_place_each) (c.order_with.ensures.marks ∙ k.a_mark_each) (rising d) (fit d) (reached f.lowers.items before) spread count choice)
+
+pub returns-clause-changed : goal.returns-clause-changed
+unfolding arc
+returns-clause-changed c =
+    let f = c.self.inside in
+    let k = c.self.invariant in
+    let d = (goal.at.returns-clause-changed c).In_default in
+    let from : c.args.from < length f.lowers.items = rw (← c.self.view_is) at c.requires.from in
+    let to : c.args.to < length f.lowers.items = rw (← c.self.view_is) at c.requires.to in
+    let before = reached_more f.lowers.items f.arcs.items (arc d) f.lengths.items (longest_reached f.lowers.items f.arcs.items f.lengths.items k.a_length_each k.longest) in
+    let reached = rw (c.deref-2.ensures.value, c.deref_mut.ensures.value, c.in_ok-keep_arc.ensures.arcs) at c.spread_last.ensures.reached in
+    let spread = rw (c.deref-2.ensures.value, c.in_ok-keep_arc.ensures.arcs) at c.spread_last.ensures.spread in
+    let tells = rw (c.clear.ensures, c.deref_mut.ensures.value) at c.spread_last.ensures.tells in
+    let arcs = f.arcs.items ++ arc d ∷ [] in
+    let within = All-push (λ (z : Arc). (z.from < length f.lowers.items) × (z.to < length f.lowers.items)) f.arcs.items (arc d) k.within (from, to) in
+    rw (← c.self.view_is, c.in_ok-keep_arc.ensures.arcs)
+    (changed_told f.lowers.items f.arcs.items f.lengths.items k.longest (rising_free f.arcs.items f.order k.rising) k.within
+    f.lowers.items arcs c.spread_last.new.lengths (spread_lengths f.lowers.items arcs c.spread_last.new.lengths (reached f.lowers.items before) spread) (rising_free arcs c.order_with.new.order (rising d)) within
+    refl k.a_length_each f.changes.grown.size c.spread_last.new.changes tells f.changes.grown.listed)
