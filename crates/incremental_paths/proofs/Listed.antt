@@ -62,13 +62,14 @@ module _ (marks : List Bool) (nodes : List ℕ) (count : ℕ) (are : AreMembers 
 
   pub listed_more : (v : ℕ) → Contains (take (count + 1) (set nodes count node)) v ↔ (Contains (take count nodes) v ⊎ (v ≡ node))
   listed_more v =
-      let listed : take (count + 1) (set nodes count node) ≡ take count nodes ++ node ∷ [] = take_more_set nodes count node room_left in
-      (λ has. elim (Contains-push_cases (take count nodes) node v (subst (λ l. Contains l v) listed has)) [ | inl before ↦ inl before | inr same ↦ inr (sym same) ],
-      λ either. subst (λ l. Contains l v) (sym listed) (elim either [
-        | inl before ↦ Contains-append_left (take count nodes) (node ∷ []) v before
-        | inr same ↦ rw same (Contains-push (take count nodes) node)
-      ]))
+      let listed : take (count + 1) (set nodes count node) ≡ take count nodes ++ node ∷ [] = take_more_set nodes count node room_left in (
+        λ has. elim (Contains-push_cases (take count nodes) node v (subst (λ l. Contains l v) listed has)) [ inl before ↦ inl before | inr same ↦ inr (sym same) ],
+        λ either. subst (λ l. Contains l v) (sym listed) (elim either [
+          | inl before ↦ Contains-append_left (take count nodes) (node ∷ []) v before
+          | inr same ↦ rw same (Contains-push (take count nodes) node)
+        ]),
+      )
 
 pub listed_still : (marks : List Bool) (nodes : List ℕ) (count : ℕ) → AreMembers marks nodes count → (node : ℕ) → is_marked marks node ≡ true
     → (v : ℕ) → Contains (take count nodes) v ↔ (Contains (take count nodes) v ⊎ (v ≡ node))
-listed_still marks nodes count are node marked v = (λ has. inl has, λ either. elim either [ | inl has ↦ has | inr same ↦ rw same (are.only node marked) ])
+listed_still marks nodes count are node marked v = (λ has. inl has, λ either. elim either [ inl has ↦ has | inr same ↦ rw same (are.only node marked) ])

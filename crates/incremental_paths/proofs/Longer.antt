@@ -57,7 +57,7 @@ module _ (lowers : List ℕ) (arcs : List Arc) (lengths : List ℕ) (are : AreLe
       (lt, longest_unique new_lowers new_arcs v longest (get_or new_lengths v 0) is (longest_kept new_lowers new_arcs new_lengths new_are new_acyclic v lt))
 
   longer : (v : ℕ) → Contains told.grown.listed v → get_or lengths v 0 < get_or new_lengths v 0
-  longer v has = elim (tells.only_grown v has) [ | inl none ↦ absurd (Contains-nil v none) | inr more ↦ more ]
+  longer v has = elim (tells.only_grown v has) [ inl none ↦ absurd (Contains-nil v none) | inr more ↦ more ]
 
   node : (v : ℕ) → Contains told.grown.listed v → v < length new_lowers
   node v has = elim (cases_lt v (length new_lowers)) [

@@ -44,11 +44,11 @@ tells_one old new lengths node value lt above still told room grown =
       sized = length-set lengths node value;
       within = λ i below. rw (zero_below i below) lt;
       room = room;
-      grows = λ v. elim (cases_eq v node) [ | inl same ↦ rw same (omega (arith, here, above)) | inr other ↦ omega (arith, there v other) ];
+      grows = λ v. elim (cases_eq v node) [ inl same ↦ rw same (omega (arith, here, above)) | inr other ↦ omega (arith, there v other) ];
       still_grown = λ v has. (grown v).1 (inl has);
-      all_grown = λ v more. elim (cases_eq v node) [ | inl same ↦ (grown v).1 (inr same) | inr other ↦ absurd (omega (arith, more, there v other)) ];
-      only_grown = λ v has. elim ((grown v).0 has) [ | inl before ↦ inl before | inr same ↦ inr (rw same (omega (arith, here, above))) ];
-      each = λ v e differs. elim (cases_eq v node) [ | inl same ↦ (0, omega arith, sym same) | inr other ↦ absurd (differs (sym (there v other))) ];
+      all_grown = λ v more. elim (cases_eq v node) [ inl same ↦ (grown v).1 (inr same) | inr other ↦ absurd (omega (arith, more, there v other)) ];
+      only_grown = λ v has. elim ((grown v).0 has) [ inl before ↦ inl before | inr same ↦ inr (rw same (omega (arith, here, above))) ];
+      each = λ v e differs. elim (cases_eq v node) [ inl same ↦ (0, omega arith, sym same) | inr other ↦ absurd (differs (sym (there v other))) ];
     }
 
 -- what was told stays so where the changes are lost
@@ -103,7 +103,7 @@ tells_both a b c x y z p q = record {
     | inr le ↦ q.all_grown v (omega (arith, more, le))
   ];
   only_grown = λ v has. elim (q.only_grown v has) [
-    | inl before ↦ elim (p.only_grown v before) [ | inl first ↦ inl first | inr more ↦ inr (omega (arith, more, q.grows v)) ]
+    | inl before ↦ elim (p.only_grown v before) [ inl first ↦ inl first | inr more ↦ inr (omega (arith, more, q.grows v)) ]
     | inr more ↦ inr (omega (arith, more, p.grows v))
   ];
   each = λ v e other. elim (cases_eq (get_or y v 0) (get_or z v 0)) [

@@ -4,9 +4,10 @@
 //! arcs that are kept and the lowers raised so far. An arc that would close a cycle is refused,
 //! exactly then. No call but `new`, `add`, `walk` and `between` takes memory.
 //!
-//! Nodes are kept in an order in which each arc leads from a lower place to a higher (`order.rt`), and
-//! arcs in threads by where they begin and end (`threads.rt`). A call pushes lengths on from the node
-//! that it changed (`spread.rt`), and `withdraw` puts back what `add` changed (`trail.rt`).
+//! Nodes are kept in an order in which each arc leads from a lower place to a higher (`order.rt`),
+//! and arcs in threads by where they begin and end (`threads.rt`). A call pushes lengths on from
+//! the node that it changed (`spread.rt`), and `withdraw` puts back what `add` changed
+//! (`trail.rt`).
 #![tactic(auto)]
 
 mod arc;

@@ -19,7 +19,8 @@ impl Model for NodeSet {
 
     ghost Value = { Members };
 
-    ghost view = { λ s. record { size = length s.nodes.items; listed = take s.count s.nodes.items } };
+    ghost view = { λ s.
+        record { size = length s.nodes.items; listed = take s.count s.nodes.items } };
 
     ghost invariant = { λ s. AreMembers s.marks s.nodes.items s.count };
 }

@@ -29,8 +29,10 @@ pub fn order_with(
     ensures size { length order.new ≡ length order.old }
     ensures marks { length marks.new ≡ length marks.old }
     ensures rising { AreRising arcs.now order.new }
-    ensures ok { (by : ℕ) → OnOk result (AreRising (arcs.now ++ record { from = from; to = to; length = by } ∷ []) order.new) }
-    ensures closes { (by : ℕ) → IsErrOf result (AddNo.Closes from to) ↔ HasCycle (arcs.now ++ record { from = from; to = to; length = by } ∷ []) }
+    ensures ok { (by : ℕ) → OnOk result
+        (AreRising (arcs.now ++ record { from = from; to = to; length = by } ∷ []) order.new) }
+    ensures closes { (by : ℕ) → IsErrOf result (AddNo.Closes from to)
+        ↔ HasCycle (arcs.now ++ record { from = from; to = to; length = by } ∷ []) }
     ensures faults { IfErr result (λ no. no ≢ AddNo.Memory → no ≡ AddNo.Closes from to) }
 {
     let low = order.place(to) as usize;

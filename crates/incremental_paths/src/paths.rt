@@ -40,16 +40,20 @@ impl Model for Paths {
 
     ghost Value = { Network };
 
-    ghost view = { λ p. record { lowers = p.lowers.items; arcs = p.arcs.items; changed = p.changes.grown.listed } };
+    ghost view = { λ p.
+        record { lowers = p.lowers.items; arcs = p.arcs.items; changed = p.changes.grown.listed } };
 
-    ghost invariant = { λ p. AreKept p.lowers.items p.arcs.items p.begun p.ended p.order p.marks p.lengths.items p.trail.items p.starts.items p.stale p.changes.grown.size };
+    ghost invariant = { λ p.
+        AreKept p.lowers.items p.arcs.items p.begun p.ended p.order p.marks p.lengths.items
+        p.trail.items p.starts.items p.stale p.changes.grown.size };
 }
 
 impl Paths {
     /// Nodes with these lowers, and no arcs.
     pub fn new(alloc: Global, lowers: &[u64]) -> Result<Self, Memory>
         requires { length lowers.now < 2 ^ 32 }
-        ensures { IfOk result (λ paths. paths ≡ record { lowers = lowers.now; arcs = []; changed = [] }) }
+        ensures { IfOk result
+            (λ paths. paths ≡ record { lowers = lowers.now; arcs = []; changed = [] }) }
     {
         let nodes = lowers.len();
         Ok(Paths {
@@ -77,7 +81,8 @@ impl Paths {
         ensures lowers { self.new.lowers ≡ self.old.lowers }
         ensures ok { OnOk result (self.new.arcs ≡ (with_arc self.old from to length).arcs) }
         ensures changed { OnOk result (TellsChanged self.old self.new) }
-        ensures closes { IsErrOf result (AddNo.Closes from to) ↔ HasCycle (with_arc self.old from to length).arcs }
+        ensures closes { IsErrOf result (AddNo.Closes from to)
+            ↔ HasCycle (with_arc self.old from to length).arcs }
         ensures faults { IfErr result (λ no. no ≢ AddNo.Memory → no ≡ AddNo.Closes from to) }
         ensures err { OnErr result (self.new ≡ unchanged self.old) }
     {
@@ -187,8 +192,8 @@ impl Paths {
         self.lengths[node as usize]
     }
 
-    /// The nodes whose lengths the last call of `add` or `raise` made greater, each once. There are none
-    /// after `new`, `withdraw`, and an arc that was not added.
+    /// The nodes whose lengths the last call of `add` or `raise` made greater, each once. There are
+    /// none after `new`, `withdraw`, and an arc that was not added.
     pub fn changed(&self) -> &[u32]
         ensures all { result.now ≡ self.now.changed }
         ensures nodes { All (IsNode self.now) self.now.changed }
@@ -197,8 +202,8 @@ impl Paths {
         self.changes.grown()
     }
 
-    /// An order of the nodes in which each kept arc leads from a lower place to a higher. Only `add`
-    /// changes it.
+    /// An order of the nodes in which each kept arc leads from a lower place to a higher. Only
+    /// `add` changes it.
     pub fn order(&self) -> &Order
         ensures size { length result.now ≡ length self.now.lowers }
         ensures rising { AreRising self.now.arcs result.now }
@@ -210,7 +215,8 @@ impl Paths {
     pub fn place(&self, node: u32) -> u32
         requires { IsNode self.now node }
         ensures within { result < length self.now.lowers }
-        ensures rising { (places : List ℕ) × AreRising self.now.arcs places × (result ≡ slice_index places node) }
+        ensures rising { (places : List ℕ) × AreRising self.now.arcs places
+            × (result ≡ slice_index places node) }
     {
         self.order.place(node)
     }
@@ -218,7 +224,8 @@ impl Paths {
     /// The arcs that are kept, in the order in which they were added.
     pub fn arcs(&self) -> &[Arc]
         ensures all { result.now ≡ self.now.arcs }
-        ensures nodes { All (λ arc. IsNode self.now arc.from × IsNode self.now arc.to) self.now.arcs }
+        ensures nodes { All (λ arc. IsNode self.now arc.from × IsNode self.now arc.to)
+            self.now.arcs }
         ensures no_cycle { ¬ HasCycle self.now.arcs }
     {
         &self.arcs
@@ -227,10 +234,12 @@ impl Paths {
     /// A walk to the node that is as long as the node's length.
     pub fn walk(&self, node: u32) -> Result<Vec<u32>, Memory>
         requires { IsNode self.now node }
-        ensures walk { IfOk result (λ nodes. IsWalkTo self.now.lowers self.now.arcs node nodes.items) }
+        ensures walk { IfOk result
+            (λ nodes. IsWalkTo self.now.lowers self.now.arcs node nodes.items) }
         ensures once { IfOk result (λ nodes. HasNoNodeTwice nodes.items) }
         ensures longest { IfOk result (λ nodes.
-            IsLongest self.now.lowers self.now.arcs node (walk_length self.now.lowers self.now.arcs nodes.items)) }
+            IsLongest self.now.lowers self.now.arcs node
+            (walk_length self.now.lowers self.now.arcs nodes.items)) }
     {
         let alloc = *self.arcs.allocator();
         Ok(walk_back(
@@ -249,8 +258,10 @@ impl Paths {
     pub fn between(&self, from: u32, to: u32) -> Result<Option<Vec<u32>>, Memory>
         requires from { IsNode self.now from }
         requires to { IsNode self.now to }
-        ensures way { IfOk result (λ found. IfSome found (λ nodes. Leads self.now.arcs from to nodes.items)) }
-        ensures none { IfOk result (λ found. IfNone found ((nodes : List ℕ) → ¬ Leads self.now.arcs from to nodes)) }
+        ensures way { IfOk result
+            (λ found. IfSome found (λ nodes. Leads self.now.arcs from to nodes.items)) }
+        ensures none { IfOk result
+            (λ found. IfNone found ((nodes : List ℕ) → ¬ Leads self.now.arcs from to nodes)) }
 
         // Without a way, an arc back would close no cycle.
         ensures no_cycle { IfOk result (λ found. IfNone found ((length : ℕ)

@@ -35,7 +35,8 @@ pub fn raise_end(arc: Arc, lengths: &mut [u64], changes: &mut Changes)
     }
 }
 
-/// Raises the ends of the arcs that begin at the node, where they are shorter than what these lead to.
+/// Raises the ends of the arcs that begin at the node, where they are shorter than what these lead
+/// to.
 pub fn raise_ends(
     arcs: &[Arc],
     begun: &Threads,
@@ -48,8 +49,10 @@ pub fn raise_ends(
     requires apart { All (λ a. a.from ≢ a.to) arcs.now }
     requires node { node < length lengths.old }
     requires room { changes.old.grown.size ≡ length lengths.old }
-    requires reached { (lowers : List ℕ) × AreReached lowers arcs.now lengths.old × WalksFit lowers arcs.now }
-    ensures reached { (lowers : List ℕ) → AreReached lowers arcs.now lengths.old → AreReached lowers arcs.now lengths.new }
+    requires reached { (lowers : List ℕ) × AreReached lowers arcs.now lengths.old
+        × WalksFit lowers arcs.now }
+    ensures reached { (lowers : List ℕ) → AreReached lowers arcs.now lengths.old
+        → AreReached lowers arcs.now lengths.new }
     ensures spreads { Spreads arcs.now node lengths.old lengths.new }
     ensures tells { TellsMore changes.old changes.new lengths.old lengths.new }
 {
@@ -61,16 +64,19 @@ pub fn raise_ends(
     }
 }
 
-/// Spreads lengths on from the nodes of the changes that are told, along all arcs, or until some are lost.
+/// Spreads lengths on from the nodes of the changes that are told, along all arcs, or until some
+/// are lost.
 fn push_on(arcs: &[Arc], begun: &Threads, lengths: &mut [u64], changes: &mut Changes)
     requires begun { begun.now ≡ record { size = length lengths.old; keys = begins arcs.now } }
     requires within { AreWithin (length lengths.old) arcs.now }
     requires apart { All (λ a. a.from ≢ a.to) arcs.now }
     requires room { changes.old.grown.size ≡ length lengths.old }
-    requires reached { (lowers : List ℕ) × AreReached lowers arcs.now lengths.old × WalksFit lowers arcs.now }
+    requires reached { (lowers : List ℕ) × AreReached lowers arcs.now lengths.old
+        × WalksFit lowers arcs.now }
     requires told { AreNodes changes.old (length lengths.old) }
     requires waiting { AreWaiting arcs.now lengths.old changes.old 0 }
-    ensures reached { (lowers : List ℕ) → AreReached lowers arcs.now lengths.old → AreReached lowers arcs.now lengths.new }
+    ensures reached { (lowers : List ℕ) → AreReached lowers arcs.now lengths.old
+        → AreReached lowers arcs.now lengths.new }
     ensures spread { changes.new.lost ≡ false → AreSpread arcs.now lengths.new }
     ensures tells { TellsMore changes.old changes.new lengths.old lengths.new }
 {
@@ -93,8 +99,10 @@ fn sweep(arcs: &[Arc], begun: &Threads, order: &Order, lengths: &mut [u64], chan
     requires within { AreWithin (length lengths.old) arcs.now }
     requires rising { AreRising arcs.now order.now }
     requires room { changes.old.grown.size ≡ length lengths.old }
-    requires reached { (lowers : List ℕ) × AreReached lowers arcs.now lengths.old × WalksFit lowers arcs.now }
-    ensures reached { (lowers : List ℕ) → AreReached lowers arcs.now lengths.old → AreReached lowers arcs.now lengths.new }
+    requires reached { (lowers : List ℕ) × AreReached lowers arcs.now lengths.old
+        × WalksFit lowers arcs.now }
+    ensures reached { (lowers : List ℕ) → AreReached lowers arcs.now lengths.old
+        → AreReached lowers arcs.now lengths.new }
     ensures spread { AreSpread arcs.now lengths.new }
     ensures tells { TellsMore changes.old changes.new lengths.old lengths.new }
 {
@@ -116,10 +124,12 @@ pub fn settle(
     requires within { AreWithin (length lengths.old) arcs.now }
     requires rising { AreRising arcs.now order.now }
     requires room { changes.old.grown.size ≡ length lengths.old }
-    requires reached { (lowers : List ℕ) × AreReached lowers arcs.now lengths.old × WalksFit lowers arcs.now }
+    requires reached { (lowers : List ℕ) × AreReached lowers arcs.now lengths.old
+        × WalksFit lowers arcs.now }
     requires told { AreNodes changes.old (length lengths.old) }
     requires waiting { AreWaiting arcs.now lengths.old changes.old 0 }
-    ensures reached { (lowers : List ℕ) → AreReached lowers arcs.now lengths.old → AreReached lowers arcs.now lengths.new }
+    ensures reached { (lowers : List ℕ) → AreReached lowers arcs.now lengths.old
+        → AreReached lowers arcs.now lengths.new }
     ensures spread { AreSpread arcs.now lengths.new }
     ensures tells { TellsMore changes.old changes.new lengths.old lengths.new }
 {
@@ -142,10 +152,13 @@ pub fn spread_last(
     requires sizes { length order.now ≡ length lengths.old }
     requires within { AreWithin (length lengths.old) arcs.now }
     requires rising { AreRising arcs.now order.now }
-    requires reached { (lowers : List ℕ) × AreReached lowers arcs.now lengths.old × WalksFit lowers arcs.now }
+    requires reached { (lowers : List ℕ) × AreReached lowers arcs.now lengths.old
+        × WalksFit lowers arcs.now }
     requires cleared { changes.old ≡ nothing_told (length lengths.old) }
-    requires last { (front : List Arc) × (arcs.now ≡ front ++ arc ∷ []) × AreSpread front lengths.old }
-    ensures reached { (lowers : List ℕ) → AreReached lowers arcs.now lengths.old → AreReached lowers arcs.now lengths.new }
+    requires last { (front : List Arc) × (arcs.now ≡ front ++ arc ∷ [])
+        × AreSpread front lengths.old }
+    ensures reached { (lowers : List ℕ) → AreReached lowers arcs.now lengths.old
+        → AreReached lowers arcs.now lengths.new }
     ensures spread { AreSpread arcs.now lengths.new }
     ensures tells { TellsMore changes.old changes.new lengths.old lengths.new }
 {
@@ -169,10 +182,14 @@ fn spread_node(
     requires rising { AreRising arcs.now order.now }
     requires node { node < length lengths.old }
     requires above { slice_index lengths.old node < raised }
-    requires reached { (lowers : List ℕ) × AreReached lowers arcs.now (slice_set lengths.old node raised) × WalksFit lowers arcs.now }
+    requires reached { (lowers : List ℕ)
+        × AreReached lowers arcs.now (slice_set lengths.old node raised)
+        × WalksFit lowers arcs.now }
     requires cleared { changes.old ≡ nothing_told (length lengths.old) }
     requires spread { AreSpread arcs.now lengths.old }
-    ensures reached { (lowers : List ℕ) → AreReached lowers arcs.now (slice_set lengths.old node raised) → AreReached lowers arcs.now lengths.new }
+    ensures reached { (lowers : List ℕ)
+        → AreReached lowers arcs.now (slice_set lengths.old node raised)
+        → AreReached lowers arcs.now lengths.new }
     ensures spread { AreSpread arcs.now lengths.new }
     ensures tells { TellsMore changes.old changes.new lengths.old lengths.new }
 {
@@ -223,7 +240,8 @@ pub fn raise_length(
     requires node { node < length lowers.now }
     requires fit { WalksFit lowers.now arcs.now }
     requires cleared { changes.old ≡ nothing_told (length lengths.old) }
-    requires before { (lower : ℕ) × (lower ≤ slice_index lowers.now node) × AreReached (slice_set lowers.now node lower) arcs.now lengths.old }
+    requires before { (lower : ℕ) × (lower ≤ slice_index lowers.now node)
+        × AreReached (slice_set lowers.now node lower) arcs.now lengths.old }
     requires spread { AreSpread arcs.now lengths.old }
     ensures reached { AreReached lowers.now arcs.now lengths.new }
     ensures spread { AreSpread arcs.now lengths.new }
