@@ -1,9 +1,10 @@
 -- What the private fields of `Paths` keep true.
-use Rattle.std.specs.Prelude.{◌≡◌, ℕ, ◌<◌, ◌≤◌, ◌^◌, Bool, List, length, take, drop, slice_index, All}
+use Rattle.std.specs.Prelude.{◌≡◌, ℕ, ◌<◌, ◌≤◌, ◌^◌, Bool, true, List, Option, length, take, drop, slice_index, All, IfSome}
 use Rattle.incremental_paths.specs.declared.arc.Arc.{Arc}
 use Rattle.incremental_paths.specs.declared.changes.Change.{Change}
 use Rattle.incremental_paths.specs.Threaded.{Threaded}
-use Rattle.incremental_paths.specs.Marked.{begins, ends, AreWithin, AreRising}
+use Rattle.incremental_paths.specs.Marked.{begins, ends, AreWithin, AreRising, AreMarks}
+use Rattle.incremental_paths.specs.Ordered.{is_marked}
 use Rattle.incremental_paths.specs.Spread.{AreLengths, WalksFit, restored}
 
 -- but for the first `stale` arcs, what the changes from the arc's start on have replaced are the lengths without it and those behind it
@@ -27,3 +28,7 @@ pub record AreKept (lowers : List ℕ) (arcs : List Arc) (begun ended : Threaded
   pub longest : AreLengths lowers arcs lengths
   pub fit : WalksFit lowers arcs
   pub undone : AreUndone lowers arcs lengths trail starts stale
+
+-- if the last arc was refused, the marks are of the search that found a way from its end to its beginning
+abbrev pub AreOfRefused : List Arc → List ℕ → List Bool → Option Arc → Type 0
+AreOfRefused arcs places marks refused = IfSome refused (λ arc. AreMarks arcs places arc.to (slice_index places arc.from) marks × (is_marked marks arc.from ≡ true))

@@ -74,8 +74,8 @@ fn giver(arcs: &[Arc], ended: &Threads, lowers: &[u64], lengths: &[u64], node: u
     None
 }
 
-// A way to a marked node, traced back along arcs from marked nodes.
-fn way_back(
+/// A way to a marked node, traced back along arcs from marked nodes.
+pub fn way_back(
     alloc: Global,
     arcs: &[Arc],
     ended: &Threads,

@@ -1,10 +1,10 @@
-ghost use Rattle.std.specs.Prelude.{ℕ, ◌≡◌, ◌<◌, ◌≤◌, ◌↔◌, ◌^◌, List, [], length, All, IfOk, IfErr, IfSome, IfNone, OnOk, OnErr, IsErrOf, ◌≢◌, slice_index};
+ghost use Rattle.std.specs.Prelude.{ℕ, ◌≡◌, ◌<◌, ◌≤◌, ◌↔◌, ◌^◌, List, [], length, All, IfOk, IfErr, IfSome, IfNone, IsSome, IsTrue, OnOk, OnErr, IsErrOf, ◌≢◌, slice_index};
 ghost use Rattle.incremental_paths.specs.Walks.{IsWalkTo, walk_length, HasNoNodeTwice, Leads, IsLongest, HasCycle};
 ghost use Rattle.incremental_paths.specs.Marked.{AreRising};
 ghost use Rattle.incremental_paths.specs.Network.{IsNode, IsShort, with_arc, without_last, raised, unchanged, TellsChanged};
 
 use crate::arc::Arc;
-use crate::back::{find_way, walk_back};
+use crate::back::{find_way, walk_back, way_back};
 use crate::changes::{Change, Changes};
 use crate::faults::AddNo;
 use crate::marks::Marks;
@@ -16,6 +16,26 @@ use crate::trail::{keep_arc, keep_changes, put_back, shorten};
 use plain_values::Memory;
 use std::alloc::Global;
 use std::marker::Model;
+
+// The arc, if it was refused since it closes a cycle.
+fn refused_by(no: AddNo, arc: Arc) -> Option<Arc>
+    ensures { IfSome result (λ refused. (refused ≡ arc) × (no ≢ AddNo.Memory)) }
+{
+    match no {
+        AddNo::Closes { .. } => Some(arc),
+        AddNo::Memory => None,
+    }
+}
+
+// Whether there is an arc, and it leads from the one node to the other.
+fn is_arc(arc: Option<Arc>, from: u32, to: u32) -> bool
+    ensures { IsTrue result → IsSome arc × IfSome arc (λ a. (a.from ≡ from) × (a.to ≡ to)) }
+{
+    match arc {
+        Some(arc) => arc.from == from && arc.to == to,
+        None => false,
+    }
+}
 
 /// Nodes with their lowers and lengths, and the arcs that are kept between them.
 #[derive(Debug, Drop)]
@@ -31,12 +51,13 @@ pub struct Paths {
     trail: Vec<Change>,
     starts: Vec<usize>,
     stale: usize,
+    refused: Option<Arc>,
 }
 
 impl Model for Paths {
     ghost use Rattle.incremental_paths.specs.Marked.{AreRising};
     ghost use Rattle.incremental_paths.specs.Network.{Network};
-    ghost use Rattle.incremental_paths.specs.Kept.{AreKept};
+    ghost use Rattle.incremental_paths.specs.Kept.{AreKept, AreOfRefused};
 
     ghost Value = { Network };
 
@@ -45,7 +66,8 @@ impl Model for Paths {
 
     ghost invariant = { λ p.
         AreKept p.lowers.items p.arcs.items p.begun p.ended p.order p.marks p.lengths.items
-        p.trail.items p.starts.items p.stale p.changes.grown.size };
+        p.trail.items p.starts.items p.stale p.changes.grown.size
+        × AreOfRefused p.arcs.items p.order p.marks p.refused };
 }
 
 impl Paths {
@@ -68,6 +90,7 @@ impl Paths {
             trail: Vec::new(alloc),
             starts: Vec::new(alloc),
             stale: 0,
+            refused: None,
         })
     }
 
@@ -89,6 +112,7 @@ impl Paths {
         let alloc = *self.arcs.allocator();
         let arc = Arc { from, to, length };
         self.changes.clear();
+        self.refused = None;
         if let Err(no) = order_with(
             alloc,
             &self.arcs,
@@ -98,6 +122,7 @@ impl Paths {
             from,
             to,
         ) {
+            self.refused = refused_by(no, arc);
             return Err(no);
         }
         self.trail.reserve(self.lowers.len())?;
@@ -129,6 +154,7 @@ impl Paths {
         ensures { self.new ≡ without_last self.old k }
     {
         self.changes.clear();
+        self.refused = None;
         if k == 0 {
             return;
         }
@@ -268,6 +294,17 @@ impl Paths {
             → ¬ HasCycle (with_arc self.now to from length).arcs)) }
     {
         let alloc = *self.arcs.allocator();
+        if is_arc(self.refused, to, from) {
+            return Ok(Some(way_back(
+                alloc,
+                &self.arcs,
+                &self.ended,
+                &self.order,
+                &self.marks,
+                from,
+                to,
+            )?));
+        }
         Ok(find_way(
             alloc,
             &self.arcs,

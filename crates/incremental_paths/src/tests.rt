@@ -1,4 +1,4 @@
-ghost use Rattle.std.specs.Prelude.{◌≡◌, ◌<◌, ◌^◌, length, All, IfOk};
+ghost use Rattle.std.specs.Prelude.{◌≡◌, ◌<◌, ◌≤◌, ◌^◌, length, All, IfOk};
 
 use crate::{AddNo, Paths};
 use std::alloc::Global;
@@ -197,6 +197,33 @@ fn walks_and_ways_are_given_from_their_beginning(rt: HostRuntime) -> Result<(), 
     ];
     let paths = run(&rt, rt.alloc(), &[1, 0, 0, 0], &rows)?;
     compare_walks(&rt, &paths)
+}
+
+// A chain that leads from the last node to the first, made from its end to its beginning.
+fn chain(rt: &impl Abort, alloc: Global, nodes: u32) -> Result<Paths, Fail>
+    requires some { 0 < nodes }
+    requires few { nodes ≤ 1000 }
+    ensures nodes { IfOk result (λ paths. length paths.lowers ≡ nodes) }
+    ensures lowers { IfOk result (λ paths. All (λ lower. lower < 2 ^ 32) paths.lowers) }
+    ensures lengths { IfOk result (λ paths. All (λ arc. arc.length < 2 ^ 32) paths.arcs) }
+{
+    let lowers = vec![in alloc; 0u64; nodes as usize]?;
+    let mut paths = Paths::new(alloc, &lowers)?;
+    for node in 0..nodes - 1 {
+        add(rt, &mut paths, nodes as usize, node + 1, node, 1)?;
+    }
+    Ok(paths)
+}
+
+#[test]
+fn a_chain_is_as_long_as_its_arcs_and_not_closed(rt: HostRuntime) -> Result<(), Fail> {
+    let mut paths = chain(&rt, rt.alloc(), 1000)?;
+    assert_eq!(rt; paths.length(0), 999);
+    assert_eq!(rt; paths.changed().len(), 999);
+    let refused = add(&rt, &mut paths, 1000, 0, 999, 0);
+    assert_eq!(rt; refused, Err(AddNo::Closes { from: 0, to: 999 }));
+    assert_eq!(rt; paths.changed().len(), 0);
+    Ok(())
 }
 
 #[test]
