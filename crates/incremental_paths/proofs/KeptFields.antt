@@ -1,5 +1,5 @@
 -- What the fields of `Paths` say of its walks, and how each call keeps it.
-use Rattle.std.proofs.Common.{◌≡◌, ℕ, ◌<◌, ◌≤◌, ◌^◌, Bool, true, false, List, [], ◌∷◌, ◌++◌, length, get_or, set, take, drop, map, refl, sym, ap, ◌∙◌, subst, inl, inr, ◌⊎◌, ◌+◌, get_or-set_same, arith, Contains, Option, None, Some, Vec, Global}
+use Rattle.std.proofs.Common.{◌≡◌, ℕ, ◌<◌, ◌≤◌, ◌^◌, Bool, false, List, [], ◌∷◌, ◌++◌, length, get_or, set, take, drop, map, refl, sym, ap, ◌∙◌, subst, inl, inr, ◌⊎◌, ◌+◌, get_or-set_same, arith, Option, None, Some, Vec, Global}
 use Rattle.std.specs.Prelude.{All, IfNone}
 use Rattle.std.proofs.lemmas.List.{take_at, length-append, get_or_past, get_or-map, length-take-le, get_or-take, length-set, set-get_or, map-append, take-map}
 use Rattle.std.proofs.lemmas.List.{set-set}
@@ -8,7 +8,7 @@ use Rattle.std.proofs.lemmas.List.Elements.{All-contains, All-take, All-push, Al
 use Rattle.incremental_paths.specs.declared.arc.Arc.{Arc}
 use Rattle.incremental_paths.specs.declared.changes.Change.{Change}
 use Rattle.incremental_paths.specs.Threaded.{Threaded, threaded_with}
-use Rattle.incremental_paths.specs.Walks.{IsWalkTo, walk_length, HasNoNodeTwice, IsLongest, HasCycle, WalksAreShort, last_from, Leads}
+use Rattle.incremental_paths.specs.Walks.{IsWalkTo, walk_length, HasNoNodeTwice, IsLongest, HasCycle, WalksAreShort, Leads}
 use Rattle.incremental_paths.specs.Marked.{begins, ends, AreWithin, AreRising}
 use Rattle.incremental_paths.specs.Spread.{AreLengths, AreReached, AreSpread, WalksFit, Told, TellsMore, nothing_told, restored}
 use Rattle.incremental_paths.specs.Kept.{AreKept, AreUndone}

@@ -1,8 +1,8 @@
 -- A list of nodes, each of which is marked, and stands in it once.
-use Rattle.std.proofs.Common.{◌≡◌, ◌≢◌, ℕ, ◌+◌, ◌<◌, ◌≤◌, ◌⊎◌, ◌↔◌, Bool, true, false, List, [], ◌∷◌, ◌++◌, inl, inr, length, get_or, set, take, replicate, refl, sym, ap, ◌∙◌, subst, arith, Contains, get_or-set_other, get_or-set_same}
+use Rattle.std.proofs.Common.{◌≡◌, ◌≢◌, ℕ, ◌+◌, ◌<◌, ◌⊎◌, ◌↔◌, Bool, true, false, List, [], ◌∷◌, ◌++◌, inl, inr, length, set, take, sym, ◌∙◌, subst, arith, Contains, get_or-set_other, get_or-set_same}
 use Rattle.std.specs.Prelude.{All}
 use Rattle.std.proofs.lemmas.Bool.{cases_eq, false≢true}
-use Rattle.std.proofs.lemmas.List.{length-append, length-set, length-take-le, take_more_set, length-replicate}
+use Rattle.std.proofs.lemmas.List.{length-append, length-set, length-take-le, take_more_set}
 use Rattle.std.proofs.lemmas.List.Elements.{All-push, All-nil, Contains-push, Contains-push_cases, Contains-append_left}
 use Rattle.std.proofs.lemmas.List.Quantifiers.{all_pairs_push}
 use Rattle.incremental_paths.specs.Walks.{HasNoNodeTwice}

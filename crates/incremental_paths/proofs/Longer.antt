@@ -1,13 +1,12 @@
 -- The nodes whose lengths are told to have grown are those that have a longer walk than before.
-use Rattle.std.proofs.Common.{◌≡◌, ℕ, ◌<◌, ◌≤◌, ◌↔◌, List, [], ◌∷◌, inl, inr, length, get_or, refl, sym, ap, ◌∙◌, subst, arith, Contains}
-use Rattle.std.specs.Prelude.{All}
+use Rattle.std.proofs.Common.{◌≡◌, ℕ, ◌<◌, List, [], ◌∷◌, inl, inr, length, get_or, sym, ◌∙◌, subst, arith, Contains}
 use Rattle.std.proofs.lemmas.Bool.{cases_lt}
 use Rattle.std.proofs.lemmas.List.{get_or_past}
-use Rattle.std.proofs.lemmas.List.Elements.{All-nil, All-weaker, All-contains}
+use Rattle.std.proofs.lemmas.List.Elements.{All-nil, All-contains}
 use Rattle.incremental_paths.specs.declared.arc.Arc.{Arc}
 use Rattle.incremental_paths.specs.Walks.{IsWalkTo, Follows, last_from, IsLongest, HasCycle}
 use Rattle.incremental_paths.specs.Marked.{AreWithin}
-use Rattle.incremental_paths.specs.Network.{Network, TellsChanged, HasLength, IsNode}
+use Rattle.incremental_paths.specs.Network.{Network, TellsChanged, IsNode}
 use Rattle.incremental_paths.specs.Spread.{AreLengths, Told, TellsMore, nothing_told}
 use Rattle.incremental_paths.proofs.Members.{Contains-nil, joining}
 use Rattle.incremental_paths.proofs.Pairs.{contains_at}

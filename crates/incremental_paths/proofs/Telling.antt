@@ -1,5 +1,5 @@
 -- Changes of lengths that are told one after the other.
-use Rattle.std.proofs.Common.{◌≡◌, ◌≢◌, ℕ, ◌+◌, ◌-◌, ◌<◌, ◌≤◌, ◌⊎◌, ◌↔◌, Bool, true, false, List, [], ◌∷◌, ◌++◌, inl, inr, length, get_or, set, map, refl, sym, ap, ◌∙◌, subst, arith, Contains, get_or-set_other, get_or-set_same}
+use Rattle.std.proofs.Common.{◌≡◌, ℕ, ◌+◌, ◌-◌, ◌<◌, ◌⊎◌, ◌↔◌, true, false, List, [], ◌∷◌, ◌++◌, inl, inr, length, get_or, set, map, refl, sym, ap, ◌∙◌, subst, arith, Contains, get_or-set_other, get_or-set_same}
 use Rattle.std.proofs.lemmas.Bool.{cases_eq, cases_lt, false≢true}
 use Rattle.std.proofs.lemmas.List.{length-append, length-map, map-append, get_or_append_left, get_or-append_right, append_assoc, append-nil, length-set, set-get_or, set-set}
 use Rattle.incremental_paths.specs.declared.changes.Change.{Change}

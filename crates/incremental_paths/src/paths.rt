@@ -1,4 +1,4 @@
-ghost use Rattle.std.specs.Prelude.{ℕ, ◌≡◌, ◌<◌, ◌≤◌, ◌↔◌, ◌^◌, List, [], length, All, IfOk, IfErr, IfSome, IfNone, IsSome, IsTrue, OnOk, OnErr, IsErrOf, ◌≢◌, slice_index};
+ghost use Rattle.std.specs.Prelude.{ℕ, ◌≡◌, ◌<◌, ◌≤◌, ◌↔◌, ◌^◌, List, [], length, All, IfOk, IfErr, IfSome, IfNone, IsSome, IsNone, IsTrue, OnOk, OnErr, IsErrOf, ◌≢◌, slice_index};
 ghost use Rattle.incremental_paths.specs.Walks.{IsWalkTo, walk_length, HasNoNodeTwice, Leads, IsLongest, HasCycle};
 ghost use Rattle.incremental_paths.specs.Marked.{AreRising};
 ghost use Rattle.incremental_paths.specs.Network.{IsNode, IsShort, with_arc, without_last, raised, unchanged, TellsChanged};
@@ -19,7 +19,8 @@ use std::marker::Model;
 
 // The arc, if it was refused since it closes a cycle.
 fn refused_by(no: AddNo, arc: Arc) -> Option<Arc>
-    ensures { IfSome result (λ refused. (refused ≡ arc) × (no ≢ AddNo.Memory)) }
+    ensures some { IfSome result (λ refused. refused ≡ arc) }
+    ensures none { IsNone result ↔ no ≡ AddNo.Memory }
 {
     match no {
         AddNo::Closes { .. } => Some(arc),
@@ -29,7 +30,7 @@ fn refused_by(no: AddNo, arc: Arc) -> Option<Arc>
 
 // Whether there is an arc, and it leads from the one node to the other.
 fn is_arc(arc: Option<Arc>, from: u32, to: u32) -> bool
-    ensures { IsTrue result → IsSome arc × IfSome arc (λ a. (a.from ≡ from) × (a.to ≡ to)) }
+    ensures { IsTrue result ↔ IsSome arc × IfSome arc (λ a. (a.from ≡ from) × (a.to ≡ to)) }
 {
     match arc {
         Some(arc) => arc.from == from && arc.to == to,
@@ -280,7 +281,8 @@ impl Paths {
     }
 
     /// The nodes of a way along kept arcs from one node to another, both among them, and `None`
-    /// where there is none. From a node to itself it is that node alone.
+    /// where there is none. From a node to itself it is that node alone. Where the last arc was
+    /// refused, the way from its end to its beginning is the one that was found then.
     pub fn between(&self, from: u32, to: u32) -> Result<Option<Vec<u32>>, Memory>
         requires from { IsNode self.now from }
         requires to { IsNode self.now to }

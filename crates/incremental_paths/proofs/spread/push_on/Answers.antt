@@ -1,8 +1,6 @@
-use Rattle.std.proofs.Common.{◌≡◌, ℕ, ◌<◌, List, length, get_or, map, refl, sym, ap, ◌∙◌, arith}
+use Rattle.std.proofs.Common.{◌≡◌, ℕ, ◌<◌, List, length, get_or, map, sym, ap, ◌∙◌, arith}
 use Rattle.std.proofs.lemmas.List.{get_or-map}
 use Rattle.incremental_paths.specs.declared.changes.Change.{Change}
-use Rattle.incremental_paths.specs.NodeSets.{Members}
-use Rattle.incremental_paths.specs.Spread.{Told}
 use Rattle.incremental_paths.proofs.Telling.{tells_both, tells_lost}
 use Rattle.incremental_paths.proofs.Pushing.{waiting_next, waiting_none, nodes_more}
 use Rattle.incremental_paths.proofs.spread.push_on.Goals as goal

@@ -1,7 +1,5 @@
-use Rattle.std.proofs.Common.{◌≡◌, ◌<◌, ◌+◌, ◌∷◌, ◌++◌, [], List, ℕ, length, get_or, ap, sym, subst, arith}
+use Rattle.std.proofs.Common.{◌<◌, length, get_or, ap, sym, subst, arith}
 use Rattle.incremental_paths.specs.declared.arc.Arc.{Arc}
-use Rattle.incremental_paths.specs.Spread.{AreReached}
-use Rattle.incremental_paths.specs.Marked.{AreRising}
 use Rattle.incremental_paths.proofs.Telling.{tells_both}
 use Rattle.incremental_paths.proofs.Pushing.{nodes_more, nodes_none, waiting_last}
 use Rattle.incremental_paths.proofs.Spreading.{reached_fits, reached_one, one_grows, one_spread, last_in}

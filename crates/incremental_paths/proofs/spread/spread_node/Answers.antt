@@ -1,4 +1,4 @@
-use Rattle.std.proofs.Common.{◌≡◌, ◌<◌, ◌≤◌, List, ℕ, length, get_or, ap, sym, subst, set, arith}
+use Rattle.std.proofs.Common.{◌≤◌, ℕ, length, get_or, sym}
 use Rattle.incremental_paths.proofs.Telling.{tells_both}
 use Rattle.incremental_paths.proofs.Pushing.{nodes_more, nodes_none, waiting_all}
 use Rattle.incremental_paths.proofs.Spreading.{set_grows}

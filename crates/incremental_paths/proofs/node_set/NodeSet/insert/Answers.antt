@@ -1,6 +1,6 @@
-use Rattle.std.proofs.Common.{◌≡◌, ◌<◌, false, true, length, take, set, sym, ◌∙◌, arith}
+use Rattle.std.proofs.Common.{◌≡◌, ◌<◌, false, length, sym, ◌∙◌, arith}
 use Rattle.incremental_paths.specs.Ordered.{is_marked}
-use Rattle.incremental_paths.proofs.Listed.{room_left, member_more, listed_more, listed_still}
+use Rattle.incremental_paths.proofs.Listed.{room_left, member_more, listed_more}
 use Rattle.incremental_paths.proofs.node_set.NodeSet.insert.Goals as goal
 
 pub index_mut-requires : goal.index_mut-requires

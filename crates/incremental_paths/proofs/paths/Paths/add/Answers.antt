@@ -1,11 +1,11 @@
-use Rattle.std.proofs.Common.{◌≡◌, ◌+◌, ◌<◌, ◌∷◌, ◌++◌, [], length, get_or, false, refl, sym, ap, ◌∙◌, subst, arith}
+use Rattle.std.proofs.Common.{◌≡◌, ◌+◌, ◌<◌, ◌∷◌, ◌++◌, [], length, refl, ap, ◌∙◌, arith}
 use Rattle.std.proofs.lemmas.Result.{err_from_is_err_and}
 use Rattle.std.proofs.lemmas.List.{length-append}
 use Rattle.std.proofs.lemmas.List.Elements.{All-push}
 use Rattle.incremental_paths.specs.declared.arc.Arc.{Arc}
 use Rattle.incremental_paths.specs.Walks.{HasCycle}
 use Rattle.incremental_paths.specs.Marked.{AreRising}
-use Rattle.incremental_paths.specs.Spread.{WalksFit, TellsMore}
+use Rattle.incremental_paths.specs.Spread.{WalksFit}
 use Rattle.incremental_paths.proofs.Reordering.{rising_free}
 use Rattle.incremental_paths.proofs.KeptFields.{longest_spread, longest_reached, reached_more, fits_from_short, kept_more, written_back}
 use Rattle.incremental_paths.proofs.Longer.{changed_told}

@@ -1,7 +1,7 @@
-use Rattle.std.proofs.Common.{◌≡◌, ◌<◌, ◌≤◌, ◌∙◌, length, get_or, set, max, sym, ap, arith, subst}
-use Rattle.std.proofs.lemmas.List.{get_or_read, length-set, set-get_or, get_or-set_same}
+use Rattle.std.proofs.Common.{◌≡◌, ◌<◌, ◌∙◌, length, get_or, set, max, ap, arith, subst}
+use Rattle.std.proofs.lemmas.List.{get_or_read, length-set}
 use Rattle.incremental_paths.specs.Walks.{WalksAreShort}
-use Rattle.incremental_paths.specs.Spread.{WalksFit, AreReached, Told}
+use Rattle.incremental_paths.specs.Spread.{WalksFit, Told}
 use Rattle.incremental_paths.proofs.KeptFields.{fits_from_short, kept_no_cycle, kept_raised, longest_reached, longest_spread, raised_before, written_back}
 use Rattle.incremental_paths.proofs.Longer.{changed_told}
 use Rattle.incremental_paths.proofs.Tracing.{spread_lengths}

@@ -1,5 +1,4 @@
-use Rattle.std.proofs.Common.{◌≡◌, ◌<◌, get_or, length}
-use Rattle.incremental_paths.specs.Walks.{walk_length}
+use Rattle.std.proofs.Common.{◌<◌, length}
 use Rattle.incremental_paths.proofs.KeptFields.{kept_longest, kept_no_node_twice}
 use Rattle.incremental_paths.proofs.paths.Paths.walk.Goals as goal
 
