@@ -12,7 +12,7 @@ pub record Network : Type 0 where
 abbrev pub IsNode : Network → ℕ → Type 0
 IsNode network node = node < length network.lowers
 
--- one arc more, behind the others
+-- one arc more, behind the others; no node is told as changed
 abbrev pub with_arc : Network → ℕ → ℕ → ℕ → Network
 with_arc network from to length = record { lowers = network.lowers; arcs = network.arcs ++ record { from = from; to = to; length = length } ∷ []; changed = [] }
 
@@ -20,15 +20,15 @@ with_arc network from to length = record { lowers = network.lowers; arcs = netwo
 abbrev pub IsShort : Network → Type 0
 IsShort network = ¬ HasCycle network.arcs → WalksAreShort network.lowers network.arcs
 
--- the last k arcs are taken away
+-- the last k arcs are taken away, and no node is told as changed
 abbrev pub without_last : Network → ℕ → Network
 without_last network k = record { lowers = network.lowers; arcs = take (length network.arcs - k) network.arcs; changed = [] }
 
--- the node has the greater of its lower and this one
+-- the node has the greater of its lower and this one; no node is told as changed
 abbrev pub raised : Network → ℕ → ℕ → Network
 raised network node lower = record { lowers = slice_set network.lowers node (max (slice_index network.lowers node) lower); arcs = network.arcs; changed = [] }
 
--- the same lowers and arcs, and no node has changed
+-- the same lowers and arcs, and no node is told as changed
 abbrev pub unchanged : Network → Network
 unchanged network = record { lowers = network.lowers; arcs = network.arcs; changed = [] }
 
