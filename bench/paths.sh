@@ -12,9 +12,11 @@ top=$(cd "$(dirname "$0")/.." && pwd)
 scratch=$(mktemp -d)
 trap 'rm -rf "$scratch"' EXIT
 cd "$scratch"
-printf 'incremental_paths:\nplain_paths:\npaths_bench: incremental_paths plain_paths\n' > crates.txt
-mkdir -p crates/incremental_paths crates/paths_bench/src
-cp -r "$top"/crates/incremental_paths/{src,specs,proofs} crates/incremental_paths/
+printf 'plain_values:\nincremental_paths: plain_values\nplain_paths:\npaths_bench: incremental_paths plain_paths\n' > crates.txt
+mkdir -p crates/{plain_values,incremental_paths} crates/paths_bench/src
+for crate in plain_values incremental_paths; do
+    cp -r "$top"/crates/$crate/{src,specs,proofs} crates/$crate/
+done
 git -C "$top" archive 5a9fe69 crates/incremental_paths/{src,specs,proofs} | tar -x --transform 's:incremental_paths:plain_paths:'
 grep -rl incremental_paths crates/plain_paths | xargs sed -i 's/incremental_paths/plain_paths/g'
 cd crates/paths_bench

@@ -1,5 +1,5 @@
 -- What the fields of `Paths` say of its walks, and how each call keeps it.
-use Rattle.std.proofs.Common.{◌≡◌, ℕ, ◌<◌, ◌≤◌, ◌^◌, Bool, true, false, List, [], ◌∷◌, ◌++◌, length, get_or, set, take, drop, map, refl, sym, ap, ◌∙◌, subst, inl, inr, ◌⊎◌, ◌+◌, get_or-set_same, arith, Contains, Option, None, Some, Vec, Global}
+use Rattle.std.proofs.Common.{◌≡◌, ℕ, ◌<◌, ◌≤◌, ◌^◌, Bool, false, List, [], ◌∷◌, ◌++◌, length, get_or, set, take, drop, map, refl, sym, ap, ◌∙◌, subst, inl, inr, ◌⊎◌, ◌+◌, get_or-set_same, arith, Option, None, Some, Vec, Global}
 use Rattle.std.specs.Prelude.{All, IfNone}
 use Rattle.std.proofs.lemmas.List.{take_at, length-append, get_or_past, get_or-map, length-take-le, get_or-take, length-set, set-get_or, map-append, take-map}
 use Rattle.std.proofs.lemmas.List.{set-set}
@@ -8,9 +8,9 @@ use Rattle.std.proofs.lemmas.List.Elements.{All-contains, All-take, All-push, Al
 use Rattle.incremental_paths.specs.declared.arc.Arc.{Arc}
 use Rattle.incremental_paths.specs.declared.changes.Change.{Change}
 use Rattle.incremental_paths.specs.Threaded.{Threaded, threaded_with}
-use Rattle.incremental_paths.specs.Walks.{IsWalkTo, walk_length, HasNoNodeTwice, IsLongest, HasCycle, WalksAreShort, last_from, Leads}
+use Rattle.incremental_paths.specs.Walks.{IsWalkTo, walk_length, HasNoNodeTwice, IsLongest, HasCycle, WalksAreShort, Leads}
 use Rattle.incremental_paths.specs.Marked.{begins, ends, AreWithin, AreRising}
-use Rattle.incremental_paths.specs.Spread.{AreLengths, AreReached, AreSpread, WalksFit, Told, TellsMore, restored}
+use Rattle.incremental_paths.specs.Spread.{AreLengths, AreReached, AreSpread, WalksFit, Told, TellsMore, nothing_told, restored}
 use Rattle.incremental_paths.specs.Kept.{AreKept, AreUndone}
 use Rattle.incremental_paths.proofs.Members.{IsPart, Contains-nil, joining}
 use Rattle.incremental_paths.proofs.Steps.{walk_part, walk_length_part, walk_no_node_twice}
@@ -58,8 +58,11 @@ reached_more lowers arcs a lengths reached =
           (h.0, walk_part lowers arcs (arcs ++ a ∷ []) part v h.0 h.1, omega (arith, h.2, walk_length_part lowers arcs (arcs ++ a ∷ []) part h.0));
     }
 
-module _ (lowers : List ℕ) (arcs : List Arc) (begun ended : Threaded) (places : List ℕ) (marks : List Bool) (lengths : List ℕ) (trail : List Change) (starts : List ℕ) (stale : ℕ)
-    (kept : AreKept lowers arcs begun ended places marks lengths trail starts stale) where
+module _ (lowers : List ℕ) (arcs : List Arc) (begun ended : Threaded) (places : List ℕ) (marks : List Bool) (lengths : List ℕ) (trail : List Change) (starts : List ℕ) (stale room : ℕ)
+    (kept : AreKept lowers arcs begun ended places marks lengths trail starts stale room) where
+  pub kept_room : (new_room : ℕ) → new_room ≡ room → AreKept lowers arcs begun ended places marks lengths trail starts stale new_room
+  kept_room new_room same = rw same kept
+
   pub kept_no_cycle : HasCycle arcs → ⊥
   kept_no_cycle = rising_free arcs places kept.rising
 
@@ -86,18 +89,19 @@ raised_before lowers arcs lengths node lower lt above reached =
     let back : set (set lowers node lower) node (get_or lowers node 0) ≡ lowers = set-set lowers node lower (get_or lowers node 0) ∙ set-get_or lowers node 0 in
     (get_or lowers node 0, omega (arith, above, here), subst (λ z. AreReached z arcs lengths) (sym back) reached)
 
-module _ (lowers : List ℕ) (arcs : List Arc) (begun ended : Threaded) (places : List ℕ) (marks : List Bool) (lengths : List ℕ) (trail : List Change) (starts : List ℕ) (stale : ℕ)
-    (kept : AreKept lowers arcs begun ended places marks lengths trail starts stale) where
+module _ (lowers : List ℕ) (arcs : List Arc) (begun ended : Threaded) (places : List ℕ) (marks : List Bool) (lengths : List ℕ) (trail : List Change) (starts : List ℕ) (stale room : ℕ)
+    (kept : AreKept lowers arcs begun ended places marks lengths trail starts stale room) where
   -- with the lower of a node raised
-  pub kept_raised : (node lower : ℕ) (new : List ℕ) (cleared : List Change) (count : ℕ) → WalksFit (set lowers node lower) arcs → AreReached (set lowers node lower) arcs new → AreSpread arcs new → cleared ≡ [] → count ≡ length arcs
-      → AreKept (set lowers node lower) arcs begun ended places marks new cleared starts count
-  kept_raised node lower new cleared count fit reached spread none all =
+  pub kept_raised : (node lower : ℕ) (new : List ℕ) (cleared : List Change) (count new_room : ℕ) → WalksFit (set lowers node lower) arcs → AreReached (set lowers node lower) arcs new → AreSpread arcs new → cleared ≡ [] → count ≡ length arcs → new_room ≡ room
+      → AreKept (set lowers node lower) arcs begun ended places marks new cleared starts count new_room
+  kept_raised node lower new cleared count new_room fit reached spread none all same_room =
       let long = length-set lowers node lower in
       record {
         few = omega (arith, long, kept.few);
         a_place_each = omega (arith, long, kept.a_place_each);
         a_mark_each = omega (arith, long, kept.a_mark_each);
         a_length_each = reached.sized;
+        room_for_each = omega (arith, long, same_room, kept.room_for_each);
         within = rw long kept.within;
         rising = kept.rising;
         begun_is = rw long kept.begun_is;
@@ -108,11 +112,11 @@ module _ (lowers : List ℕ) (arcs : List Arc) (begun ended : Threaded) (places 
       }
 
   -- with an arc more
-  pub kept_more : (a : Arc) (new_places : List ℕ) (new_marks : List Bool) (new : List ℕ) (told : Told) (new_trail : List Change) (new_stale count : ℕ) (tells : TellsMore (record { entries = []; lost = false }) told lengths new)
+  pub kept_more : (a : Arc) (new_places : List ℕ) (new_marks : List Bool) (new : List ℕ) (told : Told) (new_trail : List Change) (new_stale count : ℕ) (tells : TellsMore (nothing_told room) told lengths new)
       → a.from < length lowers → a.to < length lowers → length new_places ≡ length lowers → length new_marks ≡ length lowers → AreRising (arcs ++ a ∷ []) new_places → WalksFit lowers (arcs ++ a ∷ [])
       → AreReached lowers (arcs ++ a ∷ []) new → AreSpread (arcs ++ a ∷ []) new → count ≡ length arcs + 1
       → ((new_stale ≡ stale) × (told.lost ≡ false) × (new_trail ≡ trail ++ told.entries)) ⊎ ((new_stale ≡ count) × (new_trail ≡ []))
-      → AreKept lowers (arcs ++ a ∷ []) (threaded_with begun a.from) (threaded_with ended a.to) new_places new_marks new new_trail (starts ++ length trail ∷ []) new_stale
+      → AreKept lowers (arcs ++ a ∷ []) (threaded_with begun a.from) (threaded_with ended a.to) new_places new_marks new new_trail (starts ++ length trail ∷ []) new_stale told.grown.size
   kept_more a new_places new_marks new told new_trail new_stale count tells from to a_place a_mark rising fit reached spread is_count choice =
       let all = length-append arcs (a ∷ []) in
       record {
@@ -120,6 +124,7 @@ module _ (lowers : List ℕ) (arcs : List Arc) (begun ended : Threaded) (places 
         a_place_each = a_place;
         a_mark_each = a_mark;
         a_length_each = reached.sized;
+        room_for_each = omega (arith, tells.room, kept.room_for_each);
         within = All-push (λ (z : Arc). (z.from < length lowers) × (z.to < length lowers)) arcs a kept.within (from, to);
         rising = rising;
         begun_is = rw (kept.begun_is, map-append (λ (z : Arc). z.from) arcs (a ∷ [])) refl;
@@ -146,13 +151,14 @@ module _ (lowers : List ℕ) (arcs : List Arc) (begun ended : Threaded) (places 
     pub front_fits : WalksFit lowers (take left arcs)
     front_fits = fits_part lowers (take left arcs) arcs (front_part arcs left (omega (arith, less))) kept.fit
 
-    kept_front : (new : List ℕ) (new_trail : List Change) (new_stale : ℕ) → length new ≡ length lowers → AreLengths lowers (take left arcs) new → AreUndone lowers (take left arcs) new new_trail (take left starts) new_stale
-        → AreKept lowers (take left arcs) old_begun old_ended places marks new new_trail (take left starts) new_stale
-    kept_front new new_trail new_stale long longest undone = record {
+    kept_front : (new : List ℕ) (new_trail : List Change) (new_stale new_room : ℕ) → new_room ≡ room → length new ≡ length lowers → AreLengths lowers (take left arcs) new → AreUndone lowers (take left arcs) new new_trail (take left starts) new_stale
+        → AreKept lowers (take left arcs) old_begun old_ended places marks new new_trail (take left starts) new_stale new_room
+    kept_front new new_trail new_stale new_room same_room long longest undone = record {
       few = kept.few;
       a_place_each = kept.a_place_each;
       a_mark_each = kept.a_mark_each;
       a_length_each = long;
+      room_for_each = omega (arith, same_room, kept.room_for_each);
       within = All-take (λ (z : Arc). (z.from < length lowers) × (z.to < length lowers)) left arcs kept.within;
       rising = All-take (λ (z : Arc). get_or places z.from 0 < get_or places z.to 0) left arcs kept.rising;
       begun_is = front_begun;
@@ -162,17 +168,17 @@ module _ (lowers : List ℕ) (arcs : List Arc) (begun ended : Threaded) (places 
       undone = undone;
     }
 
-    pub kept_undone : (new : List ℕ) (new_trail : List Change) → stale ≤ left → length new ≡ length lowers → new ≡ restored lengths (drop (get_or starts left 0) trail) → new_trail ≡ take (get_or starts left 0) trail
-        → AreKept lowers (take left arcs) old_begun old_ended places marks new new_trail (take left starts) stale
-    kept_undone new new_trail le long is_new is_trail =
-        kept_front new new_trail stale long (rw is_new (kept.undone.each left le less)) (rw (is_new, is_trail) (undone_withdraw lowers arcs lengths trail starts stale kept.undone left le less))
+    pub kept_undone : (new : List ℕ) (new_trail : List Change) (new_room : ℕ) → new_room ≡ room → stale ≤ left → length new ≡ length lowers → new ≡ restored lengths (drop (get_or starts left 0) trail) → new_trail ≡ take (get_or starts left 0) trail
+        → AreKept lowers (take left arcs) old_begun old_ended places marks new new_trail (take left starts) stale new_room
+    kept_undone new new_trail new_room same_room le long is_new is_trail =
+        kept_front new new_trail stale new_room same_room long (rw is_new (kept.undone.each left le less)) (rw (is_new, is_trail) (undone_withdraw lowers arcs lengths trail starts stale kept.undone left le less))
 
-    pub kept_anew : (new : List ℕ) (new_trail : List Change) → AreReached lowers (take left arcs) new → AreSpread (take left arcs) new → new_trail ≡ []
-        → AreKept lowers (take left arcs) old_begun old_ended places marks new new_trail (take left starts) left
-    kept_anew new new_trail reached spread none =
+    pub kept_anew : (new : List ℕ) (new_trail : List Change) (new_room : ℕ) → new_room ≡ room → AreReached lowers (take left arcs) new → AreSpread (take left arcs) new → new_trail ≡ []
+        → AreKept lowers (take left arcs) old_begun old_ended places marks new new_trail (take left starts) left new_room
+    kept_anew new new_trail new_room same_room reached spread none =
         let kept_arcs = length-take-le left arcs (omega (arith, less)) in
         let kept_starts = length-take-le left starts (omega (arith, less, kept.undone.sized)) in
-        kept_front new new_trail left reached.sized (spread_lengths lowers (take left arcs) new reached spread) (undone_stale lowers (take left arcs) new (take left starts) new_trail left (omega (arith, kept_arcs, kept_starts)) none (omega (arith, kept_arcs)))
+        kept_front new new_trail left new_room same_room reached.sized (spread_lengths lowers (take left arcs) new reached spread) (undone_stale lowers (take left arcs) new (take left starts) new_trail left (omega (arith, kept_arcs, kept_starts)) none (omega (arith, kept_arcs)))
 
 lone_fits : (lowers : List ℕ) → ((v : ℕ) → get_or lowers v 0 < 2 ^ 64) → WalksFit lowers []
 lone_fits lowers each v [] walk = absurd walk
@@ -190,13 +196,14 @@ lone_longest lowers = record {
   greatest = λ v nodes walk. lone_bound lowers v nodes walk;
 }
 
-pub kept_new : (lowers : List ℕ) (places : List ℕ) (marks : List Bool) (begun ended : Threaded) → length lowers < 2 ^ 32 → ((v : ℕ) → get_or lowers v 0 < 2 ^ 64) → length places ≡ length lowers → length marks ≡ length lowers
-    → begun ≡ record { size = length lowers; keys = [] } → ended ≡ record { size = length lowers; keys = [] } → AreKept lowers [] begun ended places marks lowers [] [] 0
-kept_new lowers places marks begun ended few each a_place a_mark is_begun is_ended = record {
+pub kept_new : (lowers : List ℕ) (places : List ℕ) (marks : List Bool) (begun ended : Threaded) (room : ℕ) → room ≡ length lowers → length lowers < 2 ^ 32 → ((v : ℕ) → get_or lowers v 0 < 2 ^ 64) → length places ≡ length lowers → length marks ≡ length lowers
+    → begun ≡ record { size = length lowers; keys = [] } → ended ≡ record { size = length lowers; keys = [] } → AreKept lowers [] begun ended places marks lowers [] [] 0 room
+kept_new lowers places marks begun ended room a_room few each a_place a_mark is_begun is_ended = record {
   few = few;
   a_place_each = a_place;
   a_mark_each = a_mark;
   a_length_each = refl;
+  room_for_each = a_room;
   within = All-nil (λ (a : Arc). (a.from < length lowers) × (a.to < length lowers));
   rising = All-nil (λ (a : Arc). get_or places a.from 0 < get_or places a.to 0);
   begun_is = is_begun;

@@ -4,6 +4,7 @@ pub mod Bounds
 pub mod WaysBack
 pub mod Linking
 pub mod Stamps
+pub mod Listed
 pub mod Pairs
 pub mod Lifting
 pub mod Threading
@@ -15,3 +16,4 @@ pub mod Tracing
 pub mod Reordering
 pub mod Undoing
 pub mod KeptFields
+pub mod Longer

@@ -1,6 +1,6 @@
 -- Threads with a node more, and with the last one taken away.
-use Rattle.std.proofs.Common.{◌≡◌, ◌≢◌, ℕ, ◌+◌, ◌-◌, ◌<◌, ◌≤◌, List, [], ◌∷◌, ◌++◌, inl, inr, length, get_or, set, take, map, replicate, refl, sym, ap, ◌∙◌, subst, arith, get_or-set_other, get_or-set_same}
-use Rattle.std.proofs.lemmas.List.{get_or_push, get_or_append_left, get_or-take, get_or-map, map-append, take-map, length-map, length-set, length-append, length-take-le, get_or_default, get_or-replicate, length-replicate}
+use Rattle.std.proofs.Common.{◌≡◌, ◌≢◌, ℕ, ◌+◌, ◌-◌, ◌<◌, ◌≤◌, List, [], ◌∷◌, ◌++◌, inl, inr, length, get_or, set, take, sym, ap, ◌∙◌, subst, arith, get_or-set_other, get_or-set_same}
+use Rattle.std.proofs.lemmas.List.{get_or_push, get_or_append_left, get_or-take, get_or-map, map-append, take-map, length-map, length-set, length-append, length-take-le}
 use Rattle.std.proofs.lemmas.Bool.{cases_eq}
 use Rattle.incremental_paths.specs.declared.threads.Link.{Link}
 use Rattle.incremental_paths.specs.Threaded.{IsFront}

@@ -1,10 +1,10 @@
 -- Marks spread along arcs, from the nodes of one place after the other.
-use Rattle.std.proofs.Common.{◌≡◌, ◌≢◌, ℕ, ◌+◌, ◌-◌, ◌<◌, ◌≤◌, ◌⊎◌, inl, inr, Bool, true, false, List, [], ◌∷◌, ◌++◌, length, get_or, set, map, refl, sym, ap, ◌∙◌, subst, arith, Contains, get_or-set_other, get_or-set_same}
+use Rattle.std.proofs.Common.{◌≡◌, ℕ, ◌+◌, ◌<◌, ◌⊎◌, inl, inr, Bool, true, false, List, [], ◌∷◌, ◌++◌, length, get_or, set, sym, ap, ◌∙◌, arith, get_or-set_other, get_or-set_same}
 use Rattle.std.proofs.lemmas.Bool.{cases_eq, cases_lt, false≢true}
 use Rattle.incremental_paths.specs.declared.arc.Arc.{Arc}
 use Rattle.incremental_paths.specs.Walks.{Follows, last_from, IsJoined}
 use Rattle.incremental_paths.specs.Ordered.{is_marked}
-use Rattle.incremental_paths.specs.Marked.{begins, AreWithin, AreRising, AreMarks}
+use Rattle.incremental_paths.specs.Marked.{AreWithin, AreRising, AreMarks}
 use Rattle.incremental_paths.proofs.Members.{joined}
 use Rattle.incremental_paths.proofs.Steps.{Follows_push, last_push}
 use Rattle.incremental_paths.proofs.Pairs.{contains_at}

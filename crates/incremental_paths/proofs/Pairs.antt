@@ -1,6 +1,6 @@
 -- Lists in which a relation holds of each element and each later one.
-use Rattle.std.proofs.Common.{◌≡◌, ℕ, ◌+◌, ◌-◌, ◌<◌, ◌≤◌, Bool, true, false, List, [], ◌∷◌, ◌++◌, inl, inr, length, get_or, take, drop, filter, refl, sym, arith, Contains}
-use Rattle.std.specs.Prelude.{AllPairs, All}
+use Rattle.std.proofs.Common.{◌≡◌, ℕ, ◌+◌, ◌-◌, ◌<◌, Bool, true, false, List, ◌++◌, inl, inr, length, get_or, take, drop, filter, refl, sym, arith, Contains}
+use Rattle.std.specs.Prelude.{AllPairs}
 use Rattle.std.proofs.Math.Bool.{beq}
 use Rattle.std.proofs.lemmas.Bool.{cases_lt, false≢true}
 use Rattle.std.proofs.lemmas.List.{get_or_default, get_or_append_left, get_or-append_right, get_or-take, get_or-drop, length-append, length-take, length-drop}

@@ -1,11 +1,11 @@
 -- Lengths are pushed on from one node after the other.
-use Rattle.std.proofs.Common.{◌≡◌, ◌≢◌, ℕ, ◌+◌, ◌-◌, ◌<◌, ◌≤◌, ◌⊎◌, inl, inr, Bool, false, List, [], ◌∷◌, ◌++◌, length, get_or, map, refl, sym, ap, ◌∙◌, subst, arith}
+use Rattle.std.proofs.Common.{◌≡◌, ℕ, ◌+◌, ◌-◌, ◌<◌, ◌≤◌, ◌⊎◌, inl, inr, false, List, [], ◌∷◌, ◌++◌, length, get_or, map, sym, ap, ◌∙◌, subst, arith}
 use Rattle.std.proofs.lemmas.Bool.{cases_eq, cases_lt}
 use Rattle.std.proofs.lemmas.List.{length-append, get_or_push, get_or_append_left}
 use Rattle.incremental_paths.specs.declared.arc.Arc.{Arc}
 use Rattle.incremental_paths.specs.declared.changes.Change.{Change}
 use Rattle.incremental_paths.specs.Marked.{AreRising, AreWithin}
-use Rattle.incremental_paths.specs.Spread.{AreNodes, AreSpread, AreWaiting, IsSpread, Spreads, Told, TellsMore, told_nodes}
+use Rattle.incremental_paths.specs.Spread.{AreNodes, AreSpread, AreWaiting, IsSpread, Spreads, Told, TellsMore, nothing_told, told_nodes}
 use Rattle.incremental_paths.proofs.Telling.{node_first, node_behind}
 
 pub waiting_next : (arcs : List Arc) (old new : List ℕ) (told more : Told) (next node : ℕ) → AreWaiting arcs old told next → next < length told.entries → get_or (told_nodes told) next 0 ≡ node
@@ -67,14 +67,14 @@ nodes_more told more before after n are long tells kept i lt =
           omega (arith, tells.within j (omega (arith, lt, behind, ap length all, length-append told.entries tells.more)), node_behind told.entries tells.more j, e, at, long)
     ]
 
-pub nodes_none : (told : Told) (n : ℕ) → told ≡ record { entries = []; lost = false } → AreNodes told n
-nodes_none told n cleared kept i lt = absurd (omega (arith, lt, ap (λ (t : Told). length t.entries) cleared))
+pub nodes_none : (told : Told) (n size : ℕ) → told ≡ nothing_told size → AreNodes told n
+nodes_none told n size cleared kept i lt = absurd (omega (arith, lt, ap (λ (t : Told). length t.entries) cleared))
 
 -- where lengths were spread along an arc, they are, or its beginning has been told
-pub waiting_first : (a : Arc) (told : Told) (before after : List ℕ) (cleared : Told) → cleared ≡ record { entries = []; lost = false } → TellsMore cleared told before after
+pub waiting_first : (a : Arc) (told : Told) (before after : List ℕ) (cleared : Told) (size : ℕ) → cleared ≡ nothing_told size → TellsMore cleared told before after
     → ((v : ℕ) → get_or before v 0 ≤ get_or after v 0) → told.lost ≡ false → IsSpread before a
     → IsSpread after a ⊎ ((i : ℕ) × (0 ≤ i) × (i < length told.entries) × (get_or (told_nodes told) i 0 ≡ a.from))
-waiting_first a told before after cleared none tells grows kept spread = elim (cases_eq (get_or before a.from 0) (get_or after a.from 0)) [
+waiting_first a told before after cleared size none tells grows kept spread = elim (cases_eq (get_or before a.from 0) (get_or after a.from 0)) [
   | inl same ↦ inl (omega (arith, spread, same, grows a.to))
   | inr differ ↦
       let h = tells.each a.from kept differ in
@@ -82,18 +82,18 @@ waiting_first a told before after cleared none tells grows kept spread = elim (c
       inr (h.0, omega arith, omega (arith, h.1, ap length all), ap (λ (l : List Change). get_or (map (λ (c : Change). c.node) l) h.0 0) all ∙ h.2)
 ]
 
-pub waiting_all : (arcs : List Arc) (told : Told) (before after : List ℕ) (cleared : Told) → cleared ≡ record { entries = []; lost = false } → TellsMore cleared told before after
+pub waiting_all : (arcs : List Arc) (told : Told) (before after : List ℕ) (cleared : Told) (size : ℕ) → cleared ≡ nothing_told size → TellsMore cleared told before after
     → ((v : ℕ) → get_or before v 0 ≤ get_or after v 0) → AreSpread arcs before → AreWaiting arcs after told 0
-waiting_all arcs told before after cleared none tells grows spread kept k d lt = waiting_first (get_or arcs k d) told before after cleared none tells grows kept (spread k d lt)
+waiting_all arcs told before after cleared size none tells grows spread kept k d lt = waiting_first (get_or arcs k d) told before after cleared size none tells grows kept (spread k d lt)
 
-pub waiting_last : (arcs front : List Arc) (a : Arc) (told : Told) (before after : List ℕ) (cleared : Told) → arcs ≡ front ++ a ∷ [] → cleared ≡ record { entries = []; lost = false } → TellsMore cleared told before after
+pub waiting_last : (arcs front : List Arc) (a : Arc) (told : Told) (before after : List ℕ) (cleared : Told) (size : ℕ) → arcs ≡ front ++ a ∷ [] → cleared ≡ nothing_told size → TellsMore cleared told before after
     → ((v : ℕ) → get_or before v 0 ≤ get_or after v 0) → AreSpread front before → IsSpread after a → AreWaiting arcs after told 0
-waiting_last arcs front a told before after cleared is none tells grows spread here kept k d lt =
+waiting_last arcs front a told before after cleared size is none tells grows spread here kept k d lt =
     let long = length-append front (a ∷ []) in
     elim (cases_eq k (length front)) [
       | inl same ↦ inl (subst (IsSpread after) (sym (ap (λ l. get_or l k d) is ∙ get_or_push front a d k (sym same))) here)
       | inr other ↦
           let less : k < length front = omega (arith, lt, other, ap length is, long) in
           let same : get_or arcs k d ≡ get_or front k d = ap (λ l. get_or l k d) is ∙ get_or_append_left front (a ∷ []) d k less in
-          rw same (waiting_first (get_or front k d) told before after cleared none tells grows kept (spread k d less))
+          rw same (waiting_first (get_or front k d) told before after cleared size none tells grows kept (spread k d less))
     ]

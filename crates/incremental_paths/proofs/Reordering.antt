@@ -1,9 +1,8 @@
 -- Arcs rise with one more, or it closes a cycle.
-use Rattle.std.proofs.Common.{◌≡◌, ◌≢◌, ℕ, ◌<◌, ◌≤◌, Bool, true, false, List, [], ◌∷◌, ◌++◌, length, get_or, refl, sym, ap, ◌∙◌, subst, arith, Contains}
-use Rattle.std.specs.Prelude.{All}
+use Rattle.std.proofs.Common.{◌≡◌, ℕ, ◌<◌, ◌≤◌, Bool, true, false, List, [], ◌∷◌, ◌++◌, length, get_or, refl, sym, arith}
 use Rattle.std.proofs.lemmas.List.Elements.{All-push, All-contains, Contains-push, Contains-append_left}
 use Rattle.incremental_paths.specs.declared.arc.Arc.{Arc}
-use Rattle.incremental_paths.specs.Walks.{HasCycle, last_from, Leads, Follows, IsJoined}
+use Rattle.incremental_paths.specs.Walks.{HasCycle, last_from}
 use Rattle.incremental_paths.specs.Ordered.{is_marked, IsLifted}
 use Rattle.incremental_paths.specs.Marked.{AreRising, AreMarks, AreWithin}
 use Rattle.incremental_paths.proofs.Members.{IsPart, joined}

@@ -1,7 +1,7 @@
 -- Walks and ways are traced back from their ends, along one arc after the other.
-use Rattle.std.proofs.Common.{◌≡◌, ◌≢◌, ℕ, ◌+◌, ◌-◌, ◌<◌, ◌≤◌, ◌^◌, Bool, true, false, List, [], ◌∷◌, ◌++◌, ◌⊎◌, inl, inr, length, get_or, reverse, refl, sym, ap, ◌∙◌, subst, arith, Contains}
-use Rattle.std.proofs.lemmas.List.{get_or_default, reverse-append}
-use Rattle.std.proofs.lemmas.Bool.{cases_eq, false≢true}
+use Rattle.std.proofs.Common.{◌≡◌, ◌≢◌, ℕ, ◌+◌, ◌-◌, ◌<◌, ◌≤◌, Bool, true, false, List, [], ◌∷◌, ◌++◌, ◌⊎◌, inl, inr, length, get_or, reverse, refl, sym, ap, ◌∙◌, subst, arith, Contains}
+use Rattle.std.proofs.lemmas.List.{reverse-append}
+use Rattle.std.proofs.lemmas.Bool.{false≢true}
 use Rattle.incremental_paths.specs.declared.arc.Arc.{Arc}
 use Rattle.incremental_paths.specs.Walks.{IsJoined, longest_arc, Follows, last_from, Leads, IsWalkTo, steps_length, walk_length}
 use Rattle.incremental_paths.specs.Ordered.{is_marked}
@@ -10,7 +10,6 @@ use Rattle.incremental_paths.specs.Spread.{AreLengths, AreReached, AreSpread, Is
 use Rattle.incremental_paths.specs.Back.{Gives, ComesFromMarked}
 use Rattle.incremental_paths.proofs.Members.{joined, joining, longest_ge, longest_le}
 use Rattle.incremental_paths.proofs.Steps.{walk_push}
-use Rattle.incremental_paths.proofs.Pairs.{contains_at}
 
 -- nodes that were noted from the end on, down to `at`
 pub record IsTraced (arcs : List Arc) (node at : ℕ) (noted : List ℕ) : Type 0 where

@@ -3,6 +3,7 @@ pub mod Network
 pub mod Threaded
 pub mod Linked
 pub mod Ordered
+pub mod NodeSets
 pub mod Marked
 pub mod Spread
 pub mod Back

@@ -1,8 +1,9 @@
 -- Lengths that walks reach, and arcs along which they have been spread.
-use Rattle.std.specs.Prelude.{◌≡◌, ◌≢◌, ℕ, ◌+◌, ◌<◌, ◌≤◌, ◌^◌, Bool, false, List, [], ◌∷◌, ◌++◌, ◌⊎◌, length, map, slice_index, slice_index_or, slice_set}
+use Rattle.std.specs.Prelude.{◌≡◌, ◌≢◌, ℕ, ◌+◌, ◌<◌, ◌≤◌, ◌^◌, Bool, false, List, [], ◌∷◌, ◌++◌, ◌⊎◌, length, map, slice_index, slice_index_or, slice_set, Contains}
 use Rattle.incremental_paths.specs.declared.arc.Arc.{Arc}
 use Rattle.incremental_paths.specs.declared.changes.Change.{Change}
 use Rattle.incremental_paths.specs.Walks.{IsWalkTo, walk_length}
+use Rattle.incremental_paths.specs.NodeSets.{Members}
 
 -- no walk is longer than 2 ^ 64 - 1
 abbrev pub WalksFit : List ℕ → List Arc → Type 0
@@ -28,10 +29,15 @@ abbrev pub restored : List ℕ → List Change → List ℕ
 restored lengths [] = lengths
 restored lengths (change ∷ changes) = slice_set (restored lengths changes) change.node change.before
 
--- the changes so far, and whether some are not among them
+-- the changes so far, whether some are not among them, and the nodes of all
 pub record Told : Type 0 where
   pub entries : List Change
   pub lost : Bool
+  pub grown : Members
+
+-- no changes, of n nodes
+abbrev pub nothing_told : ℕ → Told
+nothing_told n = record { entries = []; lost = false; grown = record { size = n; listed = [] } }
 
 -- the nodes of the changes that are told
 abbrev pub told_nodes : Told → List ℕ
@@ -50,7 +56,7 @@ AreWaiting arcs lengths told from = told.lost ≡ false → (k : ℕ) (d : Arc) 
 abbrev pub AreSpread : List Arc → List ℕ → Type 0
 AreSpread arcs lengths = (k : ℕ) (d : Arc) → k < length arcs → IsSpread lengths (slice_index_or arcs k d)
 
--- more changes have been told, from the one state to the other
+-- more changes have been told, from the one state to the other, and all nodes whose lengths grew
 pub record TellsMore (old new : Told) (before after : List ℕ) : Type 0 where
   pub still : new.lost ≡ false → old.lost ≡ false
   pub more : List Change
@@ -58,6 +64,11 @@ pub record TellsMore (old new : Told) (before after : List ℕ) : Type 0 where
   pub undone : new.lost ≡ false → restored after more ≡ before
   pub sized : length after ≡ length before
   pub within : (i : ℕ) → i < length more → slice_index (map (λ c. c.node) more) i < length before
+  pub room : new.grown.size ≡ old.grown.size
+  pub grows : (v : ℕ) → slice_index before v ≤ slice_index after v
+  pub still_grown : (v : ℕ) → Contains old.grown.listed v → Contains new.grown.listed v
+  pub all_grown : (v : ℕ) → slice_index before v < slice_index after v → Contains new.grown.listed v
+  pub only_grown : (v : ℕ) → Contains new.grown.listed v → Contains old.grown.listed v ⊎ (slice_index before v < slice_index after v)
   pub each : (v : ℕ) → new.lost ≡ false → slice_index before v ≢ slice_index after v → (i : ℕ) × (i < length more) × (slice_index (map (λ c. c.node) more) i ≡ v)
 
 -- the arc has been spread along, if need be by raising the length of its end

@@ -13,8 +13,8 @@ use crate::search::mark_from;
 use crate::threads::Threads;
 use std::alloc::{AllocError, Global};
 
-/// A walk to the node that is as long as the node's length, from the last node on the way back whose
-/// length is its lower.
+/// A walk to the node that is as long as the node's length, from the last node on the way back
+/// whose length is its lower.
 pub fn walk_back(
     alloc: Global,
     arcs: &[Arc],
@@ -33,7 +33,8 @@ pub fn walk_back(
     requires fit { WalksFit lowers.now arcs.now }
     requires node { node < length lowers.now }
     ensures walk { IfOk result (λ nodes. IsWalkTo lowers.now arcs.now node nodes.items) }
-    ensures longest { IfOk result (λ nodes. walk_length lowers.now arcs.now nodes.items ≡ slice_index lengths.now node) }
+    ensures longest { IfOk result (λ nodes. walk_length lowers.now arcs.now nodes.items
+        ≡ slice_index lengths.now node) }
 {
     let mut nodes = Vec::new(alloc);
     nodes.push(node)?;
@@ -73,8 +74,8 @@ fn giver(arcs: &[Arc], ended: &Threads, lowers: &[u64], lengths: &[u64], node: u
     None
 }
 
-// A way to a marked node, traced back along arcs from marked nodes.
-fn way_back(
+/// A way to a marked node, traced back along arcs from marked nodes.
+pub fn way_back(
     alloc: Global,
     arcs: &[Arc],
     ended: &Threads,
@@ -140,7 +141,8 @@ pub fn find_way(
     requires from { from < length order.now }
     requires to { to < length order.now }
     ensures way { IfOk result (λ found. IfSome found (λ way. Leads arcs.now from to way.items)) }
-    ensures none { IfOk result (λ found. IfNone found ((way : List ℕ) → ¬ Leads arcs.now from to way)) }
+    ensures none { IfOk result
+        (λ found. IfNone found ((way : List ℕ) → ¬ Leads arcs.now from to way)) }
 {
     let mut marks = Marks::new(alloc, order.size())?;
     mark_from(

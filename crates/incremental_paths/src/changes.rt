@@ -1,7 +1,9 @@
-ghost use Rattle.std.specs.Prelude.{ℕ, ◌≡◌, ◌<◌, ◌≤◌, ◌+◌, ◌∷◌, ◌++◌, [], true, false, length, map, slice_index, IfOk, All};
+ghost use Rattle.std.specs.Prelude.{ℕ, ◌≡◌, ◌<◌, ◌⊎◌, ◌↔◌, ◌∷◌, ◌++◌, [], true, false, All, Contains, IfOk};
 ghost use Rattle.incremental_paths.specs.declared.changes.Change.{Change};
-ghost use Rattle.incremental_paths.specs.Spread.{Told};
+ghost use Rattle.incremental_paths.specs.Walks.{HasNoNodeTwice};
+ghost use Rattle.incremental_paths.specs.Spread.{nothing_told};
 
+use crate::node_set::NodeSet;
 use std::alloc::{AllocError, Global};
 use std::marker::Model;
 
@@ -12,49 +14,50 @@ pub struct Change {
     pub before: u64,
 }
 
-/// The changes of lengths since the last call of `clear`, as far as there is room.
+/// The changes of lengths since the last call of `clear`, as far as there is room, and the nodes of
+/// all of them.
 #[derive(Debug, Drop)]
 pub struct Changes {
     room: usize,
-    nodes: Vec<u32>,
     entries: Vec<Change>,
     lost: bool,
+    grown: NodeSet,
 }
 
 impl Model for Changes {
-    ghost use Rattle.std.specs.Prelude.{◌≡◌, map};
     ghost use Rattle.incremental_paths.specs.Spread.{Told};
 
     ghost Value = { Told };
 
-    ghost view = { λ c. record { entries = c.entries.items; lost = c.lost } };
-
-    ghost invariant = { λ c. c.nodes.items ≡ map (λ e. e.node) c.entries.items };
+    ghost view = { λ c. record { entries = c.entries.items; lost = c.lost; grown = c.grown } };
 }
 
 impl Changes {
-    /// No changes, and room for this many.
-    pub fn new(alloc: Global, room: usize) -> Result<Self, AllocError> {
+    /// No changes, and room for as many as there are nodes.
+    pub fn new(alloc: Global, nodes: usize) -> Result<Self, AllocError>
+        ensures { IfOk result (λ changes. changes ≡ nothing_told nodes) }
+    {
         Ok(Changes {
-            room,
-            nodes: Vec::with_capacity(alloc, room)?,
-            entries: Vec::with_capacity(alloc, room)?,
+            room: nodes,
+            entries: Vec::with_capacity(alloc, nodes)?,
             lost: false,
+            grown: NodeSet::new(alloc, nodes)?,
         })
     }
 
     /// Forgets all changes.
     pub fn clear(&mut self)
-        ensures { self.new ≡ record { entries = []; lost = false } }
+        ensures { self.new ≡ nothing_told self.old.grown.size }
     {
-        self.nodes.clear();
         self.entries.clear();
         self.lost = false;
+        self.grown.clear();
     }
 
     /// Says that some changes are not told.
     pub fn lose(&mut self)
-        ensures { self.new.lost ≡ true }
+        ensures lost { self.new.lost ≡ true }
+        ensures grown { self.new.grown ≡ self.old.grown }
     {
         self.lost = true;
     }
@@ -66,26 +69,29 @@ impl Changes {
         self.lost
     }
 
-    /// Tells of a change, where there is room.
+    /// Tells of a change, where there is room, and in any case of its node.
     pub fn tell(&mut self, node: u32, before: u64)
+        requires { node < self.old.grown.size }
         ensures still { self.new.lost ≡ false → self.old.lost ≡ false }
-        ensures told { self.new.lost ≡ false → self.new.entries ≡ self.old.entries ++ record { node = node; before = before } ∷ [] }
+        ensures told { self.new.lost ≡ false
+            → self.new.entries ≡ self.old.entries ++ record { node = node; before = before } ∷ [] }
+        ensures room { self.new.grown.size ≡ self.old.grown.size }
+        ensures grown { (v : ℕ) → Contains self.new.grown.listed v
+            ↔ (Contains self.old.grown.listed v ⊎ (v ≡ node)) }
     {
-        if self.nodes.len() == self.room || self.nodes.push(node).is_err() {
-            self.lost = true;
-            return;
-        }
-        if self.entries.push(Change { node, before }).is_err() {
-            self.nodes.truncate(self.entries.len());
-            self.lost = true;
-        }
+        self.grown.insert(node);
+        self.keep(Change { node, before });
     }
 
-    /// The nodes of the changes that are told.
-    pub fn nodes(&self) -> &[u32]
-        ensures { result.now ≡ map (λ e. e.node) self.now.entries }
+    // Keeps the change, where there is room.
+    fn keep(&mut self, change: Change)
+        ensures still { self.new.lost ≡ false → self.old.lost ≡ false }
+        ensures told { self.new.lost ≡ false → self.new.entries ≡ self.old.entries ++ change ∷ [] }
+        ensures grown { self.new.grown ≡ self.old.grown }
     {
-        &self.nodes
+        if self.entries.len() == self.room || self.entries.push(change).is_err() {
+            self.lost = true;
+        }
     }
 
     /// The changes that are told.
@@ -93,5 +99,14 @@ impl Changes {
         ensures { result.now ≡ self.now.entries }
     {
         &self.entries
+    }
+
+    /// The nodes of all changes, told or not, each once.
+    pub fn grown(&self) -> &[u32]
+        ensures is { result.now ≡ self.now.grown.listed }
+        ensures within { All (λ v. v < self.now.grown.size) self.now.grown.listed }
+        ensures once { HasNoNodeTwice self.now.grown.listed }
+    {
+        self.grown.nodes()
     }
 }

@@ -1,12 +1,8 @@
-//! Path lengths over nodes with lowers, under arcs that are added and withdrawn.
-//!
-//! A node's length is the greatest length of a walk that ends there (`specs/Walks.antt`), over the
-//! arcs that are kept and the lowers raised so far. An arc that would close a cycle is refused,
-//! exactly then. No call but `new`, `add`, `walk` and `between` takes memory.
-//!
-//! Nodes are kept in an order in which each arc leads from a lower place to a higher (`order.rt`), and
-//! arcs in threads by where they begin and end (`threads.rt`). A call pushes lengths on from the node
-//! that it changed (`spread.rt`), and `withdraw` puts back what `add` changed (`trail.rt`).
+//! Path lengths over nodes with lowers, under arcs of which the last added is the first withdrawn. A
+//! node's length is the greatest of a walk that ends there (`specs/Walks.antt`), over the arcs kept
+//! and the lowers raised so far; `changed` tells which lengths the last call made greater. An arc
+//! that would close a cycle is refused, exactly then. Only `new`, `add`, `walk` and `between` take
+//! memory. Nodes in a kept order, and arcs threaded by their ends, let a call cost what it changes.
 #![tactic(auto)]
 
 mod arc;
@@ -15,6 +11,7 @@ mod changes;
 mod faults;
 mod laws;
 mod marks;
+mod node_set;
 mod order;
 mod ordering;
 mod paths;

@@ -1,6 +1,7 @@
-ghost use Rattle.std.specs.Prelude.{ℕ, ◌≡◌, ◌≢◌, ◌<◌, ◌≤◌, ◌↔◌, ◌∷◌, ◌++◌, [], length, OnOk, IfErr, IsErrOf};
+ghost use Rattle.std.specs.Prelude.{ℕ, ◌≡◌, ◌≢◌, ◌<◌, ◌≤◌, ◌↔◌, ◌∷◌, ◌++◌, [], true, length, slice_index, OnOk, IfErr, IsErrOf};
 ghost use Rattle.incremental_paths.specs.Walks.{HasCycle};
-ghost use Rattle.incremental_paths.specs.Marked.{begins, AreWithin, AreRising};
+ghost use Rattle.incremental_paths.specs.Marked.{begins, AreWithin, AreRising, AreMarks};
+ghost use Rattle.incremental_paths.specs.Ordered.{is_marked};
 
 use crate::arc::Arc;
 use crate::faults::AddNo;
@@ -29,9 +30,14 @@ pub fn order_with(
     ensures size { length order.new ≡ length order.old }
     ensures marks { length marks.new ≡ length marks.old }
     ensures rising { AreRising arcs.now order.new }
-    ensures ok { (by : ℕ) → OnOk result (AreRising (arcs.now ++ record { from = from; to = to; length = by } ∷ []) order.new) }
-    ensures closes { (by : ℕ) → IsErrOf result (AddNo.Closes from to) ↔ HasCycle (arcs.now ++ record { from = from; to = to; length = by } ∷ []) }
+    ensures ok { (by : ℕ) → OnOk result
+        (AreRising (arcs.now ++ record { from = from; to = to; length = by } ∷ []) order.new) }
+    ensures closes { (by : ℕ) → IsErrOf result (AddNo.Closes from to)
+        ↔ HasCycle (arcs.now ++ record { from = from; to = to; length = by } ∷ []) }
     ensures faults { IfErr result (λ no. no ≢ AddNo.Memory → no ≡ AddNo.Closes from to) }
+    ensures searched { IsErrOf result (AddNo.Closes from to)
+        → AreMarks arcs.now order.new to (slice_index order.new from) marks.new
+        × (is_marked marks.new from ≡ true) }
 {
     let low = order.place(to) as usize;
     let high = order.place(from) as usize;

@@ -1,10 +1,10 @@
-ghost use Rattle.std.specs.Prelude.{ℕ, ◌≡◌, ◌<◌, ◌≤◌, ◌↔◌, ◌^◌, List, [], length, All, IfOk, IfErr, IfSome, IfNone, OnOk, OnErr, IsErrOf, ◌≢◌, slice_index};
+ghost use Rattle.std.specs.Prelude.{ℕ, ◌≡◌, ◌<◌, ◌≤◌, ◌↔◌, ◌^◌, List, [], length, All, IfOk, IfErr, IfSome, IfNone, IsSome, IsNone, IsTrue, OnOk, OnErr, IsErrOf, ◌≢◌, slice_index};
 ghost use Rattle.incremental_paths.specs.Walks.{IsWalkTo, walk_length, HasNoNodeTwice, Leads, IsLongest, HasCycle};
 ghost use Rattle.incremental_paths.specs.Marked.{AreRising};
-ghost use Rattle.incremental_paths.specs.Network.{IsNode, IsShort, with_arc, without_last, raised};
+ghost use Rattle.incremental_paths.specs.Network.{IsNode, IsShort, with_arc, without_last, raised, unchanged, TellsChanged};
 
 use crate::arc::Arc;
-use crate::back::{find_way, walk_back};
+use crate::back::{find_way, walk_back, way_back};
 use crate::changes::{Change, Changes};
 use crate::faults::AddNo;
 use crate::marks::Marks;
@@ -16,6 +16,27 @@ use crate::trail::{keep_arc, keep_changes, put_back, shorten};
 use plain_values::Memory;
 use std::alloc::Global;
 use std::marker::Model;
+
+// The arc, if it was refused since it closes a cycle.
+fn refused_by(no: AddNo, arc: Arc) -> Option<Arc>
+    ensures some { IfSome result (λ refused. refused ≡ arc) }
+    ensures none { IsNone result ↔ no ≡ AddNo.Memory }
+{
+    match no {
+        AddNo::Closes { .. } => Some(arc),
+        AddNo::Memory => None,
+    }
+}
+
+// Whether there is an arc, and it leads from the one node to the other.
+fn is_arc(arc: Option<Arc>, from: u32, to: u32) -> bool
+    ensures { IsTrue result ↔ IsSome arc × IfSome arc (λ a. (a.from ≡ from) × (a.to ≡ to)) }
+{
+    match arc {
+        Some(arc) => arc.from == from && arc.to == to,
+        None => false,
+    }
+}
 
 /// Nodes with their lowers and lengths, and the arcs that are kept between them.
 #[derive(Debug, Drop)]
@@ -31,25 +52,31 @@ pub struct Paths {
     trail: Vec<Change>,
     starts: Vec<usize>,
     stale: usize,
+    refused: Option<Arc>,
 }
 
 impl Model for Paths {
     ghost use Rattle.incremental_paths.specs.Marked.{AreRising};
     ghost use Rattle.incremental_paths.specs.Network.{Network};
-    ghost use Rattle.incremental_paths.specs.Kept.{AreKept};
+    ghost use Rattle.incremental_paths.specs.Kept.{AreKept, AreOfRefused};
 
     ghost Value = { Network };
 
-    ghost view = { λ p. record { lowers = p.lowers.items; arcs = p.arcs.items } };
+    ghost view = { λ p.
+        record { lowers = p.lowers.items; arcs = p.arcs.items; changed = p.changes.grown.listed } };
 
-    ghost invariant = { λ p. AreKept p.lowers.items p.arcs.items p.begun p.ended p.order p.marks p.lengths.items p.trail.items p.starts.items p.stale };
+    ghost invariant = { λ p.
+        AreKept p.lowers.items p.arcs.items p.begun p.ended p.order p.marks p.lengths.items
+        p.trail.items p.starts.items p.stale p.changes.grown.size
+        × AreOfRefused p.arcs.items p.order p.marks p.refused };
 }
 
 impl Paths {
     /// Nodes with these lowers, and no arcs.
     pub fn new(alloc: Global, lowers: &[u64]) -> Result<Self, Memory>
         requires { length lowers.now < 2 ^ 32 }
-        ensures { IfOk result (λ paths. paths ≡ record { lowers = lowers.now; arcs = [] }) }
+        ensures { IfOk result
+            (λ paths. paths ≡ record { lowers = lowers.now; arcs = []; changed = [] }) }
     {
         let nodes = lowers.len();
         Ok(Paths {
@@ -64,6 +91,7 @@ impl Paths {
             trail: Vec::new(alloc),
             starts: Vec::new(alloc),
             stale: 0,
+            refused: None,
         })
     }
 
@@ -74,14 +102,18 @@ impl Paths {
         requires to { IsNode self.old to }
         requires short { IsShort (with_arc self.old from to length) }
 
-        ensures ok { OnOk result (self.new ≡ with_arc self.old from to length) }
-        ensures closes { IsErrOf result (AddNo.Closes from to) ↔ HasCycle (with_arc self.old from to length).arcs }
+        ensures lowers { self.new.lowers ≡ self.old.lowers }
+        ensures ok { OnOk result (self.new.arcs ≡ (with_arc self.old from to length).arcs) }
+        ensures changed { OnOk result (TellsChanged self.old self.new) }
+        ensures closes { IsErrOf result (AddNo.Closes from to)
+            ↔ HasCycle (with_arc self.old from to length).arcs }
         ensures faults { IfErr result (λ no. no ≢ AddNo.Memory → no ≡ AddNo.Closes from to) }
-        ensures err { OnErr result (self.new ≡ self.old) }
+        ensures err { OnErr result (self.new ≡ unchanged self.old) }
     {
         let alloc = *self.arcs.allocator();
         let arc = Arc { from, to, length };
         self.changes.clear();
+        self.refused = None;
         if let Err(no) = order_with(
             alloc,
             &self.arcs,
@@ -91,6 +123,7 @@ impl Paths {
             from,
             to,
         ) {
+            self.refused = refused_by(no, arc);
             return Err(no);
         }
         self.trail.reserve(self.lowers.len())?;
@@ -121,6 +154,8 @@ impl Paths {
         requires { let kept = self.old.arcs in k ≤ length kept }
         ensures { self.new ≡ without_last self.old k }
     {
+        self.changes.clear();
+        self.refused = None;
         if k == 0 {
             return;
         }
@@ -144,6 +179,7 @@ impl Paths {
                 &mut self.lengths,
                 &mut self.changes,
             );
+            self.changes.clear();
         }
     }
 
@@ -151,7 +187,9 @@ impl Paths {
     pub fn raise(&mut self, node: u32, lower: u64)
         requires node { IsNode self.old node }
         requires short { IsShort (raised self.old node lower) }
-        ensures { self.new ≡ raised self.old node lower }
+        ensures lowers { self.new.lowers ≡ (raised self.old node lower).lowers }
+        ensures arcs { self.new.arcs ≡ self.old.arcs }
+        ensures changed { TellsChanged self.old self.new }
     {
         self.changes.clear();
         let at = node as usize;
@@ -181,8 +219,18 @@ impl Paths {
         self.lengths[node as usize]
     }
 
-    /// An order of the nodes in which each kept arc leads from a lower place to a higher. Only `add`
-    /// changes it.
+    /// The nodes whose lengths the last call of `add` or `raise` made greater, each once. There are
+    /// none after `new`, `withdraw`, and an arc that was not added.
+    pub fn changed(&self) -> &[u32]
+        ensures all { result.now ≡ self.now.changed }
+        ensures nodes { All (IsNode self.now) self.now.changed }
+        ensures once { HasNoNodeTwice self.now.changed }
+    {
+        self.changes.grown()
+    }
+
+    /// An order of the nodes in which each kept arc leads from a lower place to a higher. Only
+    /// `add` changes it.
     pub fn order(&self) -> &Order
         ensures size { length result.now ≡ length self.now.lowers }
         ensures rising { AreRising self.now.arcs result.now }
@@ -194,7 +242,8 @@ impl Paths {
     pub fn place(&self, node: u32) -> u32
         requires { IsNode self.now node }
         ensures within { result < length self.now.lowers }
-        ensures rising { (places : List ℕ) × AreRising self.now.arcs places × (result ≡ slice_index places node) }
+        ensures rising { (places : List ℕ) × AreRising self.now.arcs places
+            × (result ≡ slice_index places node) }
     {
         self.order.place(node)
     }
@@ -202,7 +251,8 @@ impl Paths {
     /// The arcs that are kept, in the order in which they were added.
     pub fn arcs(&self) -> &[Arc]
         ensures all { result.now ≡ self.now.arcs }
-        ensures nodes { All (λ arc. IsNode self.now arc.from × IsNode self.now arc.to) self.now.arcs }
+        ensures nodes { All (λ arc. IsNode self.now arc.from × IsNode self.now arc.to)
+            self.now.arcs }
         ensures no_cycle { ¬ HasCycle self.now.arcs }
     {
         &self.arcs
@@ -211,10 +261,12 @@ impl Paths {
     /// A walk to the node that is as long as the node's length.
     pub fn walk(&self, node: u32) -> Result<Vec<u32>, Memory>
         requires { IsNode self.now node }
-        ensures walk { IfOk result (λ nodes. IsWalkTo self.now.lowers self.now.arcs node nodes.items) }
+        ensures walk { IfOk result
+            (λ nodes. IsWalkTo self.now.lowers self.now.arcs node nodes.items) }
         ensures once { IfOk result (λ nodes. HasNoNodeTwice nodes.items) }
         ensures longest { IfOk result (λ nodes.
-            IsLongest self.now.lowers self.now.arcs node (walk_length self.now.lowers self.now.arcs nodes.items)) }
+            IsLongest self.now.lowers self.now.arcs node
+            (walk_length self.now.lowers self.now.arcs nodes.items)) }
     {
         let alloc = *self.arcs.allocator();
         Ok(walk_back(
@@ -229,18 +281,32 @@ impl Paths {
     }
 
     /// The nodes of a way along kept arcs from one node to another, both among them, and `None`
-    /// where there is none. From a node to itself it is that node alone.
+    /// where there is none. From a node to itself it is that node alone. Where the last arc was
+    /// refused, the way from its end to its beginning is the one that was found then.
     pub fn between(&self, from: u32, to: u32) -> Result<Option<Vec<u32>>, Memory>
         requires from { IsNode self.now from }
         requires to { IsNode self.now to }
-        ensures way { IfOk result (λ found. IfSome found (λ nodes. Leads self.now.arcs from to nodes.items)) }
-        ensures none { IfOk result (λ found. IfNone found ((nodes : List ℕ) → ¬ Leads self.now.arcs from to nodes)) }
+        ensures way { IfOk result
+            (λ found. IfSome found (λ nodes. Leads self.now.arcs from to nodes.items)) }
+        ensures none { IfOk result
+            (λ found. IfNone found ((nodes : List ℕ) → ¬ Leads self.now.arcs from to nodes)) }
 
         // Without a way, an arc back would close no cycle.
         ensures no_cycle { IfOk result (λ found. IfNone found ((length : ℕ)
             → ¬ HasCycle (with_arc self.now to from length).arcs)) }
     {
         let alloc = *self.arcs.allocator();
+        if is_arc(self.refused, to, from) {
+            return Ok(Some(way_back(
+                alloc,
+                &self.arcs,
+                &self.ended,
+                &self.order,
+                &self.marks,
+                from,
+                to,
+            )?));
+        }
         Ok(find_way(
             alloc,
             &self.arcs,

@@ -44,9 +44,13 @@ fn mark_ends(arcs: &[Arc], begun: &Threads, marks: &mut Marks, node: u32)
     requires node { node < length marks.old }
     ensures size { length marks.new ≡ length marks.old }
     ensures still { (v : ℕ) → is_marked marks.old v ≡ true → is_marked marks.new v ≡ true }
-    ensures ends { (k : ℕ) (d : Arc) → k < length arcs.now → (slice_index_or arcs.now k d).from ≡ node → is_marked marks.new (slice_index_or arcs.now k d).to ≡ true }
+    ensures ends { (k : ℕ) (d : Arc) → k < length arcs.now
+        → (slice_index_or arcs.now k d).from ≡ node
+        → is_marked marks.new (slice_index_or arcs.now k d).to ≡ true }
     ensures only { (v : ℕ) → is_marked marks.new v ≡ true → (is_marked marks.old v ≡ true)
-        ⊎ ((k : ℕ) × (k < length arcs.now) × ((d : Arc) → ((slice_index_or arcs.now k d).from ≡ node) × ((slice_index_or arcs.now k d).to ≡ v))) }
+        ⊎ ((k : ℕ) × (k < length arcs.now)
+        × ((d : Arc) → ((slice_index_or arcs.now k d).from ≡ node)
+        × ((slice_index_or arcs.now k d).to ≡ v))) }
 {
     let mut front = begun.last(node);
     while front > 0 {

@@ -24,7 +24,8 @@ fn push_marked(
     out: &mut Vec<u32>,
 ) -> Result<(), AllocError>
     requires { All (λ v. v < length marks.now) nodes.now }
-    ensures { OnOk result (out.new.items ≡ out.old.items ++ filter (is_as marks.now wanted) nodes.now) }
+    ensures { OnOk result
+        (out.new.items ≡ out.old.items ++ filter (is_as marks.now wanted) nodes.now) }
 {
     for node in nodes {
         if marks.has(*node) == wanted {
@@ -37,7 +38,8 @@ fn push_marked(
 // The nodes, with those that are marked behind the others.
 fn marked_last(alloc: Global, nodes: &[u32], marks: &Marks) -> Result<Vec<u32>, AllocError>
     requires { All (λ v. v < length marks.now) nodes.now }
-    ensures { IfOk result (λ all. all.items ≡ filter (is_as marks.now false) nodes.now ++ filter (is_as marks.now true) nodes.now) }
+    ensures { IfOk result (λ all. all.items ≡ filter (is_as marks.now false) nodes.now
+        ++ filter (is_as marks.now true) nodes.now) }
 {
     let mut all = Vec::with_capacity(alloc, nodes.len())?;
     push_marked(nodes, marks, false, &mut all)?;
@@ -48,7 +50,8 @@ fn marked_last(alloc: Global, nodes: &[u32], marks: &Marks) -> Result<Vec<u32>, 
 // Writes these nodes over others, from a place on.
 fn write_from(nodes: &mut [u32], low: usize, moved: &[u32])
     requires { low + length moved.now ≤ length nodes.old }
-    ensures { nodes.new ≡ take low nodes.old ++ moved.now ++ drop (low + length moved.now) nodes.old }
+    ensures { nodes.new ≡ take low nodes.old ++ moved.now
+        ++ drop (low + length moved.now) nodes.old }
 {
     nodes[low..low + moved.len()].copy_from_slice(moved);
 }
@@ -62,8 +65,10 @@ fn number(nodes: &[u32], low: usize, end: usize, places: &mut [u32])
     requires low { low ≤ end }
     requires end { end ≤ length nodes.now }
     requires front { (i : ℕ) → i < low → slice_index places.old (slice_index nodes.now i) ≡ i }
-    requires rest { (i : ℕ) → end ≤ i → i < length nodes.now → slice_index places.old (slice_index nodes.now i) ≡ i }
-    ensures { (i : ℕ) → i < length nodes.now → slice_index places.new (slice_index nodes.now i) ≡ i }
+    requires rest { (i : ℕ) → end ≤ i → i < length nodes.now
+        → slice_index places.old (slice_index nodes.now i) ≡ i }
+    ensures { (i : ℕ) → i < length nodes.now
+        → slice_index places.new (slice_index nodes.now i) ≡ i }
 {
     for place in low..end {
         places[nodes[place] as usize] = place as u32;

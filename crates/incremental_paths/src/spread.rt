@@ -1,30 +1,42 @@
 ghost use Rattle.std.specs.Prelude.{ℕ, ◌≡◌, ◌≢◌, ◌<◌, ◌≤◌, ◌+◌, ◌^◌, ◌∷◌, ◌++◌, List, [], true, false, All, length, slice_index, slice_set};
 ghost use Rattle.incremental_paths.specs.declared.arc.Arc.{Arc};
 ghost use Rattle.incremental_paths.specs.Marked.{begins, AreWithin, AreRising};
-ghost use Rattle.incremental_paths.specs.Spread.{AreLengths, AreReached, AreSpread, AreWaiting, AreNodes, Spreads, SpreadsOne, WalksFit, TellsMore};
+ghost use Rattle.incremental_paths.specs.Spread.{AreLengths, AreReached, AreSpread, AreWaiting, AreNodes, Spreads, SpreadsOne, WalksFit, TellsMore, nothing_told};
 
 use crate::arc::Arc;
 use crate::changes::Changes;
 use crate::order::Order;
 use crate::threads::Threads;
 
+// Raises one length.
+fn raise_one(lengths: &mut [u64], changes: &mut Changes, node: u32, raised: u64)
+    requires node { node < length lengths.old }
+    requires above { slice_index lengths.old node < raised }
+    requires room { changes.old.grown.size ≡ length lengths.old }
+    ensures lengths { lengths.new ≡ slice_set lengths.old node raised }
+    ensures tells { TellsMore changes.old changes.new lengths.old lengths.new }
+{
+    changes.tell(node, lengths[node as usize]);
+    lengths[node as usize] = raised;
+}
+
 /// Raises the length of the arc's end to what the arc leads to, where it is shorter.
 pub fn raise_end(arc: Arc, lengths: &mut [u64], changes: &mut Changes)
     requires from { arc.from < length lengths.old }
     requires to { arc.to < length lengths.old }
     requires fits { slice_index lengths.old arc.from + arc.length < 2 ^ 64 }
+    requires room { changes.old.grown.size ≡ length lengths.old }
     ensures spreads { SpreadsOne arc lengths.old lengths.new }
     ensures tells { TellsMore changes.old changes.new lengths.old lengths.new }
 {
     let reached = lengths[arc.from as usize] + arc.length;
-    let before = lengths[arc.to as usize];
-    if before < reached {
-        changes.tell(arc.to, before);
-        lengths[arc.to as usize] = reached;
+    if lengths[arc.to as usize] < reached {
+        raise_one(lengths, changes, arc.to, reached);
     }
 }
 
-/// Raises the ends of the arcs that begin at the node, where they are shorter than what these lead to.
+/// Raises the ends of the arcs that begin at the node, where they are shorter than what these lead
+/// to.
 pub fn raise_ends(
     arcs: &[Arc],
     begun: &Threads,
@@ -36,8 +48,11 @@ pub fn raise_ends(
     requires within { AreWithin (length lengths.old) arcs.now }
     requires apart { All (λ a. a.from ≢ a.to) arcs.now }
     requires node { node < length lengths.old }
-    requires reached { (lowers : List ℕ) × AreReached lowers arcs.now lengths.old × WalksFit lowers arcs.now }
-    ensures reached { (lowers : List ℕ) → AreReached lowers arcs.now lengths.old → AreReached lowers arcs.now lengths.new }
+    requires room { changes.old.grown.size ≡ length lengths.old }
+    requires reached { (lowers : List ℕ) × AreReached lowers arcs.now lengths.old
+        × WalksFit lowers arcs.now }
+    ensures reached { (lowers : List ℕ) → AreReached lowers arcs.now lengths.old
+        → AreReached lowers arcs.now lengths.new }
     ensures spreads { Spreads arcs.now node lengths.old lengths.new }
     ensures tells { TellsMore changes.old changes.new lengths.old lengths.new }
 {
@@ -49,26 +64,30 @@ pub fn raise_ends(
     }
 }
 
-/// Spreads lengths on from the nodes of the changes that are told, along all arcs, or until some are lost.
+/// Spreads lengths on from the nodes of the changes that are told, along all arcs, or until some
+/// are lost.
 fn push_on(arcs: &[Arc], begun: &Threads, lengths: &mut [u64], changes: &mut Changes)
     requires begun { begun.now ≡ record { size = length lengths.old; keys = begins arcs.now } }
     requires within { AreWithin (length lengths.old) arcs.now }
     requires apart { All (λ a. a.from ≢ a.to) arcs.now }
-    requires reached { (lowers : List ℕ) × AreReached lowers arcs.now lengths.old × WalksFit lowers arcs.now }
+    requires room { changes.old.grown.size ≡ length lengths.old }
+    requires reached { (lowers : List ℕ) × AreReached lowers arcs.now lengths.old
+        × WalksFit lowers arcs.now }
     requires told { AreNodes changes.old (length lengths.old) }
     requires waiting { AreWaiting arcs.now lengths.old changes.old 0 }
-    ensures reached { (lowers : List ℕ) → AreReached lowers arcs.now lengths.old → AreReached lowers arcs.now lengths.new }
+    ensures reached { (lowers : List ℕ) → AreReached lowers arcs.now lengths.old
+        → AreReached lowers arcs.now lengths.new }
     ensures spread { changes.new.lost ≡ false → AreSpread arcs.now lengths.new }
     ensures tells { TellsMore changes.old changes.new lengths.old lengths.new }
 {
     for next in 0..lengths.len() {
-        if changes.is_lost() || next >= changes.nodes().len() {
+        if changes.is_lost() || next >= changes.entries().len() {
             return;
         }
-        let node = changes.nodes()[next];
+        let node = changes.entries()[next].node;
         raise_ends(arcs, begun, lengths, changes, node);
     }
-    if changes.nodes().len() > lengths.len() {
+    if changes.entries().len() > lengths.len() {
         changes.lose();
     }
 }
@@ -79,8 +98,11 @@ fn sweep(arcs: &[Arc], begun: &Threads, order: &Order, lengths: &mut [u64], chan
     requires sizes { length order.now ≡ length lengths.old }
     requires within { AreWithin (length lengths.old) arcs.now }
     requires rising { AreRising arcs.now order.now }
-    requires reached { (lowers : List ℕ) × AreReached lowers arcs.now lengths.old × WalksFit lowers arcs.now }
-    ensures reached { (lowers : List ℕ) → AreReached lowers arcs.now lengths.old → AreReached lowers arcs.now lengths.new }
+    requires room { changes.old.grown.size ≡ length lengths.old }
+    requires reached { (lowers : List ℕ) × AreReached lowers arcs.now lengths.old
+        × WalksFit lowers arcs.now }
+    ensures reached { (lowers : List ℕ) → AreReached lowers arcs.now lengths.old
+        → AreReached lowers arcs.now lengths.new }
     ensures spread { AreSpread arcs.now lengths.new }
     ensures tells { TellsMore changes.old changes.new lengths.old lengths.new }
 {
@@ -101,10 +123,13 @@ pub fn settle(
     requires sizes { length order.now ≡ length lengths.old }
     requires within { AreWithin (length lengths.old) arcs.now }
     requires rising { AreRising arcs.now order.now }
-    requires reached { (lowers : List ℕ) × AreReached lowers arcs.now lengths.old × WalksFit lowers arcs.now }
+    requires room { changes.old.grown.size ≡ length lengths.old }
+    requires reached { (lowers : List ℕ) × AreReached lowers arcs.now lengths.old
+        × WalksFit lowers arcs.now }
     requires told { AreNodes changes.old (length lengths.old) }
     requires waiting { AreWaiting arcs.now lengths.old changes.old 0 }
-    ensures reached { (lowers : List ℕ) → AreReached lowers arcs.now lengths.old → AreReached lowers arcs.now lengths.new }
+    ensures reached { (lowers : List ℕ) → AreReached lowers arcs.now lengths.old
+        → AreReached lowers arcs.now lengths.new }
     ensures spread { AreSpread arcs.now lengths.new }
     ensures tells { TellsMore changes.old changes.new lengths.old lengths.new }
 {
@@ -127,10 +152,13 @@ pub fn spread_last(
     requires sizes { length order.now ≡ length lengths.old }
     requires within { AreWithin (length lengths.old) arcs.now }
     requires rising { AreRising arcs.now order.now }
-    requires reached { (lowers : List ℕ) × AreReached lowers arcs.now lengths.old × WalksFit lowers arcs.now }
-    requires cleared { changes.old ≡ record { entries = []; lost = false } }
-    requires last { (front : List Arc) × (arcs.now ≡ front ++ arc ∷ []) × AreSpread front lengths.old }
-    ensures reached { (lowers : List ℕ) → AreReached lowers arcs.now lengths.old → AreReached lowers arcs.now lengths.new }
+    requires reached { (lowers : List ℕ) × AreReached lowers arcs.now lengths.old
+        × WalksFit lowers arcs.now }
+    requires cleared { changes.old ≡ nothing_told (length lengths.old) }
+    requires last { (front : List Arc) × (arcs.now ≡ front ++ arc ∷ [])
+        × AreSpread front lengths.old }
+    ensures reached { (lowers : List ℕ) → AreReached lowers arcs.now lengths.old
+        → AreReached lowers arcs.now lengths.new }
     ensures spread { AreSpread arcs.now lengths.new }
     ensures tells { TellsMore changes.old changes.new lengths.old lengths.new }
 {
@@ -154,26 +182,19 @@ fn spread_node(
     requires rising { AreRising arcs.now order.now }
     requires node { node < length lengths.old }
     requires above { slice_index lengths.old node < raised }
-    requires reached { (lowers : List ℕ) × AreReached lowers arcs.now (slice_set lengths.old node raised) × WalksFit lowers arcs.now }
-    requires cleared { changes.old ≡ record { entries = []; lost = false } }
+    requires reached { (lowers : List ℕ)
+        × AreReached lowers arcs.now (slice_set lengths.old node raised)
+        × WalksFit lowers arcs.now }
+    requires cleared { changes.old ≡ nothing_told (length lengths.old) }
     requires spread { AreSpread arcs.now lengths.old }
-    ensures reached { (lowers : List ℕ) → AreReached lowers arcs.now (slice_set lengths.old node raised) → AreReached lowers arcs.now lengths.new }
+    ensures reached { (lowers : List ℕ)
+        → AreReached lowers arcs.now (slice_set lengths.old node raised)
+        → AreReached lowers arcs.now lengths.new }
     ensures spread { AreSpread arcs.now lengths.new }
     ensures tells { TellsMore changes.old changes.new lengths.old lengths.new }
 {
     raise_one(lengths, changes, node, raised);
     settle(arcs, begun, order, lengths, changes);
-}
-
-// Raises one length.
-fn raise_one(lengths: &mut [u64], changes: &mut Changes, node: u32, raised: u64)
-    requires node { node < length lengths.old }
-    requires above { slice_index lengths.old node < raised }
-    ensures lengths { lengths.new ≡ slice_set lengths.old node raised }
-    ensures tells { TellsMore changes.old changes.new lengths.old lengths.new }
-{
-    changes.tell(node, lengths[node as usize]);
-    lengths[node as usize] = raised;
 }
 
 /// Computes each node's length anew.
@@ -190,9 +211,11 @@ pub fn spread_anew(
     requires sizes { length order.now ≡ length lowers.now }
     requires within { AreWithin (length lowers.now) arcs.now }
     requires rising { AreRising arcs.now order.now }
+    requires room { changes.old.grown.size ≡ length lengths.old }
     requires fit { WalksFit lowers.now arcs.now }
     ensures reached { AreReached lowers.now arcs.now lengths.new }
     ensures spread { AreSpread arcs.now lengths.new }
+    ensures room { changes.new.grown.size ≡ changes.old.grown.size }
 {
     lengths.copy_from_slice(lowers);
     changes.lose();
@@ -216,8 +239,9 @@ pub fn raise_length(
     requires rising { AreRising arcs.now order.now }
     requires node { node < length lowers.now }
     requires fit { WalksFit lowers.now arcs.now }
-    requires cleared { changes.old ≡ record { entries = []; lost = false } }
-    requires before { (lower : ℕ) × (lower ≤ slice_index lowers.now node) × AreReached (slice_set lowers.now node lower) arcs.now lengths.old }
+    requires cleared { changes.old ≡ nothing_told (length lengths.old) }
+    requires before { (lower : ℕ) × (lower ≤ slice_index lowers.now node)
+        × AreReached (slice_set lowers.now node lower) arcs.now lengths.old }
     requires spread { AreSpread arcs.now lengths.old }
     ensures reached { AreReached lowers.now arcs.now lengths.new }
     ensures spread { AreSpread arcs.now lengths.new }

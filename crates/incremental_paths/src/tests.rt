@@ -1,4 +1,4 @@
-ghost use Rattle.std.specs.Prelude.{◌≡◌, ◌<◌, ◌^◌, length, All, IfOk};
+ghost use Rattle.std.specs.Prelude.{◌≡◌, ◌<◌, ◌≤◌, ◌^◌, length, All, IfOk};
 
 use crate::{AddNo, Paths};
 use std::alloc::Global;
@@ -87,12 +87,19 @@ fn compare(rt: &impl Abort, paths: &Paths, lengths: &[u64])
     }
 }
 
-// Steps from these lowers on, each with all lengths after it.
+// The nodes that have changed are these, in any order.
+fn compare_changed(rt: &impl Abort, paths: &Paths, changed: &[u32]) {
+    let found = paths.changed();
+    assert_eq!(rt; found.len(), changed.len());
+    assert!(rt; changed.iter().all(|node| found.contains(node)));
+}
+
+// Steps from these lowers on, each with all lengths after it, and the nodes that it changed.
 fn run(
     rt: &impl Abort,
     alloc: Global,
     lowers: &[u64],
-    rows: &[(Step, &[u64])],
+    rows: &[(Step, &[u64], &[u32])],
 ) -> Result<Paths, Fail>
     ensures { IfOk result (λ paths. length paths.lowers ≡ length lowers.now) }
 {
@@ -100,31 +107,32 @@ fn run(
     assert!(rt; nodes < 1000);
     assert!(rt; lowers.iter().all(|lower| *lower < 1000));
     let mut paths = Paths::new(alloc, lowers)?;
-    for (step, lengths) in rows {
+    for (step, lengths, changed) in rows {
         take(rt, &mut paths, nodes, *step);
         assert_eq!(rt; lengths.len(), nodes);
         compare(rt, &paths, lengths);
+        compare_changed(rt, &paths, changed);
     }
     Ok(paths)
 }
 
 #[test]
 fn lengths_follow_arcs_that_come_and_go(rt: HostRuntime) -> Result<(), Fail> {
-    let rows: [(Step, &[u64]); 5] = [
-        (Step::Add(0, 1, 10), &[0, 10]),
-        (Step::Closes(1, 0, 0), &[0, 10]),
-        (Step::Withdraw(1), &[0, 0]),
-        (Step::Raise(0, 5), &[5, 0]),
-        (Step::Raise(0, 3), &[5, 0]),
+    let rows: [(Step, &[u64], &[u32]); 5] = [
+        (Step::Add(0, 1, 10), &[0, 10], &[1]),
+        (Step::Closes(1, 0, 0), &[0, 10], &[]),
+        (Step::Withdraw(1), &[0, 0], &[]),
+        (Step::Raise(0, 5), &[5, 0], &[0]),
+        (Step::Raise(0, 3), &[5, 0], &[]),
     ];
     run(&rt, rt.alloc(), &[0, 0], &rows)?;
-    let rows: [(Step, &[u64]); 6] = [
-        (Step::Add(0, 1, 10), &[0, 10, 0]),
-        (Step::Add(1, 2, 10), &[0, 10, 20]),
-        (Step::Raise(1, 15), &[0, 15, 25]),
-        (Step::Withdraw(1), &[0, 15, 0]),
-        (Step::Withdraw(1), &[0, 15, 0]),
-        (Step::Add(0, 1, 20), &[0, 20, 0]),
+    let rows: [(Step, &[u64], &[u32]); 6] = [
+        (Step::Add(0, 1, 10), &[0, 10, 0], &[1]),
+        (Step::Add(1, 2, 10), &[0, 10, 20], &[2]),
+        (Step::Raise(1, 15), &[0, 15, 25], &[1, 2]),
+        (Step::Withdraw(1), &[0, 15, 0], &[]),
+        (Step::Withdraw(1), &[0, 15, 0], &[]),
+        (Step::Add(0, 1, 20), &[0, 20, 0], &[1]),
     ];
     run(&rt, rt.alloc(), &[0, 0, 0], &rows)?;
     Ok(())
@@ -132,22 +140,35 @@ fn lengths_follow_arcs_that_come_and_go(rt: HostRuntime) -> Result<(), Fail> {
 
 #[test]
 fn an_arc_against_the_order_of_the_numbers(rt: HostRuntime) -> Result<(), Fail> {
-    let rows: [(Step, &[u64]); 3] = [
-        (Step::Add(2, 1, 3), &[0, 3, 0]),
-        (Step::Add(1, 0, 4), &[7, 3, 0]),
-        (Step::Closes(0, 2, 0), &[7, 3, 0]),
+    let rows: [(Step, &[u64], &[u32]); 3] = [
+        (Step::Add(2, 1, 3), &[0, 3, 0], &[1]),
+        (Step::Add(1, 0, 4), &[7, 3, 0], &[0]),
+        (Step::Closes(0, 2, 0), &[7, 3, 0], &[]),
     ];
     run(&rt, rt.alloc(), &[0, 0, 0], &rows)?;
     Ok(())
 }
 
 #[test]
+fn a_node_that_grows_twice_is_told_once(rt: HostRuntime) -> Result<(), Fail> {
+    let rows: [(Step, &[u64], &[u32]); 5] = [
+        (Step::Add(1, 3, 5), &[0, 0, 0, 5], &[3]),
+        (Step::Add(1, 2, 3), &[0, 0, 3, 5], &[2]),
+        (Step::Add(2, 3, 4), &[0, 0, 3, 7], &[3]),
+        (Step::Add(0, 1, 10), &[0, 10, 13, 17], &[1, 2, 3]),
+        (Step::Raise(2, 13), &[0, 10, 13, 17], &[]),
+    ];
+    run(&rt, rt.alloc(), &[0, 0, 0, 0], &rows)?;
+    Ok(())
+}
+
+#[test]
 fn the_longer_of_two_arcs_counts(rt: HostRuntime) -> Result<(), Fail> {
-    let rows: [(Step, &[u64]); 4] = [
-        (Step::Add(0, 1, 3), &[0, 3]),
-        (Step::Add(0, 1, 9), &[0, 9]),
-        (Step::Withdraw(1), &[0, 3]),
-        (Step::Closes(0, 0, 5), &[0, 3]),
+    let rows: [(Step, &[u64], &[u32]); 4] = [
+        (Step::Add(0, 1, 3), &[0, 3], &[1]),
+        (Step::Add(0, 1, 9), &[0, 9], &[1]),
+        (Step::Withdraw(1), &[0, 3], &[]),
+        (Step::Closes(0, 0, 5), &[0, 3], &[]),
     ];
     run(&rt, rt.alloc(), &[0, 0], &rows)?;
     Ok(())
@@ -169,24 +190,51 @@ fn compare_walks(rt: &impl Abort, paths: &Paths) -> Result<(), Fail>
 
 #[test]
 fn walks_and_ways_are_given_from_their_beginning(rt: HostRuntime) -> Result<(), Fail> {
-    let rows: [(Step, &[u64]); 3] = [
-        (Step::Add(3, 1, 2), &[1, 2, 0, 0]),
-        (Step::Add(1, 0, 5), &[7, 2, 0, 0]),
-        (Step::Add(2, 0, 6), &[7, 2, 0, 0]),
+    let rows: [(Step, &[u64], &[u32]); 3] = [
+        (Step::Add(3, 1, 2), &[1, 2, 0, 0], &[1]),
+        (Step::Add(1, 0, 5), &[7, 2, 0, 0], &[0]),
+        (Step::Add(2, 0, 6), &[7, 2, 0, 0], &[]),
     ];
     let paths = run(&rt, rt.alloc(), &[1, 0, 0, 0], &rows)?;
     compare_walks(&rt, &paths)
 }
 
+// A chain that leads from the last node to the first, made from its end to its beginning.
+fn chain(rt: &impl Abort, alloc: Global, nodes: u32) -> Result<Paths, Fail>
+    requires some { 0 < nodes }
+    requires few { nodes ≤ 1000 }
+    ensures nodes { IfOk result (λ paths. length paths.lowers ≡ nodes) }
+    ensures lowers { IfOk result (λ paths. All (λ lower. lower < 2 ^ 32) paths.lowers) }
+    ensures lengths { IfOk result (λ paths. All (λ arc. arc.length < 2 ^ 32) paths.arcs) }
+{
+    let lowers = vec![in alloc; 0u64; nodes as usize]?;
+    let mut paths = Paths::new(alloc, &lowers)?;
+    for node in 0..nodes - 1 {
+        add(rt, &mut paths, nodes as usize, node + 1, node, 1)?;
+    }
+    Ok(paths)
+}
+
+#[test]
+fn a_chain_is_as_long_as_its_arcs_and_not_closed(rt: HostRuntime) -> Result<(), Fail> {
+    let mut paths = chain(&rt, rt.alloc(), 1000)?;
+    assert_eq!(rt; paths.length(0), 999);
+    assert_eq!(rt; paths.changed().len(), 999);
+    let refused = add(&rt, &mut paths, 1000, 0, 999, 0);
+    assert_eq!(rt; refused, Err(AddNo::Closes { from: 0, to: 999 }));
+    assert_eq!(rt; paths.changed().len(), 0);
+    Ok(())
+}
+
 #[test]
 fn a_raise_stays_where_arcs_are_withdrawn_together(rt: HostRuntime) -> Result<(), Fail> {
-    let rows: [(Step, &[u64]); 6] = [
-        (Step::Add(0, 1, 10), &[0, 10, 0]),
-        (Step::Raise(2, 7), &[0, 10, 7]),
-        (Step::Add(1, 2, 10), &[0, 10, 20]),
-        (Step::Add(0, 2, 30), &[0, 10, 30]),
-        (Step::Withdraw(2), &[0, 10, 7]),
-        (Step::Withdraw(1), &[0, 0, 7]),
+    let rows: [(Step, &[u64], &[u32]); 6] = [
+        (Step::Add(0, 1, 10), &[0, 10, 0], &[1]),
+        (Step::Raise(2, 7), &[0, 10, 7], &[2]),
+        (Step::Add(1, 2, 10), &[0, 10, 20], &[2]),
+        (Step::Add(0, 2, 30), &[0, 10, 30], &[2]),
+        (Step::Withdraw(2), &[0, 10, 7], &[]),
+        (Step::Withdraw(1), &[0, 0, 7], &[]),
     ];
     run(&rt, rt.alloc(), &[0, 0, 0], &rows)?;
     Ok(())

@@ -13,7 +13,8 @@ struct Link {
 
 /// A list of nodes, with the places of each node in it threaded from the last to the first.
 ///
-/// A place is told by the length of the list's front that ends with it, and 0 says that there is none.
+/// A place is told by the length of the list's front that ends with it, and 0 says that there is
+/// none.
 #[derive(Debug, Drop)]
 pub struct Threads {
     fronts: Vec<usize>,
@@ -28,7 +29,8 @@ impl Model for Threads {
 
     ghost use Rattle.incremental_paths.specs.Linked.{AreLinked};
 
-    ghost view = { λ t. record { size = length t.fronts.items; keys = map (λ l. l.node) t.links.items } };
+    ghost view = { λ t.
+        record { size = length t.fronts.items; keys = map (λ l. l.node) t.links.items } };
 
     ghost invariant = { λ t. AreLinked t.fronts.items t.links.items };
 }

@@ -84,10 +84,11 @@ fn link(begun: &mut Threads, ended: &mut Threads, arc: Arc) -> Result<(), AllocE
     }
 }
 
-/// Puts the changes behind the others, if all are told and there is room, and else forgets all. Gives
-/// how many of the first arcs are stale then: `stale` as before, or all of them.
+/// Puts the changes behind the others, if all are told and there is room, and else forgets all.
+/// Gives how many of the first arcs are stale then: `stale` as before, or all of them.
 pub fn keep_changes(changes: &Changes, trail: &mut Vec<Change>, stale: usize, arcs: usize) -> usize
-    ensures { ((result ≡ stale) × (changes.now.lost ≡ false) × (trail.new.items ≡ trail.old.items ++ changes.now.entries))
+    ensures { ((result ≡ stale) × (changes.now.lost ≡ false)
+        × (trail.new.items ≡ trail.old.items ++ changes.now.entries))
         ⊎ ((result ≡ arcs) × (trail.new.items ≡ [])) }
 {
     if !changes.is_lost() && trail.extend_from_slice(changes.entries()).is_ok() {

@@ -3,11 +3,11 @@ use Rattle.std.specs.Prelude.{All}
 use Rattle.std.proofs.lemmas.List.{length_push}
 use Rattle.std.proofs.lemmas.List.Elements.{All-push}
 use Rattle.incremental_paths.specs.declared.arc.Arc.{Arc}
-use Rattle.incremental_paths.specs.Network.{Network, with_arc}
+use Rattle.incremental_paths.specs.Network.{Network, with_arc, unchanged}
 use Rattle.incremental_paths.proofs.Bounds.{few_short}
 use Rattle.cycle_witness.proofs.tests.add.Goals as goal
 
-all_after : {E : Type 0} (r : Result (Unit {0}) E) (old new : Network) (arc : Arc) → OnOk r (new ≡ with_arc old arc.from arc.to arc.length) → OnErr r (new ≡ old) → All (λ a. a.length < 2 ^ 32) old.arcs → arc.length < 2 ^ 32 → All (λ a. a.length < 2 ^ 32) new.arcs
+all_after : {E : Type 0} (r : Result (Unit {0}) E) (old new : Network) (arc : Arc) → OnOk r (new.arcs ≡ (with_arc old arc.from arc.to arc.length).arcs) → OnErr r (new ≡ unchanged old) → All (λ a. a.length < 2 ^ 32) old.arcs → arc.length < 2 ^ 32 → All (λ a. a.length < 2 ^ 32) new.arcs
 all_after (Ok x) old new arc ok err all short = rw ok (All-push (λ (a : Arc). a.length < 2 ^ 32) old.arcs arc all short)
 all_after (Err x) old new arc ok err all short = rw err all
 

@@ -1,4 +1,4 @@
-use Rattle.std.proofs.Common.{◌≡◌, ◌≤◌, sym, ◌∙◌, arith}
+use Rattle.std.proofs.Common.{sym, ◌∙◌, arith}
 use Rattle.incremental_paths.proofs.Tracing.{no_way}
 use Rattle.incremental_paths.proofs.back.find_way.Goals as goal
 

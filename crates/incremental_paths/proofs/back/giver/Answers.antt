@@ -1,8 +1,8 @@
-use Rattle.std.proofs.Common.{◌≡◌, ◌≢◌, ℕ, ◌+◌, ◌<◌, ◌-◌, ◌^◌, length, get_or, refl, sym, ap, ◌∙◌, subst, arith, Contains}
+use Rattle.std.proofs.Common.{◌≢◌, ◌+◌, ◌<◌, ◌-◌, get_or, ap, subst, arith}
 use Rattle.std.proofs.lemmas.List.{get_or_default}
 use Rattle.incremental_paths.specs.declared.arc.Arc.{Arc}
 use Rattle.incremental_paths.specs.Threaded.{Threaded}
-use Rattle.incremental_paths.proofs.Threading.{at_last, at_next, none_first, ends_next, key_here, in_arcs}
+use Rattle.incremental_paths.proofs.Threading.{at_last, at_next, none_first, ends_next, in_arcs}
 use Rattle.incremental_paths.proofs.Pairs.{contains_at}
 use Rattle.incremental_paths.proofs.Tracing.{arc_bound, own_lower}
 use Rattle.incremental_paths.proofs.back.giver.Goals as goal

@@ -1,4 +1,4 @@
-use Rattle.std.proofs.Common.{◌≡◌, ◌+◌, ◌<◌, get_or, length, arith}
+use Rattle.std.proofs.Common.{arith}
 use Rattle.incremental_paths.proofs.Tracing.{traced_none, traced_more, gives_joined}
 use Rattle.incremental_paths.proofs.back.walk_back.Goals as goal
 

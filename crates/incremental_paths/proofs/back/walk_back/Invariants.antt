@@ -1,4 +1,4 @@
-use Rattle.std.proofs.Common.{◌≡◌, ◌<◌, length, get_or}
+use Rattle.std.proofs.Common.{◌<◌, length, get_or}
 use Rattle.incremental_paths.proofs.Tracing.{IsTraced, AddsUp}
 use Rattle.incremental_paths.proofs.back.walk_back.Given as goal
 

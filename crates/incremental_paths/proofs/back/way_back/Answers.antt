@@ -1,4 +1,4 @@
-use Rattle.std.proofs.Common.{◌≡◌, ◌+◌, ◌<◌, ◌≤◌, get_or, length, arith}
+use Rattle.std.proofs.Common.{get_or, arith}
 use Rattle.incremental_paths.proofs.Members.{joined}
 use Rattle.incremental_paths.proofs.Tracing.{traced_more, comes_back, step_up}
 use Rattle.incremental_paths.proofs.back.way_back.Goals as goal

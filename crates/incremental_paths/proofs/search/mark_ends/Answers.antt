@@ -1,9 +1,8 @@
-use Rattle.std.proofs.Common.{◌≡◌, ℕ, ◌<◌, ◌-◌, inl, inr, true, false, length, get_or, set, get_or-set_same, refl, sym, ap, ◌∙◌, arith}
+use Rattle.std.proofs.Common.{◌≡◌, ◌<◌, ◌-◌, inl, inr, true, false, length, get_or, set, get_or-set_same, refl, sym, ap, ◌∙◌, arith}
 use Rattle.incremental_paths.specs.declared.arc.Arc.{Arc}
 use Rattle.std.proofs.lemmas.List.{get_or_default, length-set}
 use Rattle.incremental_paths.specs.Ordered.{is_marked}
 use Rattle.incremental_paths.specs.Threaded.{Threaded}
-use Rattle.incremental_paths.specs.Marked.{begins}
 use Rattle.incremental_paths.proofs.Threading.{at_last, at_next, none_first, ends_next, key_here, in_arcs}
 use Rattle.incremental_paths.proofs.Marking.{set_still, set_only}
 use Rattle.incremental_paths.proofs.search.mark_ends.Goals as goal

@@ -1,4 +1,4 @@
-use Rattle.std.proofs.Common.{◌≡◌, ℕ, ◌+◌, ◌<◌, length, get_or, true, sym, ap, ◌∙◌, subst, arith}
+use Rattle.std.proofs.Common.{◌≡◌, ℕ, ◌<◌, length, get_or, sym, ap, ◌∙◌, subst, arith}
 use Rattle.incremental_paths.specs.Marked.{AreMarks}
 use Rattle.incremental_paths.proofs.Marking.{marks_kept, marks_more}
 use Rattle.incremental_paths.proofs.search.mark_from.Goals as goal

@@ -1,4 +1,4 @@
-use Rattle.std.proofs.Common.{◌≡◌, ◌+◌, ◌<◌, ◌≤◌, ◌∙◌, length, arith}
+use Rattle.std.proofs.Common.{◌≡◌, ◌+◌, ◌∙◌}
 use Rattle.incremental_paths.proofs.Lifting.{lifted_nodes, lifted_long, lifted_apart, lifted_within, lifted_front, lifted_rest, lifted_ordered, lifted_is, lifted_written, lifted_fits}
 use Rattle.incremental_paths.proofs.shifts.lift_marked.Goals as goal
 use Rattle.incremental_paths.proofs.shifts.lift_marked.Goals.{After-write_from}

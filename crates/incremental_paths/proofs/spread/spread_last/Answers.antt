@@ -1,7 +1,5 @@
-use Rattle.std.proofs.Common.{◌≡◌, ◌<◌, ◌+◌, ◌∷◌, ◌++◌, [], List, ℕ, length, get_or, ap, sym, subst, arith}
+use Rattle.std.proofs.Common.{◌<◌, length, get_or, ap, sym, subst, arith}
 use Rattle.incremental_paths.specs.declared.arc.Arc.{Arc}
-use Rattle.incremental_paths.specs.Spread.{AreReached}
-use Rattle.incremental_paths.specs.Marked.{AreRising}
 use Rattle.incremental_paths.proofs.Telling.{tells_both}
 use Rattle.incremental_paths.proofs.Pushing.{nodes_more, nodes_none, waiting_last}
 use Rattle.incremental_paths.proofs.Spreading.{reached_fits, reached_one, one_grows, one_spread, last_in}
@@ -27,7 +25,7 @@ settle-requires-clause-reached c =
 pub settle-requires-clause-told : goal.settle-requires-clause-told
 settle-requires-clause-told c =
     nodes_more c.args.changes.now c.raise_end.new.changes c.args.lengths.now c.raise_end.new.lengths (length c.raise_end.new.lengths)
-    (nodes_none c.args.changes.now (length c.raise_end.new.lengths) c.requires.cleared) (sym c.raise_end.ensures.tells.sized) c.raise_end.ensures.tells
+    (nodes_none c.args.changes.now (length c.raise_end.new.lengths) (length c.args.lengths.now) c.requires.cleared) (sym c.raise_end.ensures.tells.sized) c.raise_end.ensures.tells
 
 pub settle-requires-clause-waiting : goal.settle-requires-clause-waiting
 settle-requires-clause-waiting c =
@@ -40,7 +38,7 @@ settle-requires-clause-waiting c =
     let within = c.requires.within has.0 arc has.1 in
     let to : arc.to < length old = omega (arith, within.1, ap (λ (z : Arc). z.to) has.2) in
     let up : get_or places arc.from 0 < get_or places arc.to 0 = subst (λ (z : Arc). get_or places z.from 0 < get_or places z.to 0) has.2 (c.requires.rising has.0 arc has.1) in
-    waiting_last arcs c.requires.last.0 arc c.raise_end.new.changes old new c.args.changes.now c.requires.last.1 c.requires.cleared c.raise_end.ensures.tells
+    waiting_last arcs c.requires.last.0 arc c.raise_end.new.changes old new c.args.changes.now (length old) c.requires.last.1 c.requires.cleared c.raise_end.ensures.tells
     (one_grows arc old new to c.raise_end.ensures.spreads) c.requires.last.2
     (one_spread arc old new to (λ e. absurd (omega (arith, up, ap (λ z. get_or places z 0) e))) c.raise_end.ensures.spreads)
 

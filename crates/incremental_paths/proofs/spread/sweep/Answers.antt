@@ -1,4 +1,4 @@
-use Rattle.std.proofs.Common.{◌≡◌, ℕ, ◌<◌, length, get_or, sym, ap, ◌∙◌, arith}
+use Rattle.std.proofs.Common.{get_or, arith}
 use Rattle.incremental_paths.proofs.Telling.{tells_both}
 use Rattle.incremental_paths.proofs.Pushing.{swept_next}
 use Rattle.incremental_paths.proofs.spread.sweep.Goals as goal

@@ -1,4 +1,4 @@
-use Rattle.std.proofs.Common.{◌≡◌, ◌≤◌, length, drop}
+use Rattle.std.proofs.Common.{◌≡◌, ◌≤◌, drop}
 use Rattle.incremental_paths.specs.Spread.{restored}
 use Rattle.incremental_paths.proofs.trail.put_back.Given as goal
 

@@ -1,4 +1,4 @@
-use Rattle.std.proofs.Common.{◌≡◌, ◌+◌, ◌-◌, length, take}
+use Rattle.std.proofs.Common.{◌≡◌, ◌+◌, length, take}
 use Rattle.incremental_paths.proofs.trail.shorten.Given as goal
 
 abbrev pub invariant-loop : goal.invariant-loop

@@ -1,13 +1,15 @@
-use Rattle.std.proofs.Common.{◌≡◌, ◌+◌, ◌<◌, ◌∷◌, ◌++◌, [], length, get_or, false, refl, sym, ap, ◌∙◌, subst, arith}
+use Rattle.std.proofs.Common.{◌≡◌, ◌+◌, ◌<◌, ◌∷◌, ◌++◌, [], length, refl, ap, ◌∙◌, arith}
 use Rattle.std.proofs.lemmas.Result.{err_from_is_err_and}
 use Rattle.std.proofs.lemmas.List.{length-append}
 use Rattle.std.proofs.lemmas.List.Elements.{All-push}
 use Rattle.incremental_paths.specs.declared.arc.Arc.{Arc}
 use Rattle.incremental_paths.specs.Walks.{HasCycle}
 use Rattle.incremental_paths.specs.Marked.{AreRising}
-use Rattle.incremental_paths.specs.Spread.{WalksFit, TellsMore}
+use Rattle.incremental_paths.specs.Spread.{WalksFit}
 use Rattle.incremental_paths.proofs.Reordering.{rising_free}
 use Rattle.incremental_paths.proofs.KeptFields.{longest_spread, longest_reached, reached_more, fits_from_short, kept_more, written_back}
+use Rattle.incremental_paths.proofs.Longer.{changed_told}
+use Rattle.incremental_paths.proofs.Tracing.{spread_lengths}
 use Rattle.incremental_paths.proofs.paths.Paths.add.Goals as goal
 use Rattle.incremental_paths.proofs.paths.Paths.add.Goals.{In_default}
 
@@ -55,7 +57,7 @@ returns-clause-closes c =
 pub spread_last-requires-clause-within : goal.spread_last-requires-clause-within
 spread_last-requires-clause-within c =
     let f = c.self.inside in
-    let k = c.self.invariant in
+    let k = c.self.invariant.0 in
     let from : c.args.from < length f.lowers.items = rw (← c.self.view_is) at c.requires.from in
     let to : c.args.to < length f.lowers.items = rw (← c.self.view_is) at c.requires.to in
     let arc : Arc = record { from = c.args.from; to = c.args.to; length = c.args.length } in
@@ -65,7 +67,7 @@ pub spread_last-requires-clause-reached : goal.spread_last-requires-clause-reach
 unfolding arc
 spread_last-requires-clause-reached c =
     let f = c.self.inside in
-    let k = c.self.invariant in
+    let k = c.self.invariant.0 in
     let d = (goal.at.spread_last-requires-clause-reached c).In_default in
     rw (c.deref-2.ensures.value, c.deref_mut.ensures.value, c.in_ok-keep_arc.ensures.arcs)
     (f.lowers.items, reached_more f.lowers.items f.arcs.items (arc d) f.lengths.items (longest_reached f.lowers.items f.arcs.items f.lengths.items k.a_length_each k.longest), fit d)
@@ -73,14 +75,14 @@ spread_last-requires-clause-reached c =
 pub spread_last-requires-clause-last : goal.spread_last-requires-clause-last
 spread_last-requires-clause-last c =
     let f = c.self.inside in
-    let k = c.self.invariant in
+    let k = c.self.invariant.0 in
     rw (c.deref-2.ensures.value, c.deref_mut.ensures.value, c.in_ok-keep_arc.ensures.arcs) (f.arcs.items, refl, longest_spread f.lowers.items f.arcs.items f.lengths.items k.within k.longest)
 
 pub invariant_of-self-2 : goal.invariant_of-self-2
 unfolding arc
 invariant_of-self-2 c =
     let f = c.self.inside in
-    let k = c.self.invariant in
+    let k = c.self.invariant.0 in
     let d = (goal.at.invariant_of-self-2 c).In_default in
     let from : c.args.from < length f.lowers.items = rw (← c.self.view_is) at c.requires.from in
     let to : c.args.to < length f.lowers.items = rw (← c.self.view_is) at c.requires.to in
@@ -92,6 +94,27 @@ invariant_of-self-2 c =
     let choice = rw (c.in_ok-reserve.ensures.items) at c.keep_changes-self-inside.ensures in
     let start : c.len-start.result ≡ length f.trail.items = omega (arith, c.len-start.ensures, c.in_ok-reserve.ensures.len, f.trail.ok.0) in
     let count : c.len-count.result ≡ length f.arcs.items + 1 = omega (arith, c.len-count.ensures, c.keep_arc.new.arcs.ok.0, ap length c.in_ok-keep_arc.ensures.arcs, length-append f.arcs.items (arc d ∷ [])) in
-    rw (c.in_ok-keep_arc.ensures.arcs, c.in_ok-keep_arc.ensures.starts, c.in_ok-keep_arc.ensures.begun, c.in_ok-keep_arc.ensures.ended, start, written_back f.lengths.items c.spread_last.new.lengths f.lengths.len same)
-    (kept_more f.lowers.items f.arcs.items f.begun f.ended f.order f.marks f.lengths.items f.trail.items f.starts.items f.stale c.self.invariant (arc d) c.order_with.new.order c.order_with.new.marks c.spread_last.new.lengths c.spread_last.new.changes c.keep_changes-self-inside.new.trail.items c.keep_changes-self-inside.result c.len-count.result tells
-    from to (c.order_with.ensures.size ∙ k.a_place_each) (c.order_with.ensures.marks ∙ k.a_mark_each) (rising d) (fit d) (reached f.lowers.items before) spread count choice)
+    rw (c.in_ok-keep_arc.ensures.arcs, c.in_ok-keep_arc.ensures.starts, c.in_ok-keep_arc.ensures.begun, c.in_ok-keep_arc.ensures.ended, start, written_back f.lengths.items c.spread_last.new.lengths f.lengths.len same) (
+      kept_more f.lowers.items f.arcs.items f.begun f.ended f.order f.marks f.lengths.items f.trail.items f.starts.items f.stale f.changes.grown.size c.self.invariant.0 (arc d) c.order_with.new.order c.order_with.new.marks c.spread_last.new.lengths c.spread_last.new.changes c.keep_changes-self-inside.new.trail.items c.keep_changes-self-inside.result c.len-count.result tells
+          from to (c.order_with.ensures.size ∙ k.a_place_each) (c.order_with.ensures.marks ∙ k.a_mark_each) (rising d) (fit d) (reached f.lowers.items before) spread count choice,
+      tt,
+    )
+
+pub returns-clause-changed : goal.returns-clause-changed
+unfolding arc
+returns-clause-changed c =
+    let f = c.self.inside in
+    let k = c.self.invariant.0 in
+    let d = (goal.at.returns-clause-changed c).In_default in
+    let from : c.args.from < length f.lowers.items = rw (← c.self.view_is) at c.requires.from in
+    let to : c.args.to < length f.lowers.items = rw (← c.self.view_is) at c.requires.to in
+    let before = reached_more f.lowers.items f.arcs.items (arc d) f.lengths.items (longest_reached f.lowers.items f.arcs.items f.lengths.items k.a_length_each k.longest) in
+    let reached = rw (c.deref-2.ensures.value, c.deref_mut.ensures.value, c.in_ok-keep_arc.ensures.arcs) at c.spread_last.ensures.reached in
+    let spread = rw (c.deref-2.ensures.value, c.in_ok-keep_arc.ensures.arcs) at c.spread_last.ensures.spread in
+    let tells = rw (c.clear.ensures, c.deref_mut.ensures.value) at c.spread_last.ensures.tells in
+    let arcs = f.arcs.items ++ arc d ∷ [] in
+    let within = All-push (λ (z : Arc). (z.from < length f.lowers.items) × (z.to < length f.lowers.items)) f.arcs.items (arc d) k.within (from, to) in
+    rw (← c.self.view_is, c.in_ok-keep_arc.ensures.arcs)
+    (changed_told f.lowers.items f.arcs.items f.lengths.items k.longest (rising_free f.arcs.items f.order k.rising) k.within
+    f.lowers.items arcs c.spread_last.new.lengths (spread_lengths f.lowers.items arcs c.spread_last.new.lengths (reached f.lowers.items before) spread) (rising_free arcs c.order_with.new.order (rising d)) within
+    refl k.a_length_each f.changes.grown.size c.spread_last.new.changes tells f.changes.grown.listed)
