@@ -72,7 +72,7 @@ same_events e f time train operation =
     let third : ℕ → Event = λ n. record { time = f.time; train = f.train; operation = n } in
     ap first time ∙ ap second train ∙ ap third operation
 
-in_some_order : (e f : Event) → (e ≡ f) ⊎ (ComesBefore e f ⊎ ComesBefore f e)
+pub in_some_order : (e f : Event) → (e ≡ f) ⊎ (ComesBefore e f ⊎ ComesBefore f e)
 in_some_order e f = elim (compare e.time f.time) [
   | inl lt ↦ inr (inl (inl lt))
   | inr rest ↦ elim rest [

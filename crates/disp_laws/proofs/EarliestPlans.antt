@@ -19,13 +19,13 @@ use Rattle.disp_laws.proofs.LongestSteps.{longest_step}
 
 -- ---- places in a list of events
 
-get_taken : (plan : List Event) (i k : ℕ) (e : Event) → slice_get (take i plan) k ≡ Some e → (k < i) × (slice_get plan k ≡ Some e)
+pub get_taken : (plan : List Event) (i k : ℕ) (e : Event) → slice_get (take i plan) k ≡ Some e → (k < i) × (slice_get plan k ≡ Some e)
 get_taken plan zero k e at = absurd (none-some e at)
 get_taken [] (suc i) k e at = absurd (none-some e at)
 get_taken (f ∷ plan) (suc i) zero e at = (omega arith, at)
 get_taken (f ∷ plan) (suc i) (suc k) e at = let later = get_taken plan i k e at in (omega (arith, later.0), later.1)
 
-taken_get : (plan : List Event) (i k : ℕ) (e : Event) → k < i → slice_get plan k ≡ Some e → slice_get (take i plan) k ≡ Some e
+pub taken_get : (plan : List Event) (i k : ℕ) (e : Event) → k < i → slice_get plan k ≡ Some e → slice_get (take i plan) k ≡ Some e
 taken_get plan zero k e lt at = absurd (omega arith)
 taken_get [] (suc i) k e lt at = absurd (none-some e at)
 taken_get (f ∷ plan) (suc i) zero e lt at = at
@@ -133,7 +133,7 @@ also_there node plan other i e earliest too at =
     let same = same_events found.1 e time found.2.1.train found.2.1.operation in
     (found.0, found.2.0 ∙ ap (λ (g : Event). Some g) same)
 
-not_before_itself : (e : Event) → ComesBefore e e → ⊥
+pub not_before_itself : (e : Event) → ComesBefore e e → ⊥
 not_before_itself e (inl lt) = omega (arith, lt)
 not_before_itself e (inr (same, inl lt)) = omega (arith, lt)
 not_before_itself e (inr (same, inr (train, lt))) = omega (arith, lt)

@@ -7,12 +7,12 @@
 #![tactic(auto)]
 
 mod arrange;
-mod earliest;
 mod order;
+mod plan;
 mod stop;
 mod stops;
 
-pub use earliest::earliest;
+pub use plan::earliest;
 
 #[cfg(test)]
 mod tests;
