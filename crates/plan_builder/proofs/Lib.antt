@@ -1,0 +1,4 @@
+pub mod Counting
+pub mod Blocking
+pub mod Leaving
+pub mod Ordering

@@ -1,5 +1,5 @@
 -- Routes for the trains of a problem, and paths that show a node of the search.
-use Rattle.std.specs.Prelude.{◌≡◌, ℕ, ◌<◌, List, [], length, Contains, slice_index_or}
+use Rattle.std.specs.Prelude.{◌≡◌, ℕ, ◌<◌, List, [], ◌∷◌, length, Contains, slice_index_or}
 use Rattle.disp_model.specs.declared.train.Op.{Op}
 use Rattle.disp_model.specs.declared.train.Operation.{Operation}
 use Rattle.disp_model.specs.Train.{IsRoute}
@@ -9,7 +9,7 @@ use Rattle.disp_model.specs.Routes.{HasOneRoute, IsForced}
 use Rattle.disp_model.specs.Arcs.{HasArc}
 use Rattle.disp_model.specs.Walks as of_node
 use Rattle.incremental_paths.specs.declared.arc.Arc.{Arc}
-use Rattle.incremental_paths.specs.Walks.{IsLongest, Leads}
+use Rattle.incremental_paths.specs.Walks.{IsLongest, Follows, last_from}
 use Rattle.incremental_paths.specs.Network.{Network}
 
 -- a route for each train
@@ -21,10 +21,17 @@ pub record FitTrains (trains : List (List Operation)) (routes : List (List ℕ))
 abbrev pub AreOnlyRoutes : Node → List (List ℕ) → Type 0
 AreOnlyRoutes node routes = (t : ℕ) → t < length node.problem.trains → HasOneRoute node t (slice_index_or routes t [])
 
+-- one arc or more leads from one node to the other
+pub record HasWay (arcs : List Arc) (from to : ℕ) : Type 0 where
+  pub next : ℕ
+  pub rest : List ℕ
+  pub follows : Follows arcs from (next ∷ rest)
+  pub ends : last_from next rest ≡ to
+
 -- the nodes of the network, by the numbers of the operations, have the lengths of the node's walks; each arc of
 -- the network stands for one of the node, and along arcs of the network a way leads wherever an arc of the node does
 pub record ShowsNode (node : Node) (network : Network) : Type 0 where
   pub longest : (o : Op) (total : ℕ) → IsForced node o → IsLongest network.lowers network.arcs (number_of node.problem o) total → of_node.IsLongest node o total
   pub sound : (arc : Arc) → Contains network.arcs arc
       → (u : Op) × (v : Op) × HasArc node u v × (arc.from ≡ number_of node.problem u) × (arc.to ≡ number_of node.problem v)
-  pub complete : (u v : Op) → HasArc node u v → (way : List ℕ) × Leads network.arcs (number_of node.problem u) (number_of node.problem v) way
+  pub complete : (u v : Op) → HasArc node u v → HasWay network.arcs (number_of node.problem u) (number_of node.problem v)
