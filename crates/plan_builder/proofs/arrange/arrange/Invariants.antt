@@ -8,5 +8,6 @@ abbrev pub invariant-loop : goal.invariant-loop
 invariant-loop l = record {
   left : IsLeft l.paths l.rest.items l.waiting.items;
   same : IsPermutation l.fn.stops.items (l.plan.items ++ l.rest.items);
+  count : length l.rest.items + l.counter ≡ l.count;
   arranged : AreArranged l.paths.arcs l.plan.items l.rest.items;
 }
