@@ -2,8 +2,8 @@
 use Rattle.std.proofs.Common.{◌≡◌, ◌≢◌, ℕ, zero, suc, ◌+◌, ◌<◌, ◌≤◌, List, [], ◌∷◌, length, Some, refl, sym, ap, ◌∙◌, arith, inl, inr, Contains}
 use Rattle.std.specs.Prelude.{slice_get, sum_by, ◌==◌, if◌then◌else◌}
 use Rattle.std.specs.List.Sorted.{IsPermutation}
-use Rattle.std.proofs.lemmas.Bool.{cases_lt, eq-eqb}
-use Rattle.std.proofs.lemmas.Option.{none-some, same_Some}
+use Rattle.std.proofs.lemmas.Bool.{cases_lt, cases_eq, eq-eqb, ne_eqb}
+use Rattle.std.proofs.lemmas.Option.{none-some, same_Some, slice_get-get_or}
 use Rattle.std.proofs.lemmas.List.Sums.{sum_by-cons}
 use Rattle.std.proofs.lemmas.List.Sorted.{sum_by-IsPermutation}
 use Rattle.plan_builder.specs.declared.stop.Stop.{Stop}
@@ -14,6 +14,9 @@ one_at k s = if s.node == k then 1 else 0
 
 at_own : (k : ℕ) (s : Stop) → s.node ≡ k → one_at k s ≡ 1
 at_own k s same = rw (eq-eqb s.node k same) refl
+
+at_other : (k : ℕ) (s : Stop) → s.node ≢ k → one_at k s ≡ 0
+at_other k s differs = rw (ne_eqb s.node k differs) refl
 
 pub count_cons : (k : ℕ) (s : Stop) (stops : List Stop) → count_at k (s ∷ stops) ≡ one_at k s + count_at k stops
 count_cons k s stops = sum_by-cons (one_at k) s stops
@@ -58,3 +61,21 @@ apart s stops once r there same = omega (arith, count_cons s.node s stops, at_ow
 
 pub once_rest : (s : Stop) (stops : List Stop) → AreOnce (s ∷ stops) → AreOnce stops
 once_rest s stops once k = omega (arith, count_cons k s stops, once k)
+
+-- ---- none twice where no operation is
+
+none_counted : (k : ℕ) (stops : List Stop) → ((r : Stop) → Contains stops r → r.node ≢ k) → count_at k stops ≡ 0
+none_counted k [] none = refl
+none_counted k (s ∷ stops) none =
+    omega (arith, count_cons k s stops, at_other k s (none s (0, omega arith, refl)), none_counted k stops (λ r there. none r (suc there.0, omega (arith, there.1), there.2)))
+
+-- at most one at each node, where the node tells the stop's name, and no name stands twice
+pub once_named : {X : Type 0} (name : Stop → X) (stops : List Stop) → ((s r : Stop) → Contains stops s → Contains stops r → s.node ≡ r.node → name s ≡ name r) → ((i j : ℕ) (s r : Stop) → i < j → slice_get stops i ≡ Some s → slice_get stops j ≡ Some r → name s ≢ name r) → AreOnce stops
+once_named name [] told apart k = omega arith
+once_named name (s ∷ stops) told apart k = elim (cases_eq s.node k) [
+  | inl same ↦ omega (arith, count_cons k s stops, at_own k s same, none_counted k stops (λ r there is.
+      apart 0 (suc there.0) s r (omega arith) refl (slice_get-get_or stops there.0 r there.1 ∙ ap (λ (x : Stop). Some x) there.2) (told s r (0, omega arith, refl) (suc there.0, omega (arith, there.1), there.2) (same ∙ sym is))))
+  | inr differs ↦ omega (arith, count_cons k s stops, at_other k s differs, once_named name stops
+      (λ x y one other is. told x y (suc one.0, omega (arith, one.1), one.2) (suc other.0, omega (arith, other.1), other.2) is)
+      (λ i j x y lt one other. apart (suc i) (suc j) x y (omega (arith, lt)) one other) k)
+]
