@@ -73,9 +73,19 @@ none_counted k (s ∷ stops) none =
 pub once_named : {X : Type 0} (name : Stop → X) (stops : List Stop) → ((s r : Stop) → Contains stops s → Contains stops r → s.node ≡ r.node → name s ≡ name r) → ((i j : ℕ) (s r : Stop) → i < j → slice_get stops i ≡ Some s → slice_get stops j ≡ Some r → name s ≢ name r) → AreOnce stops
 once_named name [] told apart k = omega arith
 once_named name (s ∷ stops) told apart k = elim (cases_eq s.node k) [
-  | inl same ↦ omega (arith, count_cons k s stops, at_own k s same, none_counted k stops (λ r there is.
-      apart 0 (suc there.0) s r (omega arith) refl (slice_get-get_or stops there.0 r there.1 ∙ ap (λ (x : Stop). Some x) there.2) (told s r (0, omega arith, refl) (suc there.0, omega (arith, there.1), there.2) (same ∙ sym is))))
-  | inr differs ↦ omega (arith, count_cons k s stops, at_other k s differs, once_named name stops
-      (λ x y one other is. told x y (suc one.0, omega (arith, one.1), one.2) (suc other.0, omega (arith, other.1), other.2) is)
-      (λ i j x y lt one other. apart (suc i) (suc j) x y (omega (arith, lt)) one other) k)
+  | inl same ↦ omega (
+    arith,
+    count_cons k s stops,
+    at_own k s same,
+    none_counted k stops (λ r there is.
+        apart 0 (suc there.0) s r (omega arith) refl (slice_get-get_or stops there.0 r there.1 ∙ ap (λ (x : Stop). Some x) there.2) (told s r (0, omega arith, refl) (suc there.0, omega (arith, there.1), there.2) (same ∙ sym is))),
+  )
+  | inr differs ↦ omega (
+    arith,
+    count_cons k s stops,
+    at_other k s differs,
+    once_named name stops
+        (λ x y one other is. told x y (suc one.0, omega (arith, one.1), one.2) (suc other.0, omega (arith, other.1), other.2) is)
+        (λ i j x y lt one other. apart (suc i) (suc j) x y (omega (arith, lt)) one other) k,
+  )
 ]

@@ -5,3 +5,4 @@ pub mod Ordering
 pub mod Listing
 pub mod Places
 pub mod Showing
+pub mod Trains

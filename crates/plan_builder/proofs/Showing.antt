@@ -76,7 +76,7 @@ module _ (problem : Problem) (network : Network) (routes : List (List ℕ)) (fit
       let once = ops_once 0 routes (λ k u lt. route_once (train_at problem k) u (get_or routes k []) (problem.well_formed.acyclic k [] (omega (arith, lt, fit.count))) (fit.each k (omega (arith, lt, fit.count)))) in
       let apart = from_once (ops_of stops) (subst Once (sym ops) once) in
       once_named (λ s. op_of s.event) stops told_apart (λ i j s r lt one other same.
-          apart i j (op_of r.event) lt (mapped_at (λ (s : Stop). op_of s.event) stops i s one ∙ ap (λ (o : Op). Some o) same) (mapped_at (λ (s : Stop). op_of s.event) stops j r other))
+      apart i j (op_of r.event) lt (mapped_at (λ (s : Stop). op_of s.event) stops i s one ∙ ap (λ (o : Op). Some o) same) (mapped_at (λ (s : Stop). op_of s.event) stops j r other))
 
 -- ---- what is arranged
 
@@ -228,9 +228,9 @@ module _ (node : Node) (network : Network) (routes : List (List ℕ)) (fit : Fit
     each_run = λ o forced. (let at = place_of o forced in (at.1.event, stands_in events at.0 at.1.event (event_at at.0 at.1 at.2), starts o at.1 at.3));
     none_else = λ e there. in_plan e (stands_at events e there);
     none_twice = λ i j e f lt at there same. (
-      let one = event_from i e at in
-      let other = event_from j f there in
-      omega (arith, lt, one_place_each i j one.0 other.0 one.1 other.1 (ap op_of one.2 ∙ same ∙ sym (ap op_of other.2))));
+        let one = event_from i e at in
+        let other = event_from j f there in
+        omega (arith, lt, one_place_each i j one.0 other.0 one.1 other.1 (ap op_of one.2 ∙ same ∙ sym (ap op_of other.2))));
     ordered = λ i e at. (let found = event_from i e at in subst (IsNext node (take i events) (drop i events)) found.2 (next_at i found.0 found.1));
   }
     where

@@ -70,7 +70,13 @@ pub fn stops_of(
     let mut stops = Vec::new(alloc);
     let mut first = 0;
     for (train, operations) in problem.trains.as_slice().iter().enumerate() {
-        push_stops(&mut stops, train as u32, first, routes[train].as_slice(), paths)?;
+        push_stops(
+            &mut stops,
+            train as u32,
+            first,
+            routes[train].as_slice(),
+            paths,
+        )?;
         first += operations.len() as u32;
     }
     Ok(stops)

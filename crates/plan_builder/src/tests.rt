@@ -1,5 +1,5 @@
 // The plans of two trains of two operations each, under arcs that order them.
-ghost use Rattle.std.specs.Prelude.{◌≡◌, ◌<◌, ◌^◌, [], ◌∷◌, None, IfOk, All, length};
+ghost use Rattle.std.specs.Prelude.{◌≡◌, ◌<◌, ◌^◌, [], ◌∷◌, None, IfOk, OnOk, All, length};
 
 use crate::earliest;
 use disp_model::{Event, List, Memory, Operation, Problem, Train};
@@ -60,18 +60,18 @@ fn both_routes(alloc: Global) -> Result<Vec<List<u32>>, Memory>
 }
 
 /// Adds an arc.
-fn add(rt: &impl Abort, paths: &mut Paths, from: u32, to: u32, length: u32) -> Result<(), Fail>
+fn add(rt: &impl Abort, paths: &mut Paths, from: u32, to: u32, by: u32) -> Result<(), Fail>
     requires nodes { length paths.old.lowers ≡ 4 }
     requires lowers { All (λ lower. lower < 2 ^ 32) paths.old.lowers }
     requires lengths { All (λ arc. arc.length < 2 ^ 32) paths.old.arcs }
-    ensures nodes { length paths.new.lowers ≡ 4 }
-    ensures lowers { All (λ lower. lower < 2 ^ 32) paths.new.lowers }
-    ensures lengths { All (λ arc. arc.length < 2 ^ 32) paths.new.arcs }
+    ensures nodes { OnOk result (length paths.new.lowers ≡ 4) }
+    ensures lowers { OnOk result (All (λ lower. lower < 2 ^ 32) paths.new.lowers) }
+    ensures lengths { OnOk result (All (λ arc. arc.length < 2 ^ 32) paths.new.arcs) }
 {
     let kept = paths.arcs().len();
     assert!(rt; kept < 1000);
     assert!(rt; from < 4 && to < 4);
-    assert!(rt; paths.add(from, to, u64::from(length)).is_ok());
+    paths.add(from, to, u64::from(by))?;
     Ok(())
 }
 
