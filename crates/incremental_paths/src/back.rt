@@ -128,8 +128,10 @@ pub fn comes_from_marked(arcs: &[Arc], ended: &Threads, marks: &[bool], node: u3
     requires ended { ended.now ≡ record { size = length marks.now; keys = ends arcs.now } }
     requires within { AreWithin (length marks.now) arcs.now }
     requires node { node < length marks.now }
-    ensures yes { IsTrue result → (u : ℕ) × IsJoined arcs.now u node × (is_marked marks.now u ≡ true) }
-    ensures no { result ≡ false → (u : ℕ) → IsJoined arcs.now u node → is_marked marks.now u ≡ false }
+    ensures yes { IsTrue result → (u : ℕ) × IsJoined arcs.now u node
+        × (is_marked marks.now u ≡ true) }
+    ensures no { result ≡ false → (u : ℕ) → IsJoined arcs.now u node
+        → is_marked marks.now u ≡ false }
 {
     let mut front = ended.last(node);
     while front > 0 {

@@ -220,8 +220,10 @@ impl Paths {
     pub fn is_entered_from(&self, node: u32, marks: &[bool]) -> bool
         requires node { IsNode self.now node }
         requires marks { length marks.now ≡ length self.now.lowers }
-        ensures yes { IsTrue result → (u : ℕ) × IsJoined self.now.arcs u node × (is_marked marks.now u ≡ true) }
-        ensures no { result ≡ false → (u : ℕ) → IsJoined self.now.arcs u node → is_marked marks.now u ≡ false }
+        ensures yes { IsTrue result → (u : ℕ) × IsJoined self.now.arcs u node
+            × (is_marked marks.now u ≡ true) }
+        ensures no { result ≡ false → (u : ℕ) → IsJoined self.now.arcs u node
+            → is_marked marks.now u ≡ false }
 
         // Of the marked nodes the one at the lowest place is entered from none.
         ensures rising { (places : List ℕ) × AreRising self.now.arcs places }

@@ -1,6 +1,5 @@
 -- What is left where a stop is taken out, and what is arranged then.
-use Rattle.std.proofs.Common.{◌≡◌, ◌≢◌, ℕ, zero, suc, ◌+◌, ◌<◌, ◌≤◌, Bool, true, false, List, [], ◌∷◌, ◌++◌, length, get_or, take, set, refl, sym, ap, subst, ◌∙◌, arith, inl, inr, Contains, get_or-set_other, get_or-set_same}
-use Rattle.std.specs.Prelude.{AllPairs, All}
+use Rattle.std.proofs.Common.{◌≡◌, ◌≢◌, ℕ, ◌+◌, ◌<◌, Bool, true, false, List, [], ◌∷◌, ◌++◌, length, get_or, take, set, sym, ap, subst, ◌∙◌, arith, inl, inr, Contains, get_or-set_other, get_or-set_same}
 use Rattle.std.specs.List.{remove}
 use Rattle.std.specs.List.Sorted.{IsPermutation}
 use Rattle.std.proofs.lemmas.Bool.{cases_eq, false≢true}
@@ -10,11 +9,10 @@ use Rattle.std.proofs.lemmas.List.Quantifiers.{all_pairs_remove}
 use Rattle.std.proofs.lemmas.List.Sorted.{IsPermutation-refl, IsPermutation-sym, IsPermutation-cons, IsPermutation-remove, IsPermutation-pop_more, All-permutation, Contains-permutation}
 use Rattle.disp_model.specs.Earliest.{ComesBefore}
 use Rattle.incremental_paths.specs.declared.arc.Arc.{Arc}
-use Rattle.incremental_paths.specs.Ordered.{is_marked}
 use Rattle.incremental_paths.specs.Network.{Network}
 use Rattle.incremental_paths.proofs.Members.{Contains-cons_cases, Contains-there}
 use Rattle.plan_builder.specs.declared.stop.Stop.{Stop}
-use Rattle.plan_builder.specs.Stops.{AreOnce, AreWaiting, IsBlocked, IsFirstFree, AreArranged, IsLeft}
+use Rattle.plan_builder.specs.Stops.{AreOnce, AreWaiting, IsFirstFree, AreArranged, IsLeft}
 use Rattle.plan_builder.proofs.Counting.{once_moved, once_rest, apart}
 
 -- ---- what is left

@@ -1,6 +1,6 @@
 -- The operations of the trains' routes, in a list.
-use Rattle.std.proofs.Common.{◌≡◌, ℕ, zero, suc, ◌+◌, ◌-◌, ◌<◌, ◌≤◌, List, [], ◌∷◌, ◌++◌, length, get_or, take, drop, map, refl, sym, ap, subst, ◌∙◌, arith, inl, inr, Contains}
-use Rattle.std.specs.Prelude.{All, sum_by, ◌⊎◌}
+use Rattle.std.proofs.Common.{◌≡◌, ℕ, zero, suc, ◌+◌, ◌<◌, List, [], ◌∷◌, ◌++◌, length, get_or, take, drop, map, sym, ap, subst, ◌∙◌, arith, inl, inr, Contains}
+use Rattle.std.specs.Prelude.{All, sum_by}
 use Rattle.std.proofs.lemmas.List.{map-append, map_more, append_assoc, drop_more}
 use Rattle.std.proofs.lemmas.List.Elements.{Contains-get_or}
 use Rattle.disp_model.specs.declared.train.Op.{Op}
@@ -12,7 +12,7 @@ use Rattle.disp_model.specs.Numbers.{number_of}
 use Rattle.disp_model.specs.Valid.{train_at}
 use Rattle.disp_model.specs.Earliest.{op_of}
 use Rattle.disp_laws.proofs.Numbered.{below_count}
-use Rattle.disp_laws.proofs.Paths.{IsIn, is_in, contains_in, never_again}
+use Rattle.disp_laws.proofs.Paths.{IsIn, is_in, never_again}
 use Rattle.disp_laws.proofs.RouteSearch.{each_within}
 use Rattle.disp_laws.proofs.LongestArcs.{same_ops}
 use Rattle.disp_laws.proofs.LongestWalks.{Among, Once, among_append_left, among_append_right}

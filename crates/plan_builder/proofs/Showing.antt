@@ -1,5 +1,5 @@
 -- What is arranged is the plan of earliest starts of each node that the paths show.
-use Rattle.std.proofs.Common.{◌≡◌, ◌≢◌, ℕ, zero, suc, ◌+◌, ◌<◌, ◌≤◌, List, [], ◌∷◌, ◌++◌, length, get_or, take, drop, map, Some, refl, sym, ap, subst, ◌∙◌, arith, inl, inr, Contains}
+use Rattle.std.proofs.Common.{◌≡◌, ℕ, zero, suc, ◌<◌, ◌≤◌, List, [], ◌∷◌, ◌++◌, length, get_or, take, drop, map, Some, refl, sym, ap, subst, ◌∙◌, arith, inl, inr, Contains}
 use Rattle.std.specs.Prelude.{All, slice_get, ◌⊎◌}
 use Rattle.std.specs.List.Sorted.{IsPermutation}
 use Rattle.std.proofs.lemmas.Bool.{cases_lt}
@@ -21,19 +21,18 @@ use Rattle.disp_model.specs.Earliest.{op_of, ComesBefore, IsReady, IsNext, IsEar
 use Rattle.disp_laws.proofs.Paths.{IsIn, is_in, contains_in}
 use Rattle.disp_laws.proofs.Numbered.{numbers_apart}
 use Rattle.disp_laws.proofs.Picked.{same_op}
-use Rattle.disp_laws.proofs.LongestArcs.{same_ops}
-use Rattle.disp_laws.proofs.LongestWalks.{Among, Once, from_once, forced_within}
+use Rattle.disp_laws.proofs.LongestWalks.{Among, Once, from_once}
 use Rattle.disp_laws.proofs.EarliestExists.{in_some_order}
 use Rattle.disp_laws.proofs.EarliestPlans.{taken_get, get_taken}
 use Rattle.incremental_paths.specs.declared.arc.Arc.{Arc}
 use Rattle.incremental_paths.specs.Walks.{IsJoined, IsLongest, Follows, last_from}
 use Rattle.incremental_paths.specs.Network.{Network}
 use Rattle.plan_builder.specs.declared.stop.Stop.{Stop}
-use Rattle.plan_builder.specs.Shown.{FitTrains, AreOnlyRoutes, ShowsNode}
-use Rattle.plan_builder.specs.Stops.{IsStop, op_at, ops_from, AreOnce, IsBlocked, IsFirstFree, AreArranged}
+use Rattle.plan_builder.specs.Shown.{FitTrains, AreOnlyRoutes, StandsFor, ShowsNode}
+use Rattle.plan_builder.specs.Stops.{IsStop, ops_from, AreOnce, IsBlocked, IsFirstFree, AreArranged}
 use Rattle.plan_builder.proofs.Counting.{one_place, once_moved, once_named}
 use Rattle.plan_builder.proofs.Places.{stands_in, stands_at, stands_from, dropped_stands, mapped_at, from_mapped_at}
-use Rattle.plan_builder.proofs.Listing.{StandsOn, ops_among, among_ops, ops_once, route_once, route_inside}
+use Rattle.plan_builder.proofs.Listing.{ops_among, among_ops, ops_once, route_once, route_inside}
 
 abbrev ops_of : List Stop → List Op
 ops_of stops = map (λ s. op_of s.event) stops
@@ -130,11 +129,14 @@ module _ (node : Node) (network : Network) (routes : List (List ℕ)) (fit : Fit
     | inr le ↦ absurd ((first_free_at j r there).free (s, stands_from plan j i s le at, joined))
   ]
 
+  stands_for : (arc : Arc) → Contains network.arcs arc → StandsFor node arc
+  stands_for arc there = All-contains (StandsFor node) network.arcs arc shows.sound there
+
   joined_place : (u v : ℕ) → IsJoined network.arcs u v → (i : ℕ) × (s : Stop) × (slice_get plan i ≡ Some s) × (s.node ≡ v)
   joined_place u v (k, arc, lt, is, (from, to)) =
-      let sound = shows.sound arc (k, lt, is) in
-      let at = place_of sound.1 sound.2.1.to_forced in
-      (at.0, at.1, at.2, number_at at.0 at.1 sound.1 at.2 at.3 ∙ sym sound.4 ∙ to)
+      let own = stands_for arc (k, lt, is) in
+      let at = place_of own.v own.there.1.to_forced in
+      (at.0, at.1, at.2, number_at at.0 at.1 own.v at.2 at.3 ∙ sym own.to_is ∙ to)
 
   follows_order : (u : ℕ) (rest : List ℕ) (i j : ℕ) (s r : Stop) → slice_get plan i ≡ Some s → s.node ≡ u → slice_get plan j ≡ Some r → Follows network.arcs u rest → last_from u rest ≡ r.node → i ≤ j
   follows_order u [] i j s r at own there follows ends = let same = one_place plan i j s r once at there (own ∙ ends) in omega (arith, same)
@@ -186,18 +188,18 @@ module _ (node : Node) (network : Network) (routes : List (List ℕ)) (fit : Fit
   -- what is ready waits for none of those that are left
   free_at : (i j : ℕ) (s : Stop) → slice_get plan j ≡ Some s → IsReady node (take i events) s.event → IsBlocked network.arcs (drop i plan) s → ⊥
   free_at i j s there ready (other, left, (k, arc, lt, is, (from, to))) =
-      let sound = shows.sound arc (k, lt, is) in
+      let joins = stands_for arc (k, lt, is) in
       let at = dropped_stands plan i other left in
-      let begin = place_of sound.0 sound.2.1.from_forced in
-      let end = place_of sound.1 sound.2.1.to_forced in
-      let first = one_place plan at.0 begin.0 other begin.1 once at.2 begin.2 (sym from ∙ sound.3 ∙ sym (number_at begin.0 begin.1 sound.0 begin.2 begin.3)) in
-      let last = one_place plan j end.0 s end.1 once there end.2 (sym to ∙ sound.4 ∙ sym (number_at end.0 end.1 sound.1 end.2 end.3)) in
-      let own : op_of s.event ≡ sound.1 = ap (λ (x : Stop). op_of x.event) (same_Some s end.1 (sym there ∙ ap (slice_get plan) last ∙ end.2)) ∙ end.3 in
-      let stood = ready sound.0 (subst (HasArc node sound.0) (sym own) sound.2) in
+      let begin = place_of joins.u joins.there.1.from_forced in
+      let end = place_of joins.v joins.there.1.to_forced in
+      let first = one_place plan at.0 begin.0 other begin.1 once at.2 begin.2 (sym from ∙ joins.from_is ∙ sym (number_at begin.0 begin.1 joins.u begin.2 begin.3)) in
+      let last = one_place plan j end.0 s end.1 once there end.2 (sym to ∙ joins.to_is ∙ sym (number_at end.0 end.1 joins.v end.2 end.3)) in
+      let own : op_of s.event ≡ joins.v = ap (λ (x : Stop). op_of x.event) (same_Some s end.1 (sym there ∙ ap (slice_get plan) last ∙ end.2)) ∙ end.3 in
+      let stood = ready joins.u (subst (HasArc node joins.u) (sym own) joins.there) in
       let place = stands_at (take i events) stood.0 stood.1 in
       let taken = get_taken events i place.0 stood.0 place.1 in
       let stop = event_from place.0 stood.0 taken.1 in
-      let same = one_place_each place.0 begin.0 stop.0 begin.1 stop.1 begin.2 (ap op_of stop.2 ∙ same_op sound.0 stood.0 stood.2 ∙ sym begin.3) in
+      let same = one_place_each place.0 begin.0 stop.0 begin.1 stop.1 begin.2 (ap op_of stop.2 ∙ same_op joins.u stood.0 stood.2 ∙ sym begin.3) in
       omega (arith, taken.0, at.1, first, same)
 
   next_at : (i : ℕ) (s : Stop) → slice_get plan i ≡ Some s → IsNext node (take i events) (drop i events) s.event

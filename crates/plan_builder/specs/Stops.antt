@@ -1,4 +1,4 @@
--- The stops of the trains along their routes, and the order in which they come. For private clauses.
+-- The stops of the trains along their routes, and the order in which they come, for private clauses.
 use Rattle.std.specs.Prelude.{◌≡◌, ℕ, ◌+◌, ◌<◌, ◌≤◌, ◌==◌, Bool, true, List, [], ◌∷◌, ◌++◌, length, map, sum_by, All, AllPairs, Contains, if◌then◌else◌}
 use Rattle.disp_model.specs.declared.train.Op.{Op}
 use Rattle.disp_model.specs.declared.problem.Problem.{Problem}
@@ -44,17 +44,20 @@ pub record AreWaiting (stops : List Stop) (marks : List Bool) : Type 0 where
 
 -- an arc leads to the stop from one of these
 abbrev pub IsBlocked : List Arc → List Stop → Stop → Type 0
-IsBlocked arcs rest s = (other : Stop) × Contains rest other × IsJoined arcs other.node s.node
+IsBlocked arcs rest s =
+    (other : Stop) × Contains rest other × IsJoined arcs other.node s.node
 
 -- of those to which no arc leads from one of the rest, none comes before the stop, and it is one
 pub record IsFirstFree (arcs : List Arc) (rest : List Stop) (s : Stop) : Type 0 where
   pub free : IsBlocked arcs rest s → ⊥
-  pub first : (other : Stop) → Contains rest other → (IsBlocked arcs rest other → ⊥) → ComesBefore other.event s.event → ⊥
+  pub first : (other : Stop) → Contains rest other → (IsBlocked arcs rest other → ⊥)
+      → ComesBefore other.event s.event → ⊥
 
 -- each is the first free one of those from it on, which end with the rest
 abbrev pub AreArranged : List Arc → List Stop → List Stop → Type 0
 AreArranged arcs [] rest = Unit {0}
-AreArranged arcs (s ∷ plan) rest = IsFirstFree arcs (s ∷ plan ++ rest) s × AreArranged arcs plan rest
+AreArranged arcs (s ∷ plan) rest =
+    IsFirstFree arcs (s ∷ plan ++ rest) s × AreArranged arcs plan rest
 
 -- stops that are left, in falling order, and the marks on their nodes
 pub record IsLeft (network : Network) (rest : List Stop) (marks : List Bool) : Type 0 where

@@ -13,9 +13,18 @@ use disp_model::{List, Memory, Plan, Problem};
 use incremental_paths::Paths;
 use std::alloc::Global;
 
-/// The plan of earliest starts: `routes` is a route for each train, and node k of the paths the k-th
-/// operation of the problem, counted from 0, trains in order. It is the plan of every node of the search
-/// at which each train has that route alone, and whose arcs and lengths the paths show.
+/// The plan of earliest starts. `routes` is a route for each train, by the numbers that its
+/// operations have in the train. Node k of the paths is the k-th operation of the problem, counted
+/// from 0, trains in order.
+///
+/// The plan is that of each node of the search at which every train has that route alone, and whose
+/// arcs and lengths the paths show. It takes the time of a sort of the events, and of one look at
+/// each arc between them. Events of one time that wait for each other in turn are looked at again
+/// and again, at worst as often as there are pairs of them.
+///
+/// # Errors
+///
+/// `Memory` where memory runs out.
 pub fn earliest(
     alloc: Global,
     problem: &Problem,

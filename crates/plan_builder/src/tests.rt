@@ -33,7 +33,7 @@ fn two_steps(alloc: Global, min: u32) -> Result<Train, Memory>
     Ok(List::from_vec(vec![in alloc; first, second]?))
 }
 
-/// Two trains, whose first operations last 10 and 4. (What they list does not matter here.)
+/// Two trains, whose first operations last 10 and 4. What they list does not matter here.
 fn two_trains(alloc: Global) -> Result<Problem, Memory>
     ensures { IfOk result (λ problem. problem.trains
         ≡ (record { lower = 0; upper = None; min = 10; listings = []; next = 1 ∷ [] }
@@ -121,6 +121,11 @@ fn events_come_by_time_train_and_arcs(rt: HostRuntime) -> Result<(), Fail> {
     // The slow train first.
     let arcs = [(0, 1, 10), (2, 3, 4), (0, 2, 10), (1, 2, 0)];
     let plan = [(0, 0, 0), (10, 0, 1), (10, 1, 0), (14, 1, 1)];
+    compare(&rt, rt.alloc(), &arcs, &plan)?;
+
+    // All at one time: the second train overtakes the first; an arc may stand twice.
+    let arcs = [(3, 0, 0), (0, 1, 0), (2, 3, 0), (3, 0, 0)];
+    let plan = [(0, 1, 0), (0, 1, 1), (0, 0, 0), (0, 0, 1)];
     compare(&rt, rt.alloc(), &arcs, &plan)?;
     Ok(())
 }

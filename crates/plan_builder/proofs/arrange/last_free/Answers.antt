@@ -1,4 +1,4 @@
-use Rattle.std.proofs.Common.{◌≡◌, ◌<◌, ◌≤◌, ◌-◌, length, arith}
+use Rattle.std.proofs.Common.{◌-◌, arith}
 use Rattle.plan_builder.proofs.Blocking.{free_at, blocked_at, none_waits}
 use Rattle.plan_builder.proofs.arrange.last_free.Goals as goal
 

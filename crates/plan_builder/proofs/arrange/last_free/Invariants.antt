@@ -1,5 +1,5 @@
 -- the stops from the place on wait
-use Rattle.std.proofs.Common.{◌≡◌, ℕ, ◌<◌, ◌≤◌, List, length, slice_index_or}
+use Rattle.std.proofs.Common.{ℕ, ◌<◌, ◌≤◌, List, length, slice_index_or}
 use Rattle.incremental_paths.specs.Marked.{AreRising}
 use Rattle.plan_builder.specs.declared.stop.Stop.{Stop}
 use Rattle.plan_builder.specs.Stops.{IsBlocked}

@@ -1,4 +1,3 @@
-use Rattle.std.proofs.Common.{◌≡◌, ◌<◌, length}
 use Rattle.plan_builder.proofs.Blocking.{first_free}
 use Rattle.plan_builder.proofs.Leaving.{left_after}
 use Rattle.plan_builder.proofs.arrange.take_first.Goals as goal

@@ -1,4 +1,4 @@
-use Rattle.std.proofs.Common.{rules, ◌≡◌, ◌<◌, length}
+use Rattle.std.proofs.Common.{rules}
 use Rattle.std.proofs.lemmas.List.Sorted.{answers_always, IsPermutation-trans}
 use Rattle.plan_builder.proofs.Ordering.{falls}
 use Rattle.plan_builder.proofs.order.last_first.Goals as goal

@@ -1,4 +1,3 @@
-use Rattle.std.proofs.Common.{◌≡◌, ◌<◌, length}
 use Rattle.disp_model.specs.Node.{node_at}
 use Rattle.plan_builder.proofs.Showing.{stops_once, shown}
 use Rattle.plan_builder.proofs.plan.earliest.Goals as goal

@@ -1,4 +1,4 @@
-use Rattle.std.proofs.Common.{◌≡◌, ◌+◌, ◌<◌, length, arith}
+use Rattle.std.proofs.Common.{arith}
 use Rattle.std.proofs.lemmas.List.Elements.{All-push}
 use Rattle.plan_builder.specs.Stops.{IsStop}
 use Rattle.plan_builder.proofs.Listing.{ops_more, is_stop}

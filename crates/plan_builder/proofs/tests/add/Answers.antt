@@ -1,4 +1,4 @@
-use Rattle.std.proofs.Common.{◌≡◌, ◌^◌, ◌<◌, ◌∷◌, ◌++◌, [], length, ap, arith}
+use Rattle.std.proofs.Common.{◌^◌, ◌<◌, ◌∷◌, ◌++◌, [], length, ap, arith}
 use Rattle.std.proofs.lemmas.List.{length_push}
 use Rattle.std.proofs.lemmas.List.Elements.{All-push}
 use Rattle.incremental_paths.specs.declared.arc.Arc.{Arc}
