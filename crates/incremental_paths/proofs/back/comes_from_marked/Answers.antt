@@ -1,9 +1,9 @@
-use Rattle.std.proofs.Common.{◌≡◌, ◌≢◌, ℕ, ◌+◌, ◌<◌, ◌-◌, false, length, get_or, refl, sym, ap, ◌∙◌, subst, arith}
+use Rattle.std.proofs.Common.{◌≡◌, ◌<◌, ◌-◌, false, ap, ◌∙◌, arith}
 use Rattle.std.proofs.lemmas.List.{get_or_default}
 use Rattle.incremental_paths.specs.declared.arc.Arc.{Arc}
 use Rattle.incremental_paths.specs.Threaded.{Threaded}
 use Rattle.incremental_paths.specs.Ordered.{is_marked}
-use Rattle.incremental_paths.proofs.Threading.{at_last, at_next, none_first, ends_next, key_here, in_arcs}
+use Rattle.incremental_paths.proofs.Threading.{at_last, at_next, none_first, ends_next, in_arcs}
 use Rattle.incremental_paths.proofs.back.comes_from_marked.Goals as goal
 
 -- an element that no arc is

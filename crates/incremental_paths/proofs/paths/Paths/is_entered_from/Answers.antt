@@ -1,4 +1,3 @@
-use Rattle.std.proofs.Common.{◌≡◌, ◌<◌, length}
 use Rattle.incremental_paths.proofs.paths.Paths.is_entered_from.Goals as goal
 
 pub returns-clause-yes : goal.returns-clause-yes
