@@ -65,7 +65,7 @@ fn take_first(rest: &mut Vec<Stop>, waiting: &mut [bool], paths: &Paths) -> Stop
 }
 
 /// The stops in the order of their events, each behind those from which an arc leads to it.
-pub fn arrange(alloc: Global, stops: Vec<Stop>, paths: &Paths) -> Result<Vec<Stop>, Memory>
+pub(crate) fn arrange(alloc: Global, stops: Vec<Stop>, paths: &Paths) -> Result<Vec<Stop>, Memory>
     requires nodes { All (λ s. s.node < length paths.now.lowers) stops.items }
     requires once { AreOnce stops.items }
     ensures same { IfOk result (λ plan. IsPermutation stops.items plan.items) }

@@ -7,7 +7,7 @@ use disp_model::{Event, Memory};
 use std::alloc::Global;
 
 /// The stops in the order of their events, the last one first.
-pub fn last_first(mut stops: Vec<Stop>) -> Result<Vec<Stop>, Memory>
+pub(crate) fn last_first(mut stops: Vec<Stop>) -> Result<Vec<Stop>, Memory>
     ensures same { IfOk result (λ sorted. IsPermutation stops.items sorted.items) }
     ensures falling { IfOk result
         (λ sorted. AllPairs (λ s t. ComesBefore s.event t.event → ⊥) sorted.items) }
@@ -18,7 +18,7 @@ pub fn last_first(mut stops: Vec<Stop>) -> Result<Vec<Stop>, Memory>
 }
 
 /// The events of the stops.
-pub fn events_of(alloc: Global, stops: &[Stop]) -> Result<Vec<Event>, Memory>
+pub(crate) fn events_of(alloc: Global, stops: &[Stop]) -> Result<Vec<Event>, Memory>
     ensures { IfOk result (λ events. events.items ≡ map (λ s. s.event) stops.now) }
 {
     let mut events = Vec::with_capacity(alloc, stops.len())?;

@@ -55,7 +55,7 @@ fn push_stops(
 }
 
 /// The stops of all trains, train by train.
-pub fn stops_of(
+pub(crate) fn stops_of(
     alloc: Global,
     problem: &Problem,
     routes: &[List<u32>],
