@@ -7,7 +7,7 @@ use Rattle.std.proofs.lemmas.Option.{none-some, same_Some, slice_get-get_or}
 use Rattle.std.proofs.lemmas.List.Sums.{sum_by-cons}
 use Rattle.std.proofs.lemmas.List.Sorted.{sum_by-IsPermutation}
 use Rattle.plan_builder.specs.declared.stop.Stop.{Stop}
-use Rattle.plan_builder.specs.Stops.{count_at, AreOnce}
+use Rattle.plan_builder.specs.Stops.{stops_at, AreOnce}
 
 abbrev one_at : ℕ → Stop → ℕ
 one_at k s = if s.node == k then 1 else 0
@@ -18,22 +18,22 @@ at_own k s same = rw (eq-eqb s.node k same) refl
 at_other : (k : ℕ) (s : Stop) → s.node ≢ k → one_at k s ≡ 0
 at_other k s differs = rw (ne_eqb s.node k differs) refl
 
-pub count_cons : (k : ℕ) (s : Stop) (stops : List Stop) → count_at k (s ∷ stops) ≡ one_at k s + count_at k stops
+pub count_cons : (k : ℕ) (s : Stop) (stops : List Stop) → stops_at k (s ∷ stops) ≡ one_at k s + stops_at k stops
 count_cons k s stops = sum_by-cons (one_at k) s stops
 
 -- a stop at the node counts
-pub counted : (k : ℕ) (stops : List Stop) (s : Stop) → Contains stops s → s.node ≡ k → 1 ≤ count_at k stops
+pub counted : (k : ℕ) (stops : List Stop) (s : Stop) → Contains stops s → s.node ≡ k → 1 ≤ stops_at k stops
 counted k [] s (i, lt, e) same = absurd (omega (arith, lt))
 counted k (r ∷ stops) s (zero, lt, e) same = omega (arith, count_cons k r stops, at_own k r (ap (λ (x : Stop). x.node) e ∙ same))
 counted k (r ∷ stops) s (suc i, lt, e) same = omega (arith, count_cons k r stops, counted k stops s (i, omega (arith, lt), e) same)
 
 -- two stops at the node count twice
-counted_at : (k : ℕ) (stops : List Stop) (i : ℕ) (s : Stop) → slice_get stops i ≡ Some s → s.node ≡ k → 1 ≤ count_at k stops
+counted_at : (k : ℕ) (stops : List Stop) (i : ℕ) (s : Stop) → slice_get stops i ≡ Some s → s.node ≡ k → 1 ≤ stops_at k stops
 counted_at k [] i s at same = absurd (none-some s at)
 counted_at k (r ∷ stops) zero s at same = omega (arith, count_cons k r stops, at_own k r (ap (λ (x : Stop). x.node) (same_Some r s at) ∙ same))
 counted_at k (r ∷ stops) (suc i) s at same = omega (arith, count_cons k r stops, counted_at k stops i s at same)
 
-counted_twice : (k : ℕ) (stops : List Stop) (i j : ℕ) (s r : Stop) → i < j → slice_get stops i ≡ Some s → slice_get stops j ≡ Some r → s.node ≡ k → r.node ≡ k → 2 ≤ count_at k stops
+counted_twice : (k : ℕ) (stops : List Stop) (i j : ℕ) (s r : Stop) → i < j → slice_get stops i ≡ Some s → slice_get stops j ≡ Some r → s.node ≡ k → r.node ≡ k → 2 ≤ stops_at k stops
 counted_twice k [] i j s r lt at there one other = absurd (none-some s at)
 counted_twice k (x ∷ stops) i zero s r lt at there one other = absurd (omega (arith, lt))
 counted_twice k (x ∷ stops) zero (suc j) s r lt at there one other =
@@ -64,7 +64,7 @@ once_rest s stops once k = omega (arith, count_cons k s stops, once k)
 
 -- ---- none twice where no operation is
 
-none_counted : (k : ℕ) (stops : List Stop) → ((r : Stop) → Contains stops r → r.node ≢ k) → count_at k stops ≡ 0
+none_counted : (k : ℕ) (stops : List Stop) → ((r : Stop) → Contains stops r → r.node ≢ k) → stops_at k stops ≡ 0
 none_counted k [] none = refl
 none_counted k (s ∷ stops) none =
     omega (arith, count_cons k s stops, at_other k s (none s (0, omega arith, refl)), none_counted k stops (λ r there. none r (suc there.0, omega (arith, there.1), there.2)))

@@ -12,12 +12,12 @@ use Rattle.incremental_paths.specs.declared.arc.Arc.{Arc}
 use Rattle.incremental_paths.specs.Network.{Network}
 use Rattle.incremental_paths.proofs.Members.{Contains-cons_cases, Contains-there}
 use Rattle.plan_builder.specs.declared.stop.Stop.{Stop}
-use Rattle.plan_builder.specs.Stops.{AreOnce, AreWaiting, IsFirstFree, AreArranged, IsLeft}
+use Rattle.plan_builder.specs.Stops.{AreOnce, AreMarkedNodes, IsFirstFree, AreArranged, AreLeft}
 use Rattle.plan_builder.proofs.Counting.{once_moved, once_rest, apart}
 
 -- ---- what is left
 
-waiting_left : (rest left : List Stop) (s : Stop) (marks : List Bool) → IsPermutation rest (s ∷ left) → AreOnce (s ∷ left) → s.node < length marks → AreWaiting rest marks → AreWaiting left (set marks s.node false)
+waiting_left : (rest left : List Stop) (s : Stop) (marks : List Bool) → IsPermutation rest (s ∷ left) → AreOnce (s ∷ left) → s.node < length marks → AreMarkedNodes rest marks → AreMarkedNodes left (set marks s.node false)
 waiting_left rest left s marks moved once within waiting = record {
   each = λ r there.
       get_or-set_other marks s.node r.node false false (apart s left once r there) ∙ waiting.each r (Contains-permutation (s ∷ left) rest r (IsPermutation-sym rest (s ∷ left) moved) (Contains-there s r left there));
@@ -33,7 +33,7 @@ waiting_left rest left s marks moved once within waiting = record {
       | inr later ↦ (r, later, at)
     ]
 
-pub left_after : (network : Network) (rest : List Stop) (marks : List Bool) (place : ℕ) (s : Stop) → place < length rest → s ≡ get_or rest place s → IsLeft network rest marks → IsLeft network (remove rest place) (set marks s.node false)
+pub left_after : (network : Network) (rest : List Stop) (marks : List Bool) (place : ℕ) (s : Stop) → place < length rest → s ≡ get_or rest place s → AreLeft network rest marks → AreLeft network (remove rest place) (set marks s.node false)
 left_after network rest marks place s within is left =
     let moved = IsPermutation-remove rest place s within is in
     let once = once_moved rest (s ∷ remove rest place) moved left.once in
@@ -65,9 +65,9 @@ arranged_more arcs (r ∷ plan) rest left s moved first arranged = (
 
 -- ---- marks of the stops, one after the other
 
-pub waiting_more : (stops : List Stop) (marks : List Bool) (i : ℕ) (e : Stop) → i < length stops → (get_or stops i e).node < length marks → AreWaiting (take i stops) marks
-    → AreWaiting (take (i + 1) stops) (set marks (get_or stops i e).node true)
-waiting_more stops marks i e lt within waiting = subst (λ (l : List Stop). AreWaiting l (set marks s.node true)) (sym (take_more stops i e lt)) (record {
+pub waiting_more : (stops : List Stop) (marks : List Bool) (i : ℕ) (e : Stop) → i < length stops → (get_or stops i e).node < length marks → AreMarkedNodes (take i stops) marks
+    → AreMarkedNodes (take (i + 1) stops) (set marks (get_or stops i e).node true)
+waiting_more stops marks i e lt within waiting = subst (λ (l : List Stop). AreMarkedNodes l (set marks s.node true)) (sym (take_more stops i e lt)) (record {
   each = λ r there. elim (Contains-push_cases (take i stops) s r there) [
     | inl before ↦ elim (cases_eq r.node s.node) [
       | inl same ↦ ap (λ (n : ℕ). get_or (set marks s.node true) n false) same ∙ get_or-set_same marks s.node true false within

@@ -24,7 +24,7 @@ AreOnlyRoutes node routes =
     (t : ℕ) → t < length node.problem.trains → HasOneRoute node t (slice_index_or routes t [])
 
 -- one arc or more leads from one node of the network to the other
-pub record HasWay (arcs : List Arc) (from to : ℕ) : Type 0 where
+pub record ArcsLead (arcs : List Arc) (from to : ℕ) : Type 0 where
   pub next : ℕ
   pub rest : List ℕ
   pub follows : Follows arcs from (next ∷ rest)
@@ -46,4 +46,4 @@ pub record ShowsNode (node : Node) (network : Network) : Type 0 where
       → of_node.IsLongest node o total
   pub sound : All (StandsFor node) network.arcs
   pub complete : (u v : Op) → HasArc node u v
-      → HasWay network.arcs (number_of node.problem u) (number_of node.problem v)
+      → ArcsLead network.arcs (number_of node.problem u) (number_of node.problem v)

@@ -1,4 +1,4 @@
--- The stops of the trains along their routes, and the order in which they come, for private clauses.
+-- The stops of the trains along their routes, and the order in which they come (private clauses).
 use Rattle.std.specs.Prelude.{◌≡◌, ℕ, ◌+◌, ◌<◌, ◌≤◌, ◌==◌, Bool, true, List, [], ◌∷◌, ◌++◌, length, map, sum_by, All, AllPairs, Contains, if◌then◌else◌}
 use Rattle.disp_model.specs.declared.train.Op.{Op}
 use Rattle.disp_model.specs.declared.problem.Problem.{Problem}
@@ -13,13 +13,13 @@ use Rattle.plan_builder.specs.declared.stop.Stop.{Stop}
 -- ---- the stops
 
 -- an operation of train t
-abbrev pub op_at : ℕ → ℕ → Op
-op_at t o = record { train = t; op = o }
+abbrev pub op_on : ℕ → ℕ → Op
+op_on t o = record { train = t; op = o }
 
 -- the operations of the routes of the trains from t on
 abbrev pub ops_from : ℕ → List (List ℕ) → List Op
 ops_from t [] = []
-ops_from t (route ∷ routes) = map (op_at t) route ++ ops_from (t + 1) routes
+ops_from t (route ∷ routes) = map (op_on t) route ++ ops_from (t + 1) routes
 
 -- a stop at its operation's node, at that node's length
 pub record IsStop (problem : Problem) (network : Network) (s : Stop) : Type 0 where
@@ -28,17 +28,17 @@ pub record IsStop (problem : Problem) (network : Network) (s : Stop) : Type 0 wh
   pub longest : IsLongest network.lowers network.arcs s.node s.event.time
 
 -- how many of the stops are at a node
-abbrev pub count_at : ℕ → List Stop → ℕ
-count_at k stops = sum_by (λ s. if s.node == k then 1 else 0) stops
+abbrev pub stops_at : ℕ → List Stop → ℕ
+stops_at k stops = sum_by (λ s. if s.node == k then 1 else 0) stops
 
 -- no two stops are at one node
 abbrev pub AreOnce : List Stop → Type 0
-AreOnce stops = (k : ℕ) → count_at k stops ≤ 1
+AreOnce stops = (k : ℕ) → stops_at k stops ≤ 1
 
 -- ---- their order
 
 -- marked are the nodes of these stops
-pub record AreWaiting (stops : List Stop) (marks : List Bool) : Type 0 where
+pub record AreMarkedNodes (stops : List Stop) (marks : List Bool) : Type 0 where
   pub each : (s : Stop) → Contains stops s → is_marked marks s.node ≡ true
   pub only : (k : ℕ) → is_marked marks k ≡ true → (s : Stop) × Contains stops s × (s.node ≡ k)
 
@@ -60,9 +60,9 @@ AreArranged arcs (s ∷ plan) rest =
     IsFirstFree arcs (s ∷ plan ++ rest) s × AreArranged arcs plan rest
 
 -- stops that are left, in falling order, and the marks on their nodes
-pub record IsLeft (network : Network) (rest : List Stop) (marks : List Bool) : Type 0 where
+pub record AreLeft (network : Network) (rest : List Stop) (marks : List Bool) : Type 0 where
   pub nodes : All (λ s. s.node < length network.lowers) rest
   pub once : AreOnce rest
   pub falling : AllPairs (λ s t. ComesBefore s.event t.event → ⊥) rest
   pub size : length marks ≡ length network.lowers
-  pub waiting : AreWaiting rest marks
+  pub waiting : AreMarkedNodes rest marks

@@ -2,7 +2,7 @@ ghost use Rattle.std.specs.Prelude.{◌≡◌, ℕ, ◌+◌, ◌<◌, ◌≤◌,
 ghost use Rattle.std.specs.List.{remove};
 ghost use Rattle.std.specs.List.Sorted.{IsPermutation};
 ghost use Rattle.plan_builder.specs.declared.stop.Stop.{Stop};
-ghost use Rattle.plan_builder.specs.Stops.{AreOnce, AreWaiting, IsBlocked, IsFirstFree, IsLeft, AreArranged};
+ghost use Rattle.plan_builder.specs.Stops.{AreOnce, AreMarkedNodes, IsBlocked, IsFirstFree, AreLeft, AreArranged};
 
 use crate::order::last_first;
 use crate::stop::Stop;
@@ -14,7 +14,7 @@ use std::alloc::Global;
 fn waiting_of(alloc: Global, nodes: usize, stops: &[Stop]) -> Result<Vec<bool>, Memory>
     requires nodes { All (λ s. s.node < nodes) stops.now }
     ensures size { IfOk result (λ waiting. length waiting.items ≡ nodes) }
-    ensures marks { IfOk result (λ waiting. AreWaiting stops.now waiting.items) }
+    ensures marks { IfOk result (λ waiting. AreMarkedNodes stops.now waiting.items) }
 {
     let mut waiting = vec![in alloc; false; nodes]?;
     for stop in stops {
@@ -27,7 +27,7 @@ fn waiting_of(alloc: Global, nodes: usize, stops: &[Stop]) -> Result<Vec<bool>, 
 fn last_free(rest: &[Stop], waiting: &[bool], paths: &Paths) -> Option<usize>
     requires nodes { All (λ s. s.node < length paths.now.lowers) rest.now }
     requires size { length waiting.now ≡ length paths.now.lowers }
-    requires waiting { AreWaiting rest.now waiting.now }
+    requires waiting { AreMarkedNodes rest.now waiting.now }
     ensures within { IfSome result (λ place. place < length rest.now) }
     ensures free { IfSome result (λ place. (d : Stop)
         → IsBlocked paths.now.arcs rest.now (slice_index_or rest.now place d) → ⊥) }
@@ -48,8 +48,8 @@ fn last_free(rest: &[Stop], waiting: &[bool], paths: &Paths) -> Option<usize>
 /// Takes out the first stop, which are in falling order, to which no arc leads from another.
 fn take_first(rest: &mut Vec<Stop>, waiting: &mut [bool], paths: &Paths) -> Stop
     requires some { 0 < length rest.old.items }
-    requires left { IsLeft paths.now rest.old.items waiting.old }
-    ensures left { IsLeft paths.now rest.new.items waiting.new }
+    requires left { AreLeft paths.now rest.old.items waiting.old }
+    ensures left { AreLeft paths.now rest.new.items waiting.new }
     ensures taken { (place : ℕ) × (place < length rest.old.items)
         × (result ≡ slice_index_or rest.old.items place result)
         × (rest.new.items ≡ remove rest.old.items place) }

@@ -5,7 +5,7 @@ ghost use Rattle.disp_model.specs.WellFormed.{operation_count};
 ghost use Rattle.disp_model.specs.Earliest.{op_of};
 ghost use Rattle.incremental_paths.specs.Walks.{IsLongest};
 ghost use Rattle.plan_builder.specs.Shown.{FitTrains};
-ghost use Rattle.plan_builder.specs.Stops.{IsStop, op_at, ops_from};
+ghost use Rattle.plan_builder.specs.Stops.{IsStop, op_on, ops_from};
 
 use crate::stop::Stop;
 use disp_model::{Event, List, Memory, Problem};
@@ -16,7 +16,7 @@ use std::alloc::Global;
 fn stop_of(train: u32, first: u32, operation: u32, paths: &Paths) -> Stop
     requires few { length paths.now.lowers < 2 ^ 32 }
     requires node { first + operation < length paths.now.lowers }
-    ensures op { op_of result.event ≡ op_at train operation }
+    ensures op { op_of result.event ≡ op_on train operation }
     ensures node { result.node ≡ first + operation }
     ensures longest { IsLongest paths.now.lowers paths.now.arcs result.node result.event.time }
 {
@@ -42,7 +42,7 @@ fn push_stops(
     requires few { length paths.now.lowers < 2 ^ 32 }
     requires nodes { All (λ o. first + o < length paths.now.lowers) route.now }
     ensures ops { OnOk result (map (λ s. op_of s.event) stops.new.items
-        ≡ map (λ s. op_of s.event) stops.old.items ++ map (op_at train) route.now) }
+        ≡ map (λ s. op_of s.event) stops.old.items ++ map (op_on train) route.now) }
     ensures each { OnOk result ((problem : Problem)
         → sum_by (λ operations. length operations) (take train problem.trains) ≡ first
         → All (IsStop problem paths.now) stops.old.items

@@ -4,7 +4,7 @@ use Rattle.std.proofs.lemmas.List.Sums.{sum_by_more}
 use Rattle.disp_model.specs.Train.{IsRoute}
 use Rattle.disp_model.specs.Valid.{train_at}
 use Rattle.disp_model.specs.Earliest.{op_of}
-use Rattle.plan_builder.specs.Stops.{op_at, ops_from}
+use Rattle.plan_builder.specs.Stops.{op_on, ops_from}
 use Rattle.plan_builder.proofs.Listing.{route_numbers, ops_step}
 use Rattle.plan_builder.proofs.stops.stops_of.Goals as goal
 
@@ -28,7 +28,7 @@ loop-train-preserved c =
     let own = c.index-routes-train.is ∙ get_or_default routes t c.index-routes-train.result [] within in
     let old = map (λ s. op_of s.event) c.loop-train.stops.items in
     record {
-      ops = ops_step routes t old _ (ops_from 0 routes) within (c.in_ok-push_stops.ensures.ops ∙ ap (λ r. old ++ map (op_at t) r) (c.as_slice.ensures ∙ own)) loop.ops;
+      ops = ops_step routes t old _ (ops_from 0 routes) within (c.in_ok-push_stops.ensures.ops ∙ ap (λ r. old ++ map (op_on t) r) (c.as_slice.ensures ∙ own)) loop.ops;
       each = c.in_ok-push_stops.ensures.each problem (sym loop.first) loop.each;
       first = omega (
         arith,
