@@ -1,10 +1,11 @@
-ghost use Rattle.std.specs.Prelude.{ℕ, ◌≡◌, ◌<◌, ◌≤◌, ◌↔◌, ◌^◌, List, [], length, All, IfOk, IfErr, IfSome, IfNone, IsSome, IsNone, IsTrue, OnOk, OnErr, IsErrOf, ◌≢◌, slice_index};
-ghost use Rattle.incremental_paths.specs.Walks.{IsWalkTo, walk_length, HasNoNodeTwice, Leads, IsLongest, HasCycle};
+ghost use Rattle.std.specs.Prelude.{ℕ, ◌≡◌, ◌<◌, ◌≤◌, ◌↔◌, ◌^◌, List, [], true, false, length, All, IfOk, IfErr, IfSome, IfNone, IsSome, IsNone, IsTrue, OnOk, OnErr, IsErrOf, ◌≢◌, slice_index};
+ghost use Rattle.incremental_paths.specs.Walks.{IsWalkTo, IsJoined, walk_length, HasNoNodeTwice, Leads, IsLongest, HasCycle};
 ghost use Rattle.incremental_paths.specs.Marked.{AreRising};
+ghost use Rattle.incremental_paths.specs.Ordered.{is_marked};
 ghost use Rattle.incremental_paths.specs.Network.{IsNode, IsShort, with_arc, without_last, raised, unchanged, TellsChanged};
 
 use crate::arc::Arc;
-use crate::back::{find_way, walk_back, way_back};
+use crate::back::{comes_from_marked, find_way, walk_back, way_back};
 use crate::changes::{Change, Changes};
 use crate::faults::AddNo;
 use crate::marks::Marks;
@@ -93,6 +94,13 @@ impl Paths {
             stale: 0,
             refused: None,
         })
+    }
+
+    /// How many nodes there are.
+    pub fn size(&self) -> usize
+        ensures { result ≡ length self.now.lowers }
+    {
+        self.lowers.len()
     }
 
     /// Adds an arc behind the others. Fails where it would close a cycle, also one of length 0, and
@@ -256,6 +264,21 @@ impl Paths {
         ensures no_cycle { ¬ HasCycle self.now.arcs }
     {
         &self.arcs
+    }
+
+    /// Whether a kept arc leads to the node from one that is marked. It takes no memory.
+    pub fn is_entered_from(&self, node: u32, marks: &[bool]) -> bool
+        requires node { IsNode self.now node }
+        requires marks { length marks.now ≡ length self.now.lowers }
+        ensures yes { IsTrue result → (u : ℕ) × IsJoined self.now.arcs u node
+            × (is_marked marks.now u ≡ true) }
+        ensures no { result ≡ false → (u : ℕ) → IsJoined self.now.arcs u node
+            → is_marked marks.now u ≡ false }
+
+        // Of the marked nodes the one at the lowest place is entered from none.
+        ensures rising { (places : List ℕ) × AreRising self.now.arcs places }
+    {
+        comes_from_marked(&self.arcs, &self.ended, marks, node)
     }
 
     /// A walk to the node that is as long as the node's length.
