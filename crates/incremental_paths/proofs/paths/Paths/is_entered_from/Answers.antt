@@ -4,4 +4,4 @@ pub returns-clause-yes : goal.returns-clause-yes
 returns-clause-yes c = rw (← c.self.view_is, ← c.deref.ensures.value) c.comes_from_marked.ensures.yes
 
 pub returns-clause-rising : goal.returns-clause-rising
-returns-clause-rising c = rw (← c.self.view_is) (c.self.inside.order, c.self.invariant.rising)
+returns-clause-rising c = rw (← c.self.view_is) (c.self.inside.order, c.self.invariant.0.rising)
