@@ -259,7 +259,7 @@ arcs_compose node u v w one two forced first second = record {
 -- ---- walks may leave out what lies between
 
 -- an arc between operations of one train is one of the train
-own_arc : (node : Node) (u v : Op) (n : ℕ) → u.train ≡ v.train → IsArc node u v n → IsTrainArc node u v n
+pub own_arc : (node : Node) (u v : Op) (n : ℕ) → u.train ≡ v.train → IsArc node u v n → IsTrainArc node u v n
 own_arc node u v n same arc = elim arc.kind [
   | inl train ↦ train
   | inr rest ↦ elim rest [

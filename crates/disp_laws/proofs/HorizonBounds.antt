@@ -18,7 +18,6 @@ use Rattle.disp_model.specs.WellFormed.{span_of, horizon}
 use Rattle.disp_model.specs.Changes.{standing_of, standing_from, is_withdrawn}
 use Rattle.disp_model.specs.Valid.{train_at}
 use Rattle.disp_model.specs.Node.{Node}
-use Rattle.disp_model.specs.Routes.{IsForced}
 use Rattle.disp_model.specs.Arcs.{min_of}
 use Rattle.disp_model.specs.Walks.{fixed_start, not_before, lower_of, IsWalk, HasCycle}
 use Rattle.disp_model.specs.Replies.{RepliesToStart, RepliesToEarliest, IsReply, IsEdition}
@@ -142,13 +141,13 @@ not_before_is_small (NotBefore t p s ∷ fixings) o small = here ((nat_eq t o.tr
     here true later = omega (arith, small.0, later)
     here false later = later
 
-lower_within : (node : Node) (o : Op) → AreSmall node.fixings → IsForced node o → lower_of node.problem node.fixings o ≤ GREATEST_NUMBER
-lower_within node o small forced = by_fixed (fixed_start node.fixings o) refl
+pub lower_within : (node : Node) (o : Op) → AreSmall node.fixings → o.train < length node.problem.trains → lower_of node.problem node.fixings o ≤ GREATEST_NUMBER
+lower_within node o small there = by_fixed (fixed_start node.fixings o) refl
   where
     own : (found : Option Operation) → slice_get (train_at node.problem o.train) o.op ≡ found → option_map_or (λ p. p.lower) found 0 ≤ GREATEST_NUMBER
     own None at = omega arith
     own (Some p) at =
-        let fits = node.problem.well_formed.numbers o.train [] forced.train o.op p (slice_get_within (train_at node.problem o.train) o.op p at) in
+        let fits = node.problem.well_formed.numbers o.train [] there o.op p (slice_get_within (train_at node.problem o.train) o.op p at) in
         let same : get_or (train_at node.problem o.train) o.op p ≡ p = get_or_from_slice_get (train_at node.problem o.train) o.op p p at in
         subst (λ (q : Operation). q.lower ≤ GREATEST_NUMBER) same fits.lower
 
@@ -167,5 +166,5 @@ within_horizon node (u ∷ rest) total small no_cycle walk =
     let charge = walk_charge node no_cycle u (lower_of node.problem node.fixings u) rest total walk.1 in
     let mins = sum_once (min_of node.problem) charge.mins (all_ops node.problem) charge.mins_once (each_among charge.mins (all_ops node.problem) (λ x there. let inside = charge.mins_inside x there in among_all_ops node.problem x n inside.0 inside.1)) in
     let releases = sum_once (most_released node.problem) charge.releases (all_ops node.problem) charge.releases_once (each_among charge.releases (all_ops node.problem) (λ h there. forced_among node h (charge.releases_forced h there))) in
-    let lower = lower_within node u small walk.0 in
+    let lower = lower_within node u small walk.0.train in
     omega (arith, charge.enough, mins, releases, lower, sum_two (min_of node.problem) (most_released node.problem) (all_ops node.problem), trains_sum node.problem n (omega arith), sum_by-take-le (λ train. sum_by span_of train) node.problem.trains n)

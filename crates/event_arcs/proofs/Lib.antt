@@ -1,0 +1,5 @@
+mod Leading
+mod Numbering
+mod Cycling
+mod Lengths
+mod Shortness

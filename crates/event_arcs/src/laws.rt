@@ -1,0 +1,48 @@
+ghost use Rattle.std.specs.Prelude.{◌≡◌, ◌↔◌, ◌≤◌, ℕ, List, ◌∷◌, All, map};
+ghost use Rattle.disp_model.specs.declared.train.Op.{Op};
+ghost use Rattle.disp_model.specs.declared.fixing.Change.{Change};
+ghost use Rattle.disp_model.specs.Changes.{standing_of};
+ghost use Rattle.disp_model.specs.Numbers.{number_of};
+ghost use Rattle.disp_model.specs.Node.{Node};
+ghost use Rattle.disp_model.specs.Routes.{IsForced};
+ghost use Rattle.disp_model.specs.Walks.{IsWalk, IsLongest as IsLongestAt, IsCycle as IsCycleAt, HasCycle as HasCycleAt};
+ghost use Rattle.disp_model.specs.Replies.{IsEdition};
+ghost use Rattle.incremental_paths.specs.declared.arc.Arc.{Arc};
+ghost use Rattle.incremental_paths.specs.Walks.{IsWalkTo, walk_length, IsLongest, IsCycle, HasCycle, WalksAreShort};
+ghost use Rattle.event_arcs.specs.Listed.{IsArcOf, AreArcsOf, AreLowersOf};
+
+/// The list has a cycle exactly where the arcs of the node have one, and a cycle of numbers is one
+/// of their operations.
+pub fn cycles_are_shared()
+    ensures exactly { (node : Node) (arcs : List Arc)
+        → AreArcsOf node arcs → (HasCycle arcs ↔ HasCycleAt node) }
+    ensures operations { (node : Node) (arcs : List Arc) (numbers : List ℕ)
+        → All (IsArcOf node) arcs → IsCycle arcs numbers
+        → (ops : List Op) × (map (number_of node.problem) ops ≡ numbers) × IsCycleAt node ops }
+{}
+
+/// A walk of numbers from a forced operation is a walk of their operations, which is no shorter.
+pub fn walks_are_carried_over()
+    ensures { (node : Node) (arcs : List Arc) (lowers : List ℕ) (u : Op) (v : ℕ) (rest : List ℕ)
+        → All (IsArcOf node) arcs → AreLowersOf node lowers → IsForced node u
+        → IsWalkTo lowers arcs v (number_of node.problem u ∷ rest)
+        → (ops : List Op) × (total : ℕ) × (map (number_of node.problem) ops ≡ rest)
+        × IsWalk node (u ∷ ops) total
+        × (walk_length lowers arcs (number_of node.problem u ∷ rest) ≤ total) }
+{}
+
+/// Where the arcs have no cycle, the longest walk to a forced operation is as long along the list.
+pub fn longest_are_shared()
+    ensures { (node : Node) (arcs : List Arc) (lowers : List ℕ) (o : Op) (total : ℕ)
+        → AreArcsOf node arcs → AreLowersOf node lowers → (HasCycleAt node → ⊥) → IsForced node o
+        → (IsLongestAt node o total ↔ IsLongest lowers arcs (number_of node.problem o) total) }
+{}
+
+/// With an edition's fixings, where the arcs have no cycle, no walk along the list is longer than
+/// 2^63 - 1.
+pub fn walks_stay_short()
+    ensures { (node : Node) (changes : List Change) (arcs : List Arc) (lowers : List ℕ)
+        → IsEdition node.problem changes → node.fixings ≡ standing_of changes
+        → All (IsArcOf node) arcs → AreLowersOf node lowers → (HasCycleAt node → ⊥)
+        → WalksAreShort lowers arcs }
+{}

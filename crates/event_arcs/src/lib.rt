@@ -1,0 +1,10 @@
+//! The arcs between the operations that a train must run, listed for a search over numbered nodes.
+//!
+//! Node k is the k-th operation of the problem, trains in order. A list of arcs may leave out what
+//! others span, as long as it leads between the same operations over at least the same lengths:
+//! then it has a cycle exactly where the arcs have one, and else the same longest walks.
+#![tactic(auto)]
+
+mod laws;
+
+pub use laws::{cycles_are_shared, longest_are_shared, walks_are_carried_over, walks_stay_short};
