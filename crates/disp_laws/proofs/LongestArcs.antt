@@ -117,7 +117,7 @@ train_arc_or_not node u v one other = elim (same_number u.train v.train) [
         passes_both train route.0 u.op v.op way.0 (node.problem.well_formed.acyclic u.train [] one.train) route.1.is_route way.1 (is_in u.op route.0 (one.each_has route.0 route.1))
         (is_in v.op route.0 (other.each_has route.0 (subst (λ (t : ℕ). IsAllowed node t route.0) same route.1)))
 
-one_train_arc : (node : Node) (u v : Op) (m n : ℕ) → IsTrainArc node u v m → IsTrainArc node u v n → m ≡ n
+pub one_train_arc : (node : Node) (u v : Op) (m n : ℕ) → IsTrainArc node u v m → IsTrainArc node u v n → m ≡ n
 one_train_arc node u v m n one other = omega (arith, one.least other.reached.0 n other.reached.1 other.reached.2, other.least one.reached.0 m one.reached.1 one.reached.2)
 
 train_arc_of_or_not : (node : Node) (u v : Op) (n : ℕ) → IsForced node u → IsForced node v → Decided (IsTrainArc node u v n)

@@ -3,3 +3,7 @@ mod Numbering
 mod Cycling
 mod Lengths
 mod Shortness
+mod Owning
+mod Joining
+mod Deciding
+mod Offsets

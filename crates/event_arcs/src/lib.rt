@@ -5,6 +5,12 @@
 //! then it has a cycle exactly where the arcs have one, and else the same longest walks.
 #![tactic(auto)]
 
+mod chains;
 mod laws;
+mod list;
+mod orders;
+mod owns;
+mod placed;
 
 pub use laws::{cycles_are_shared, longest_are_shared, walks_are_carried_over, walks_stay_short};
+pub use list::{NodeArcs, arcs};

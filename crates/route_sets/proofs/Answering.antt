@@ -40,7 +40,7 @@ is_inside problem t operations e there = subst IsInside e (λ k d lt. (problem.w
 pub is_acyclic : (problem : Problem) (t : ℕ) → t < length problem.trains → IsAcyclic (train_at problem t)
 is_acyclic problem t there = problem.well_formed.acyclic t [] there
 
-train_fits : (problem : Problem) (t : ℕ) → t < length problem.trains → length (train_at problem t) < 2 ^ 31
+pub train_fits : (problem : Problem) (t : ℕ) → t < length problem.trains → length (train_at problem t) < 2 ^ 31
 train_fits problem t there = omega (arith, get_or-le-sum_by (λ (train : List Operation). length train) problem.trains t [] there, problem.well_formed.operations_fit)
 
 -- ---- what is found on the way

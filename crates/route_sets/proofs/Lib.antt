@@ -1,4 +1,4 @@
-mod Answering
+pub mod Answering
 mod Asking
 mod Chaining
 mod Forks
