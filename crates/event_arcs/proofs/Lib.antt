@@ -7,3 +7,4 @@ mod Owning
 mod Joining
 mod Deciding
 mod Offsets
+mod Blocks

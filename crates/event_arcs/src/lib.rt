@@ -14,3 +14,6 @@ mod placed;
 
 pub use laws::{cycles_are_shared, longest_are_shared, walks_are_carried_over, walks_stay_short};
 pub use list::{NodeArcs, arcs};
+
+#[cfg(test)]
+mod tests;

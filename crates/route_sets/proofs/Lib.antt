@@ -1,7 +1,7 @@
 pub mod Answering
 mod Asking
 mod Chaining
-mod Forks
+pub mod Forks
 mod Knowing
 mod Passing
 mod Relaxing
