@@ -92,7 +92,7 @@ arc_up node t order i j o s n is arc from to =
     leads_up (train_at node.problem t) order way.0 i j o s is way.1 from to
 
 -- of two forced operations one leads to the other
-either_leads : (node : Node) (t o s : ℕ) → IsForced node (op_of t o) → IsForced node (op_of t s) → (o ≡ s → ⊥) → ((n : ℕ) × LeadsTo (train_at node.problem t) n o s) ⊎ ((n : ℕ) × LeadsTo (train_at node.problem t) n s o)
+pub either_leads : (node : Node) (t o s : ℕ) → IsForced node (op_of t o) → IsForced node (op_of t s) → (o ≡ s → ⊥) → ((n : ℕ) × LeadsTo (train_at node.problem t) n o s) ⊎ ((n : ℕ) × LeadsTo (train_at node.problem t) n s o)
 either_leads node t o s one other apart = by_route one.allowed.0 one.allowed.1
   where
     by_parts : (route : List ℕ) → IsAllowed node t route → Parted s route → ((n : ℕ) × LeadsTo (train_at node.problem t) n o s) ⊎ ((n : ℕ) × LeadsTo (train_at node.problem t) n s o)

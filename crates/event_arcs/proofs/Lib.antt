@@ -8,3 +8,4 @@ mod Joining
 mod Deciding
 mod Offsets
 mod Blocks
+mod Potentials

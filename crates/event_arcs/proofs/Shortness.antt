@@ -21,7 +21,7 @@ use Rattle.event_arcs.proofs.Lengths.{carried}
 
 -- ---- the horizon is far below the limit of lengths
 
-release_small : (listings : List Listing) → All (λ l. l.release ≤ GREATEST_NUMBER) listings → greatest_release listings ≤ GREATEST_NUMBER
+pub release_small : (listings : List Listing) → All (λ l. l.release ≤ GREATEST_NUMBER) listings → greatest_release listings ≤ GREATEST_NUMBER
 release_small [] all = omega arith
 release_small (l ∷ listings) all =
     omega (arith, All-head (λ (k : Listing). k.release ≤ GREATEST_NUMBER) l listings all, release_small listings (All-tail (λ (k : Listing). k.release ≤ GREATEST_NUMBER) l listings all))

@@ -1,12 +1,13 @@
 -- Lists of arcs over numbered operations that stand for the arcs of a node.
-use Rattle.std.specs.Prelude.{◌≡◌, ℕ, ◌<◌, ◌≤◌, List, ◌∷◌, All, length, slice_index}
+use Rattle.std.specs.Prelude.{◌≡◌, ℕ, ◌<◌, ◌≤◌, List, ◌∷◌, All, Any, length, slice_index}
 use Rattle.disp_model.specs.declared.train.Op.{Op}
 use Rattle.disp_model.specs.declared.problem.Problem.{Problem}
 use Rattle.disp_model.specs.WellFormed.{operation_count}
 use Rattle.disp_model.specs.Numbers.{number_of}
 use Rattle.disp_model.specs.Valid.{train_at}
 use Rattle.disp_model.specs.Node.{Node}
-use Rattle.disp_model.specs.Arcs.{IsArc}
+use Rattle.disp_model.specs.Routes.{IsForced}
+use Rattle.disp_model.specs.Arcs.{IsTrainArc, IsArc}
 use Rattle.disp_model.specs.Walks.{lower_of}
 use Rattle.incremental_paths.specs.declared.arc.Arc.{Arc}
 use Rattle.incremental_paths.specs.Walks.{Follows, last_from, steps_length}
@@ -44,3 +45,12 @@ pub record IsOpOf (problem : Problem) (o : Op) : Type 0 where
 pub record AreLowersOf (node : Node) (lowers : List ℕ) : Type 0 where
   pub long : length lowers ≡ operation_count node.problem.trains
   pub at : (o : Op) → IsOpOf node.problem o → slice_index lowers (number_of node.problem o) ≡ lower_of node.problem node.fixings o
+
+-- some listed arc begins at the number
+abbrev pub IsLeft : List Arc → ℕ → Type 0
+IsLeft arcs number = Any (λ arc. arc.from ≡ number) arcs
+
+-- where a train's arc joins two operations at which listed arcs begin, there is a way along the list
+pub record SpansTrains (node : Node) (arcs : List Arc) : Type 0 where
+  pub way : (u v : Op) (sum : ℕ) → IsForced node u → IsForced node v → IsTrainArc node u v sum → IsLeft arcs (number_of node.problem u) → IsLeft arcs (number_of node.problem v)
+      → LeadsOver arcs (number_of node.problem u) (number_of node.problem v) 0

@@ -9,7 +9,7 @@ ghost use Rattle.disp_model.specs.Walks.{IsWalk, IsLongest as IsLongestAt, IsCyc
 ghost use Rattle.disp_model.specs.Replies.{IsEdition};
 ghost use Rattle.incremental_paths.specs.declared.arc.Arc.{Arc};
 ghost use Rattle.incremental_paths.specs.Walks.{IsWalkTo, walk_length, IsLongest, IsCycle, HasCycle, WalksAreShort};
-ghost use Rattle.event_arcs.specs.Listed.{IsArcOf, AreArcsOf, AreLowersOf};
+ghost use Rattle.event_arcs.specs.Listed.{IsArcOf, AreArcsOf, AreLowersOf, SpansTrains};
 
 /// The list has a cycle exactly where the arcs of the node have one, and a cycle of numbers is one
 /// of their operations.
@@ -45,4 +45,13 @@ pub fn walks_stay_short()
         → IsEdition node.problem changes → node.fixings ≡ standing_of changes
         → All (IsArcOf node) arcs → AreLowersOf node lowers → (HasCycleAt node → ⊥)
         → WalksAreShort lowers arcs }
+{}
+
+/// With an edition's fixings, a list that spans the trains and has no cycle has no walk longer than
+/// 2^63 - 1, whichever of the orders' arcs it has, and whether the node's arcs have a cycle or not.
+pub fn spanning_lists_are_short()
+    ensures { (node : Node) (changes : List Change) (arcs : List Arc) (lowers : List ℕ)
+        → IsEdition node.problem changes → node.fixings ≡ standing_of changes
+        → All (IsArcOf node) arcs → SpansTrains node arcs → AreLowersOf node lowers
+        → ¬ HasCycle arcs → WalksAreShort lowers arcs }
 {}

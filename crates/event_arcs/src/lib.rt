@@ -12,7 +12,10 @@ mod orders;
 mod owns;
 mod placed;
 
-pub use laws::{cycles_are_shared, longest_are_shared, walks_are_carried_over, walks_stay_short};
+pub use laws::{
+    cycles_are_shared, longest_are_shared, spanning_lists_are_short, walks_are_carried_over,
+    walks_stay_short,
+};
 pub use list::{NodeArcs, arcs};
 
 #[cfg(test)]

@@ -87,14 +87,14 @@ few_short lowers arcs low short few none v nodes walk =
     omega (arith, sum, few, walks_bounded lowers arcs (2 ^ 32) (All-weaker (λ lower. lower < 2 ^ 32) (λ lower. lower ≤ 2 ^ 32) (λ lower h. omega (arith, h)) lowers low) none v nodes walk)
 
 -- a walk has no more nodes than there are, where none stands in it twice
-nodes_within : (lowers : List ℕ) (arcs : List Arc) → All (λ arc. arc.to < length lowers) arcs → (u : ℕ) (rest : List ℕ) → u < length lowers → Follows arcs u rest → All (λ w. w < length lowers) (u ∷ rest)
+pub nodes_within : (lowers : List ℕ) (arcs : List Arc) → All (λ arc. arc.to < length lowers) arcs → (u : ℕ) (rest : List ℕ) → u < length lowers → Follows arcs u rest → All (λ w. w < length lowers) (u ∷ rest)
 nodes_within lowers arcs ends u [] lt f = All-cons (λ w. w < length lowers) u [] lt (All-nil (λ w. w < length lowers))
 nodes_within lowers arcs ends u (v ∷ rest) lt f =
     let a = joining arcs u v f.0 in
     let below : v < length lowers = rw a.3 at (All-contains (λ (z : Arc). z.to < length lowers) arcs a.0 ends a.1) in
     All-cons (λ w. w < length lowers) u (v ∷ rest) lt (nodes_within lowers arcs ends v rest below f.1)
 
-few_nodes : (n : ℕ) (nodes : List ℕ) → HasNoNodeTwice nodes → All (λ w. w < n) nodes → length nodes ≤ n
+pub few_nodes : (n : ℕ) (nodes : List ℕ) → HasNoNodeTwice nodes → All (λ w. w < n) nodes → length nodes ≤ n
 few_nodes n nodes once all = length-le_from_distinct_below nodes n (IsDistinct-from_AllPairs {eq = eqb} Decides-eqb nodes once) (λ q there.
     let c = Contains-from_any {eq = eqb} eqb-true q nodes there in All-contains (λ w. w < n) nodes q all c)
 
