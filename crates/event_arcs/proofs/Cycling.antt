@@ -1,8 +1,10 @@
 -- Cycles along a list of arcs are cycles of the node, and the other way round.
-use Rattle.std.proofs.Common.{◌≡◌, ℕ, ◌+◌, List, [], ◌∷◌, map, refl, sym, ap, subst, ◌∙◌}
-use Rattle.std.specs.Prelude.{All, ◌↔◌}
+use Rattle.std.proofs.Common.{◌≡◌, ℕ, ◌+◌, List, [], ◌∷◌, map, refl, sym, ap, subst, ◌∙◌, inl, inr}
+use Rattle.std.specs.Prelude.{All, Contains, ◌↔◌}
 use Rattle.std.proofs.lemmas.List.Elements.{All-contains}
 use Rattle.disp_model.specs.declared.train.Op.{Op}
+use Rattle.disp_model.specs.declared.decision.Decision.TheVariants.{First}
+use Rattle.disp_model.specs.WellFormed.{LeadsTo}
 use Rattle.disp_model.specs.Numbers.{number_of}
 use Rattle.disp_model.specs.Valid.{train_at}
 use Rattle.disp_model.specs.Node.{Node}
@@ -11,6 +13,7 @@ use Rattle.disp_model.specs.Arcs.{IsArc, HasArc}
 use Rattle.disp_model.specs.Walks.{ClosesTo, IsCycle as IsCycleAt, HasCycle as HasCycleAt}
 use Rattle.disp_laws.proofs.Arcs.{passes_leads}
 use Rattle.disp_laws.proofs.Composed.{own_arc}
+use Rattle.disp_laws.proofs.Positions.{leads_then as then_up}
 use Rattle.incremental_paths.specs.declared.arc.Arc.{Arc}
 use Rattle.incremental_paths.specs.Walks.{IsJoined, Follows, last_from, IsCycle, HasCycle}
 use Rattle.incremental_paths.proofs.Members.{joining}
@@ -88,3 +91,27 @@ cycle_from node arcs sound has = let ops = cycle_of_numbers node arcs has.0 soun
 
 pub same_cycles : (node : Node) (arcs : List Arc) → AreArcsOf node arcs → (HasCycle arcs ↔ HasCycleAt node)
 same_cycles node arcs are = (cycle_from node arcs are.sound, λ has. cycle_of_ops node arcs has.0 are has.1)
+
+-- ---- where nothing is ordered
+
+-- an arc is one of a train, and leads up it
+leads_up : (node : Node) (u v : Op) → ((a b : Op) → Contains node.decisions (First a b) → ⊥) → HasArc node u v → (u.train ≡ v.train) × ((n : ℕ) × LeadsTo (train_at node.problem u.train) n u.op v.op)
+leads_up node u v none (n, arc) = elim arc.kind [
+  | inl train ↦ (train.same_train, passes_leads (train_at node.problem u.train) train.reached.0 u.op v.op n train.reached.1.is_route train.reached.2)
+  | inr r ↦ elim r [ inl order ↦ absurd (none u v order.decided) | inr release ↦ absurd (none release.holder v release.decided) ]
+]
+
+closes_up : (node : Node) (first u : Op) (ops : List Op) → ((a b : Op) → Contains node.decisions (First a b) → ⊥) → ClosesTo node first u ops → (u.train ≡ first.train) × ((n : ℕ) × LeadsTo (train_at node.problem u.train) n u.op first.op)
+closes_up node first u [] none closes = leads_up node u first none closes
+closes_up node first u (v ∷ ops) none closes =
+    let here = leads_up node u v none closes.0 in
+    let later = closes_up node first v ops none closes.1 in
+    let way = subst (λ (t : ℕ). LeadsTo (train_at node.problem t) later.1.0 v.op first.op) (sym here.0) later.1.1 in
+    (here.0 ∙ later.0, then_up (train_at node.problem u.train) here.1.0 later.1.0 u.op v.op first.op here.1.1 way)
+
+pub no_order_no_cycle : (node : Node) → ((a b : Op) → Contains node.decisions (First a b) → ⊥) → HasCycleAt node → ⊥
+no_order_no_cycle node none ([], cycle) = absurd cycle
+no_order_no_cycle node none (u ∷ [], cycle) = absurd cycle
+no_order_no_cycle node none (u ∷ v ∷ ops, cycle) =
+    let round = closes_up node u u (v ∷ ops) none cycle in
+    (node.problem.well_formed.acyclic u.train [] cycle.0.1.from_forced.train).no_cycle round.1.0 u.op round.1.1

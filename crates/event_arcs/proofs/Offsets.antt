@@ -54,7 +54,7 @@ routes_by_own problem fixings own_fixings decisions own_decisions owns t own rou
     let read : own_at owns t ≡ own = get_or_default owns t (record { fixings = []; decisions = [] }) own lt ∙ sym is in
     let first : own_fixings ≡ (own_at owns t).fixings = fixings_is ∙ ap (λ (o : Own). o.fixings) (sym read) in
     let second : own_decisions ≡ (own_at owns t).decisions = decisions_is ∙ ap (λ (o : Own). o.decisions) (sym read) in
-    own_routes problem fixings decisions owns t are lt routes
+    own_routes problem fixings (own_at owns t).fixings decisions (own_at owns t).decisions t (λ route. are.of_fixings t route lt) (λ route. are.of_decisions t route lt) routes
     (subst (λ (l : List Fixing). AreRoutesOf (node_at problem l (own_at owns t).decisions) t routes) first
     (subst (λ (l : List Decision). AreRoutesOf (node_at problem own_fixings l) t routes) second says))
 

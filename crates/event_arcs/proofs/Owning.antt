@@ -107,25 +107,27 @@ own_none_more owns new own are no_fixings no_decisions new_is = record {
 
 -- ---- routes by what is the train's own
 
-module _ (problem : Problem) (fixings : List Fixing) (decisions : List Decision) (owns : List Own) (t : ℕ) (are : AreOwn fixings decisions owns) (there : t < length owns) where
+module _ (problem : Problem) (fixings own_fixings : List Fixing) (decisions own_decisions : List Decision) (t : ℕ)
+    (same_fixings : (route : List ℕ) → All (AgreesWithFixing t route) fixings ↔ All (AgreesWithFixing t route) own_fixings)
+    (same_decisions : (route : List ℕ) → All (AgreesWithDecision t route) decisions ↔ All (AgreesWithDecision t route) own_decisions) where
   abbrev all : Node
   all = node_at problem fixings decisions
 
   abbrev own : Node
-  own = node_at problem (own_at owns t).fixings (own_at owns t).decisions
+  own = node_at problem own_fixings own_decisions
 
   to_all : (route : List ℕ) → IsAllowed own t route → IsAllowed all t route
   to_all route allowed = record {
     is_route = allowed.is_route;
-    fixings_agree = (are.of_fixings t route there).1 allowed.fixings_agree;
-    decisions_agree = (are.of_decisions t route there).1 allowed.decisions_agree;
+    fixings_agree = (same_fixings route).1 allowed.fixings_agree;
+    decisions_agree = (same_decisions route).1 allowed.decisions_agree;
   }
 
   to_own : (route : List ℕ) → IsAllowed all t route → IsAllowed own t route
   to_own route allowed = record {
     is_route = allowed.is_route;
-    fixings_agree = (are.of_fixings t route there).0 allowed.fixings_agree;
-    decisions_agree = (are.of_decisions t route there).0 allowed.decisions_agree;
+    fixings_agree = (same_fixings route).0 allowed.fixings_agree;
+    decisions_agree = (same_decisions route).0 allowed.decisions_agree;
   }
 
   route_to_all : HasRoute own t → HasRoute all t

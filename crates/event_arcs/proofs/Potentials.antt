@@ -7,8 +7,7 @@ use Rattle.std.proofs.lemmas.Option.{slice_get_within, get_or_from_slice_get}
 use Rattle.std.proofs.lemmas.List.{length-append, take_all}
 use Rattle.std.proofs.lemmas.List.Sums.{sum_by-le, sum_by_more}
 use Rattle.std.proofs.lemmas.List.Elements.{All-contains, All-weaker}
-use Rattle.std.proofs.Math.Nat.{mul-le-mul_right}
-use Rattle.disp_model.specs.declared.limits.TheConstants.{GREATEST_NUMBER, MOST_OPERATIONS}
+use Rattle.disp_model.specs.declared.limits.TheConstants.{GREATEST_NUMBER}
 use Rattle.disp_model.specs.declared.train.Op.{Op}
 use Rattle.disp_model.specs.declared.train.Operation.{Operation}
 use Rattle.disp_model.specs.declared.problem.Problem.{Problem}
@@ -18,16 +17,16 @@ use Rattle.disp_model.specs.Numbers.{number_of}
 use Rattle.disp_model.specs.Valid.{train_at}
 use Rattle.disp_model.specs.Node.{Node}
 use Rattle.disp_model.specs.Routes.{IsForced}
-use Rattle.disp_model.specs.Arcs.{listings_of, min_of, release_of, Passes, IsTrainArc, IsArc, IsLongestArc}
+use Rattle.disp_model.specs.Arcs.{min_of, Passes, IsTrainArc, IsArc}
 use Rattle.disp_laws.proofs.Numbered.{below_count, each_number}
-use Rattle.disp_laws.proofs.HorizonBounds.{AreSmall, lower_within, get_within}
+use Rattle.disp_laws.proofs.HorizonBounds.{AreSmall, lower_within}
 use Rattle.disp_laws.proofs.Charges.{most_released, release_within}
 use Rattle.disp_laws.proofs.RouteSearch.{same_number, route_fits}
 use Rattle.disp_laws.proofs.LeastSums.{train_arc_exists}
 use Rattle.disp_laws.proofs.Composed.{own_arc, arcs_compose}
 use Rattle.route_sets.specs.Sets.{op_of}
 use Rattle.incremental_paths.specs.declared.arc.Arc.{Arc}
-use Rattle.incremental_paths.specs.Walks.{IsJoined, Follows, last_from, IsWalkTo, steps_length, walk_length, HasCycle, WalksAreShort}
+use Rattle.incremental_paths.specs.Walks.{IsJoined, Follows, IsWalkTo, steps_length, walk_length, HasCycle, WalksAreShort}
 use Rattle.incremental_paths.proofs.Members.{joining}
 use Rattle.incremental_paths.proofs.Bounds.{walks_once, nodes_within, few_nodes}
 use Rattle.event_arcs.specs.Listed.{IsArcOf, LeadsOver, AreLowersOf, IsLeft, SpansTrains}

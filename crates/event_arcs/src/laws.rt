@@ -1,12 +1,18 @@
-ghost use Rattle.std.specs.Prelude.{◌≡◌, ◌↔◌, ◌≤◌, ℕ, List, ◌∷◌, All, map};
+ghost use Rattle.std.specs.Prelude.{◌≡◌, ◌↔◌, ◌≤◌, ℕ, List, ◌∷◌, All, Contains, map};
 ghost use Rattle.disp_model.specs.declared.train.Op.{Op};
 ghost use Rattle.disp_model.specs.declared.fixing.Change.{Change};
+ghost use Rattle.disp_model.specs.declared.fixing.Fixing.{Fixing};
+ghost use Rattle.disp_model.specs.declared.decision.Decision.{Decision};
+ghost use Rattle.disp_model.specs.declared.decision.Decision.TheVariants.{First};
+ghost use Rattle.disp_model.specs.declared.problem.Problem.{Problem};
 ghost use Rattle.disp_model.specs.Changes.{standing_of};
 ghost use Rattle.disp_model.specs.Numbers.{number_of};
-ghost use Rattle.disp_model.specs.Node.{Node};
-ghost use Rattle.disp_model.specs.Routes.{IsForced};
+ghost use Rattle.disp_model.specs.Node.{Node, node_at};
+ghost use Rattle.disp_model.specs.Routes.{AgreesWithFixing, AgreesWithDecision, IsForced};
 ghost use Rattle.disp_model.specs.Walks.{IsWalk, IsLongest as IsLongestAt, IsCycle as IsCycleAt, HasCycle as HasCycleAt};
 ghost use Rattle.disp_model.specs.Replies.{IsEdition};
+ghost use Rattle.route_sets.specs.declared.routes.Routes.{Routes};
+ghost use Rattle.route_sets.specs.Sets.{AreRoutesOf};
 ghost use Rattle.incremental_paths.specs.declared.arc.Arc.{Arc};
 ghost use Rattle.incremental_paths.specs.Walks.{IsWalkTo, walk_length, IsLongest, IsCycle, HasCycle, WalksAreShort};
 ghost use Rattle.event_arcs.specs.Listed.{IsArcOf, AreArcsOf, AreLowersOf, SpansTrains};
@@ -54,4 +60,23 @@ pub fn spanning_lists_are_short()
         → IsEdition node.problem changes → node.fixings ≡ standing_of changes
         → All (IsArcOf node) arcs → SpansTrains node arcs → AreLowersOf node lowers
         → ¬ HasCycle arcs → WalksAreShort lowers arcs }
+{}
+
+/// Where no order is decided the arcs have no cycle.
+pub fn unordered_nodes_have_no_cycle()
+    ensures { (node : Node) → ((a b : Op) → Contains node.decisions (First a b) → ⊥)
+        → HasCycleAt node → ⊥ }
+{}
+
+/// What is known of a train's routes by fixings and decisions of its own is known by all, where the
+/// same routes agree with both.
+pub fn own_matters_suffice()
+    ensures { (problem : Problem) (fixings own_fixings : List Fixing)
+        (decisions own_decisions : List Decision) (t : ℕ) (routes : Routes)
+        → ((route : List ℕ) → All (AgreesWithFixing t route) fixings
+        ↔ All (AgreesWithFixing t route) own_fixings)
+        → ((route : List ℕ) → All (AgreesWithDecision t route) decisions
+        ↔ All (AgreesWithDecision t route) own_decisions)
+        → AreRoutesOf (node_at problem own_fixings own_decisions) t routes
+        → AreRoutesOf (node_at problem fixings decisions) t routes }
 {}
