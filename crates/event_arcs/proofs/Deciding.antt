@@ -149,7 +149,7 @@ order_leads node a b order old is = record {
         leads_numbers node (old ++ arcs_of_order order) (record { from = number; to = order.to; length = order.release }) n b (release_of node.problem a b)
         (Contains-append_right old (arcs_of_order order) _ (suc there.0, omega (arith, there.1), there.2)) refl is.to_is (omega (arith, is.release_is))
 
-first_same : (a b c d : Op) → First a b ≡ First c d → (a ≡ c) × (b ≡ d)
+pub first_same : (a b c d : Op) → First a b ≡ First c d → (a ≡ c) × (b ≡ d)
 first_same a b c d e = (cc e, cc e)
 
 pub order_added : (node : Node) (a b : Op) (order : KnownOrder) (decision : Decision) (old new : List Arc) → decision ≡ First a b → IsOrdered node a b order → new ≡ old ++ arcs_of_order order → AddsOrder node decision old new
@@ -180,6 +180,10 @@ ordered_kept node old new a b kept leads = record {
   from_next = λ n goes. leads_kept old new (number_of node.problem n) (number_of node.problem b) _ kept (leads.from_next n goes);
 }
 
+pub only_one : (x y : Decision) → Contains (x ∷ []) y → x ≡ y
+only_one x y (zero, lt, e) = e
+only_one x y (suc k, lt, e) = absurd (omega (arith, lt))
+
 pub orders_none : (node : Node) (arcs : List Arc) → AddsOrders node [] arcs arcs
 orders_none node arcs = record { kept = λ arc there. there; sound = λ decided all. all; leads = λ a b there. absurd (omega (arith, there.1)) }
 
@@ -192,13 +196,9 @@ orders_more node decisions i d decision old mid new lt is before own = rw (take_
       (before.sound (λ e there. decided e (Contains-append_left (take i decisions) (get_or decisions i d ∷ []) e there)) all);
   leads = λ a b there one other conflicts. elim (Contains-append_cases (take i decisions) (get_or decisions i d ∷ []) (First a b) there) [
     | inl earlier ↦ ordered_kept node mid new a b own.kept (before.leads a b earlier one other conflicts)
-    | inr now ↦ own.leads a b (is ∙ only (get_or decisions i d) (First a b) now) one other conflicts
+    | inr now ↦ own.leads a b (is ∙ only_one (get_or decisions i d) (First a b) now) one other conflicts
   ];
 })
-  where
-    only : (x y : Decision) → Contains (x ∷ []) y → x ≡ y
-    only x y (zero, lt, e) = e
-    only x y (suc k, lt, e) = absurd (omega (arith, lt))
 
 -- ---- the whole list
 

@@ -9,3 +9,4 @@ mod Deciding
 mod Offsets
 mod Blocks
 mod Potentials
+mod Extending

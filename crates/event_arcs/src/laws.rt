@@ -1,4 +1,4 @@
-ghost use Rattle.std.specs.Prelude.{◌≡◌, ◌↔◌, ◌≤◌, ℕ, List, ◌∷◌, All, Contains, map};
+ghost use Rattle.std.specs.Prelude.{◌≡◌, ◌↔◌, ◌<◌, ◌≤◌, ℕ, List, ◌∷◌, ◌++◌, All, Contains, length, map};
 ghost use Rattle.disp_model.specs.declared.train.Op.{Op};
 ghost use Rattle.disp_model.specs.declared.fixing.Change.{Change};
 ghost use Rattle.disp_model.specs.declared.fixing.Fixing.{Fixing};
@@ -7,8 +7,9 @@ ghost use Rattle.disp_model.specs.declared.decision.Decision.TheVariants.{First}
 ghost use Rattle.disp_model.specs.declared.problem.Problem.{Problem};
 ghost use Rattle.disp_model.specs.Changes.{standing_of};
 ghost use Rattle.disp_model.specs.Numbers.{number_of};
-ghost use Rattle.disp_model.specs.Node.{Node, node_at};
-ghost use Rattle.disp_model.specs.Routes.{AgreesWithFixing, AgreesWithDecision, IsForced};
+ghost use Rattle.disp_model.specs.Node.{Node, node_at, with_decision};
+ghost use Rattle.disp_model.specs.Routes.{AgreesWithFixing, AgreesWithDecision, IsAllowed, HasRoute, IsForced};
+ghost use Rattle.disp_model.specs.Arcs.{Conflicts};
 ghost use Rattle.disp_model.specs.Walks.{IsWalk, IsLongest as IsLongestAt, IsCycle as IsCycleAt, HasCycle as HasCycleAt};
 ghost use Rattle.disp_model.specs.Replies.{IsEdition};
 ghost use Rattle.route_sets.specs.declared.routes.Routes.{Routes};
@@ -16,6 +17,7 @@ ghost use Rattle.route_sets.specs.Sets.{AreRoutesOf};
 ghost use Rattle.incremental_paths.specs.declared.arc.Arc.{Arc};
 ghost use Rattle.incremental_paths.specs.Walks.{IsWalkTo, walk_length, IsLongest, IsCycle, HasCycle, WalksAreShort};
 ghost use Rattle.event_arcs.specs.Listed.{IsArcOf, AreArcsOf, AreLowersOf, SpansTrains};
+ghost use Rattle.event_arcs.specs.Ordering.{LeadsAsOrdered};
 
 /// The list has a cycle exactly where the arcs of the node have one, and a cycle of numbers is one
 /// of their operations.
@@ -79,4 +81,26 @@ pub fn own_matters_suffice()
         ↔ All (AgreesWithDecision t route) own_decisions)
         → AreRoutesOf (node_at problem own_fixings own_decisions) t routes
         → AreRoutesOf (node_at problem fixings decisions) t routes }
+{}
+
+/// With one more decision routes that are allowed were so before, and a list's arcs stay arcs of
+/// the node, or shorter, where each train still has a route.
+pub fn decisions_tighten()
+    ensures routes { (node : Node) (decision : Decision) (t : ℕ) (route : List ℕ)
+        → IsAllowed (with_decision node decision) t route → IsAllowed node t route }
+    ensures arcs { (node : Node) (decision : Decision) (arcs : List Arc)
+        → ((t : ℕ) → t < length node.problem.trains → HasRoute (with_decision node decision) t)
+        → All (IsArcOf node) arcs → All (IsArcOf (with_decision node decision)) arcs }
+{}
+
+/// With one more order a list that stands for the arcs of the node still spans the trains, whatever
+/// is added to it; with arcs that lead as far as the order asks it stands for the arcs.
+pub fn an_order_extends()
+    ensures spans { (node : Node) (a b : Op) (arcs more : List Arc)
+        → AreArcsOf node arcs → SpansTrains (with_decision node (First a b)) (arcs ++ more) }
+    ensures stands { (node : Node) (a b : Op) (arcs more : List Arc)
+        → AreArcsOf node arcs → All (IsArcOf (with_decision node (First a b))) more
+        → (IsForced node a → IsForced node b → Conflicts node.problem a b
+        → LeadsAsOrdered (with_decision node (First a b)) (arcs ++ more) a b)
+        → AreArcsOf (with_decision node (First a b)) (arcs ++ more) }
 {}
