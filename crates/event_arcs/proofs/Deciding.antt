@@ -6,6 +6,7 @@ use Rattle.std.specs.Option.{option_map_or}
 use Rattle.std.proofs.lemmas.Option.{none-some, same_Some}
 use Rattle.std.proofs.lemmas.List.{take_more}
 use Rattle.std.proofs.lemmas.List.Elements.{All-cons, All-nil, All-append, filter-append, Contains-append_left, Contains-append_right, Contains-append_cases}
+use Rattle.plain_values.proofs.Lists.{contains_one}
 use Rattle.disp_model.specs.declared.train.Op.{Op}
 use Rattle.disp_model.specs.declared.train.Operation.{Operation}
 use Rattle.disp_model.specs.declared.train.Listing.{Listing}
@@ -180,10 +181,6 @@ ordered_kept node old new a b kept leads = record {
   from_next = λ n goes. leads_kept old new (number_of node.problem n) (number_of node.problem b) _ kept (leads.from_next n goes);
 }
 
-pub only_one : (x y : Decision) → Contains (x ∷ []) y → x ≡ y
-only_one x y (zero, lt, e) = e
-only_one x y (suc k, lt, e) = absurd (omega (arith, lt))
-
 pub orders_none : (node : Node) (arcs : List Arc) → AddsOrders node [] arcs arcs
 orders_none node arcs = record { kept = λ arc there. there; sound = λ decided all. all; leads = λ a b there. absurd (omega (arith, there.1)) }
 
@@ -196,7 +193,7 @@ orders_more node decisions i d decision old mid new lt is before own = rw (take_
       (before.sound (λ e there. decided e (Contains-append_left (take i decisions) (get_or decisions i d ∷ []) e there)) all);
   leads = λ a b there one other conflicts. elim (Contains-append_cases (take i decisions) (get_or decisions i d ∷ []) (First a b) there) [
     | inl earlier ↦ ordered_kept node mid new a b own.kept (before.leads a b earlier one other conflicts)
-    | inr now ↦ own.leads a b (is ∙ only_one (get_or decisions i d) (First a b) now) one other conflicts
+    | inr now ↦ own.leads a b (is ∙ sym (contains_one (get_or decisions i d) (First a b) now)) one other conflicts
   ];
 })
 

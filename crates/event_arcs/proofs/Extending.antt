@@ -1,7 +1,8 @@
 -- What a list of arcs is worth once one more is decided.
-use Rattle.std.proofs.Common.{ℕ, ◌<◌, ◌≤◌, List, [], ◌∷◌, ◌++◌, length, Some, refl, sym, subst, arith, inl, inr}
+use Rattle.std.proofs.Common.{ℕ, ◌<◌, ◌≤◌, List, [], ◌∷◌, ◌++◌, length, Some, refl, sym, subst, ◌∙◌, arith, inl, inr}
 use Rattle.std.specs.Prelude.{All, Contains}
-use Rattle.std.proofs.lemmas.List.Elements.{All-push, All-pop, All-append, All-weaker, Contains-append_left, Contains-append_cases}
+use Rattle.std.proofs.lemmas.List.Elements.{All-push, All-pop, All-append, All-contains, All-weaker, Contains-append_left, Contains-append_cases}
+use Rattle.plain_values.proofs.Lists.{contains_one}
 use Rattle.disp_model.specs.declared.train.Op.{Op}
 use Rattle.disp_model.specs.declared.decision.Decision.{Decision}
 use Rattle.disp_model.specs.declared.decision.Decision.TheVariants.{First}
@@ -13,13 +14,24 @@ use Rattle.disp_model.specs.Arcs.{Conflicts, IsTrainArc, IsArc}
 use Rattle.disp_laws.proofs.Arcs.{passes_leads}
 use Rattle.disp_laws.proofs.LeastSums.{train_arc_exists}
 use Rattle.incremental_paths.specs.declared.arc.Arc.{Arc}
-use Rattle.event_arcs.specs.Listed.{IsArcOf, LeadsOver, AreArcsOf, SpansTrains}
+use Rattle.event_arcs.specs.Listed.{IsArcOf, LeadsOver, AreArcsOf, IsOpOf, IsLeft, SpansTrains}
+use Rattle.event_arcs.proofs.Numbering.{forced_is_op, same_by_number}
 use Rattle.event_arcs.specs.Chained.{LeadsAlong}
 use Rattle.event_arcs.specs.Ordering.{LeadsAsOrdered}
 use Rattle.event_arcs.proofs.Joining.{leads_kept}
-use Rattle.event_arcs.proofs.Deciding.{first_same, only_one}
+use Rattle.event_arcs.proofs.Deciding.{first_same}
 
 -- ---- any decision
+
+any_long : (arcs : List Arc) (u v n : ℕ) → LeadsOver arcs u v n → LeadsOver arcs u v 0
+any_long arcs u v n way = record { next = way.next; rest = way.rest; follows = way.follows; ends = way.ends; long = omega arith }
+
+-- where a listed arc begins there is a forced operation
+left_forced : (node : Node) (arcs : List Arc) (o : Op) → All (IsArcOf node) arcs → IsOpOf node.problem o → IsLeft arcs (number_of node.problem o) → IsForced node o
+left_forced node arcs o sound op left =
+    let arc = All-contains (IsArcOf node) arcs left.1 sound (left.0, left.2, left.3) in
+    let from = arc.joins.from_forced in
+    subst (IsForced node) (same_by_number node.problem arc.u o (forced_is_op node arc.u from) op (sym arc.from_is ∙ left.4)) from
 
 module _ (node : Node) (decision : Decision) where
   pub allowed_before : (t : ℕ) (route : List ℕ) → IsAllowed (with_decision node decision) t route → IsAllowed node t route
@@ -76,6 +88,17 @@ module _ (node : Node) (decision : Decision) where
   pub still_sound : (arcs : List Arc) → ((t : ℕ) → t < length node.problem.trains → HasRoute (with_decision node decision) t) → All (IsArcOf node) arcs → All (IsArcOf (with_decision node decision)) arcs
   still_sound arcs has sound = All-weaker (IsArcOf node) (IsArcOf (with_decision node decision)) (listed_still has) arcs sound
 
+  -- the list spans the trains by what it had
+  pub spans_still : (arcs : List Arc) → AreArcsOf node arcs → SpansTrains (with_decision node decision) arcs
+  spans_still arcs are = record {
+    way = λ u v sum one other arc left right.
+        let first = left_forced node arcs u are.sound (forced_is_op (with_decision node decision) u one) left in
+        let second = left_forced node arcs v are.sound (forced_is_op (with_decision node decision) v other) right in
+        let way = passes_leads (train_at node.problem u.train) arc.reached.0 u.op v.op sum arc.reached.1.is_route arc.reached.2 in
+        let before = train_arc_exists node u v way.0 arc.same_train way.1 first second in
+        any_long arcs (number_of node.problem u) (number_of node.problem v) before.0 (are.complete u v before.0 (record { from_forced = first; to_forced = second; kind = inl before.1 }));
+  }
+
 -- ---- an order
 
 module _ (node : Node) (a b : Op) where
@@ -105,9 +128,6 @@ module _ (node : Node) (a b : Op) where
       let has : (o : Op) → IsForced node o → HasRoute (with_decision node (First a b)) o.train = λ o forced. (forced.allowed.0, allowed_then o.train forced.allowed.0 forced.allowed.1) in
       let now = arc_still node (First a b) is.u is.v is.arc_length (has is.u is.joins.from_forced) (has is.v is.joins.to_forced) is.joins in
       record { u = is.u; v = is.v; arc_length = now.0; joins = now.1; from_is = is.from_is; to_is = is.to_is; no_longer = omega (arith, is.no_longer, now.2) }
-
-  any_long : (arcs : List Arc) (u v n : ℕ) → LeadsOver arcs u v n → LeadsOver arcs u v 0
-  any_long arcs u v n way = record { next = way.next; rest = way.rest; follows = way.follows; ends = way.ends; long = omega arith }
 
   pub spans_then : (arcs more : List Arc) → AreArcsOf node arcs → SpansTrains (with_decision node (First a b)) (arcs ++ more)
   spans_then arcs more are = record {
@@ -160,7 +180,7 @@ module _ (node : Node) (a b : Op) where
 
       new : (u v : Op) → IsForced (with_decision node (First a b)) u → IsForced (with_decision node (First a b)) v → Conflicts node.problem u v → Contains (First a b ∷ []) (First u v) → LeadsAsOrdered (with_decision node (First a b)) (arcs ++ more) u v
       new u v one other conflicts now =
-          let same = first_same a b u v (only_one (First a b) (First u v) now) in
+          let same = first_same a b u v (sym (contains_one (First a b) (First u v) now)) in
           let conflict : Conflicts node.problem a b = subst (λ (x : Op). Conflicts node.problem x b) (sym same.0) (subst (λ (x : Op). Conflicts node.problem u x) (sym same.1) conflicts) in
           let ordered = leads (subst (IsForced node) (sym same.0) (forced_before u one)) (subst (IsForced node) (sym same.1) (forced_before v other)) conflict in
           subst (λ (x : Op). LeadsAsOrdered (with_decision node (First a b)) (arcs ++ more) x v) same.0 (subst (λ (x : Op). LeadsAsOrdered (with_decision node (First a b)) (arcs ++ more) a x) same.1 ordered)

@@ -83,14 +83,17 @@ pub fn own_matters_suffice()
         → AreRoutesOf (node_at problem fixings decisions) t routes }
 {}
 
-/// With one more decision routes that are allowed were so before, and a list's arcs stay arcs of
-/// the node, or shorter, where each train still has a route.
+/// With one more decision routes that are allowed were so before, a list's arcs stay arcs of the
+/// node, or shorter, where each train still has a route, and a list that stood for the node's arcs
+/// still spans the trains.
 pub fn decisions_tighten()
     ensures routes { (node : Node) (decision : Decision) (t : ℕ) (route : List ℕ)
         → IsAllowed (with_decision node decision) t route → IsAllowed node t route }
     ensures arcs { (node : Node) (decision : Decision) (arcs : List Arc)
         → ((t : ℕ) → t < length node.problem.trains → HasRoute (with_decision node decision) t)
         → All (IsArcOf node) arcs → All (IsArcOf (with_decision node decision)) arcs }
+    ensures spans { (node : Node) (decision : Decision) (arcs : List Arc)
+        → AreArcsOf node arcs → SpansTrains (with_decision node decision) arcs }
 {}
 
 /// With one more order a list that stands for the arcs of the node still spans the trains, whatever
