@@ -21,7 +21,7 @@ use Rattle.event_arcs.specs.Listed.{IsArcOf, LeadsOver, AreArcsOf}
 use Rattle.event_arcs.proofs.Leading.{leads_then, back_makes_cycle}
 use Rattle.event_arcs.proofs.Numbering.{same_forced, step_of}
 
-no_arc_to_itself : (node : Node) (o : Op) (n : ℕ) → IsArc node o o n → ⊥
+pub no_arc_to_itself : (node : Node) (o : Op) (n : ℕ) → IsArc node o o n → ⊥
 no_arc_to_itself node o n arc =
     let own = own_arc node o o n refl arc in
     let way = passes_leads (train_at node.problem o.train) own.reached.0 o.op o.op n own.reached.1.is_route own.reached.2 in

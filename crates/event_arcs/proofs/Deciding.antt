@@ -128,7 +128,7 @@ order_arcs_are node a b order is decided = all_two node _ (release_arcs order.ne
         }) (All-nil (IsArcOf node))
 
 -- an arc of the list leads between the operations of its numbers
-leads_numbers : (node : Node) (arcs : List Arc) (arc : Arc) (u v : Op) (least : ℕ) → Contains arcs arc → arc.from ≡ number_of node.problem u → arc.to ≡ number_of node.problem v → least ≤ arc.length → LeadsAlong node arcs u v least
+pub leads_numbers : (node : Node) (arcs : List Arc) (arc : Arc) (u v : Op) (least : ℕ) → Contains arcs arc → arc.from ≡ number_of node.problem u → arc.to ≡ number_of node.problem v → least ≤ arc.length → LeadsAlong node arcs u v least
 leads_numbers node arcs arc u v least there from to le =
     subst (λ (n : ℕ). LeadsOver arcs n (number_of node.problem v) least) from (subst (λ (n : ℕ). LeadsOver arcs arc.from n least) to (leads_by arcs arc least there le))
 

@@ -10,3 +10,4 @@ mod Offsets
 mod Blocks
 mod Potentials
 mod Extending
+mod Inserting

@@ -1,5 +1,5 @@
 -- Lists of arcs over numbered operations that stand for the arcs of a node.
-use Rattle.std.specs.Prelude.{◌≡◌, ℕ, ◌<◌, ◌≤◌, List, ◌∷◌, All, Any, length, slice_index}
+use Rattle.std.specs.Prelude.{◌≡◌, ◌⊎◌, ℕ, ◌<◌, ◌≤◌, List, ◌∷◌, All, Any, length, slice_index}
 use Rattle.disp_model.specs.declared.train.Op.{Op}
 use Rattle.disp_model.specs.declared.problem.Problem.{Problem}
 use Rattle.disp_model.specs.WellFormed.{operation_count}
@@ -54,3 +54,18 @@ IsLeft arcs number = Any (λ arc. arc.from ≡ number) arcs
 pub record SpansTrains (node : Node) (arcs : List Arc) : Type 0 where
   pub way : (u v : Op) (sum : ℕ) → IsForced node u → IsForced node v → IsTrainArc node u v sum → IsLeft arcs (number_of node.problem u) → IsLeft arcs (number_of node.problem v)
       → LeadsOver arcs (number_of node.problem u) (number_of node.problem v) 0
+
+-- an operation stands between two others of its train: what the list leads on from before it stands at the first or
+-- before it, and what it leads on from behind it at the second or behind it
+pub record GoesBetween (node : Node) (arcs : List Arc) (before op behind : Op) : Type 0 where
+  pub before_forced : IsForced node before
+  pub op_forced : IsForced node op
+  pub behind_forced : IsForced node behind
+  pub left : IsLeft arcs (number_of node.problem before)
+  pub from : (u : Op) (sum : ℕ) → IsForced node u → IsLeft arcs (number_of node.problem u) → IsTrainArc node u op sum → (u ≡ before) ⊎ ((n : ℕ) × IsTrainArc node u before n)
+  pub to : (v : Op) (sum : ℕ) → IsForced node v → IsLeft arcs (number_of node.problem v) → IsTrainArc node op v sum → (v ≡ behind) ⊎ (IsLeft arcs (number_of node.problem behind) × ((n : ℕ) × IsTrainArc node behind v n))
+
+-- the arc joins the numbers of the two operations
+pub record JoinsOps (node : Node) (arc : Arc) (u v : Op) : Type 0 where
+  pub from_is : arc.from ≡ number_of node.problem u
+  pub to_is : arc.to ≡ number_of node.problem v

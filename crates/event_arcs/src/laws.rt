@@ -1,4 +1,4 @@
-ghost use Rattle.std.specs.Prelude.{◌≡◌, ◌↔◌, ◌<◌, ◌≤◌, ℕ, List, ◌∷◌, ◌++◌, All, Contains, length, map};
+ghost use Rattle.std.specs.Prelude.{◌≡◌, ◌↔◌, ◌<◌, ◌≤◌, ℕ, List, [], ◌∷◌, ◌++◌, All, Contains, length, map};
 ghost use Rattle.disp_model.specs.declared.train.Op.{Op};
 ghost use Rattle.disp_model.specs.declared.fixing.Change.{Change};
 ghost use Rattle.disp_model.specs.declared.fixing.Fixing.{Fixing};
@@ -16,7 +16,7 @@ ghost use Rattle.route_sets.specs.declared.routes.Routes.{Routes};
 ghost use Rattle.route_sets.specs.Sets.{AreRoutesOf};
 ghost use Rattle.incremental_paths.specs.declared.arc.Arc.{Arc};
 ghost use Rattle.incremental_paths.specs.Walks.{IsWalkTo, walk_length, IsLongest, IsCycle, HasCycle, WalksAreShort};
-ghost use Rattle.event_arcs.specs.Listed.{IsArcOf, AreArcsOf, AreLowersOf, SpansTrains};
+ghost use Rattle.event_arcs.specs.Listed.{IsArcOf, AreArcsOf, AreLowersOf, SpansTrains, GoesBetween, JoinsOps};
 ghost use Rattle.event_arcs.specs.Ordering.{LeadsAsOrdered};
 
 /// The list has a cycle exactly where the arcs of the node have one, and a cycle of numbers is one
@@ -106,4 +106,14 @@ pub fn an_order_extends()
         → (IsForced node a → IsForced node b → Conflicts node.problem a b
         → LeadsAsOrdered (with_decision node (First a b)) (arcs ++ more) a b)
         → AreArcsOf (with_decision node (First a b)) (arcs ++ more) }
+{}
+
+/// A list that spans the trains still does so with an arc to an operation, from one that stands
+/// before it, and with an arc on from there, to one that stands behind it.
+pub fn an_operation_goes_between()
+    ensures { (node : Node) (arcs : List Arc) (before op behind : Op) (first second : Arc)
+        → SpansTrains node arcs → GoesBetween node arcs before op behind
+        → JoinsOps node first before op → JoinsOps node second op behind
+        → SpansTrains node (arcs ++ first ∷ [])
+        × SpansTrains node ((arcs ++ first ∷ []) ++ second ∷ []) }
 {}

@@ -13,9 +13,9 @@ mod owns;
 mod placed;
 
 pub use laws::{
-    an_order_extends, cycles_are_shared, decisions_tighten, longest_are_shared,
-    own_matters_suffice, spanning_lists_are_short, unordered_nodes_have_no_cycle,
-    walks_are_carried_over, walks_stay_short,
+    an_operation_goes_between, an_order_extends, cycles_are_shared, decisions_tighten,
+    longest_are_shared, own_matters_suffice, spanning_lists_are_short,
+    unordered_nodes_have_no_cycle, walks_are_carried_over, walks_stay_short,
 };
 pub use list::{NodeArcs, arcs};
 
