@@ -1,5 +1,5 @@
 -- The arcs of orders that are decided.
-use Rattle.std.proofs.Common.{◌≡◌, ℕ, zero, suc, ◌+◌, ◌^◌, ◌<◌, ◌≤◌, List, [], ◌∷◌, ◌++◌, length, take, get_or, Option, Some, None, refl, sym, ap, subst, ◌∙◌, inl, inr, arith}
+use Rattle.std.proofs.Common.{◌≡◌, ℕ, suc, ◌+◌, ◌^◌, ◌<◌, ◌≤◌, List, [], ◌∷◌, ◌++◌, length, take, get_or, Option, Some, None, refl, sym, ap, subst, ◌∙◌, inl, inr, arith}
 use Rattle.std.specs.Prelude.{All, Contains, slice_get, max, ◌==◌, ◌↔◌}
 use Rattle.std.specs.List.{list_any}
 use Rattle.std.specs.Option.{option_map_or}
@@ -18,7 +18,7 @@ use Rattle.disp_model.specs.Numbers.{number_of}
 use Rattle.disp_model.specs.Valid.{train_at}
 use Rattle.disp_model.specs.Node.{Node}
 use Rattle.disp_model.specs.Routes.{IsForced}
-use Rattle.disp_model.specs.Arcs.{listings_of, shared_listings, Conflicts, release_of, min_of, GoesTo}
+use Rattle.disp_model.specs.Arcs.{listings_of, shared_listings, Conflicts, release_of, min_of, IsTrainArc, GoesTo}
 use Rattle.disp_laws.proofs.OpenChoices.{goes_to_forced}
 use Rattle.disp_laws.proofs.Numbered.{below_count}
 use Rattle.route_sets.specs.Sets.{op_of}
@@ -199,20 +199,24 @@ orders_more node decisions i d decision old mid new lt is before own = rw (take_
 
 -- ---- the whole list
 
-pub whole_list : (node : Node) (count : ℕ) (mid new : List Arc) → count ≡ length node.problem.trains → AddsChains node count [] mid → AddsOrders node node.decisions mid new → AreArcsOf node new
-whole_list node count mid new long chains orders = record {
-  sound = orders.sound (λ decision there. there) (chains.extends.sound (All-nil (IsArcOf node)));
+pub stands_by_parts : (node : Node) (arcs : List Arc) → All (IsArcOf node) arcs → ((u v : Op) (sum : ℕ) → IsForced node u → IsForced node v → IsTrainArc node u v sum → LeadsAlong node arcs u v sum)
+    → ((a b : Op) → Contains node.decisions (First a b) → IsForced node a → IsForced node b → Conflicts node.problem a b → LeadsAsOrdered node arcs a b) → AreArcsOf node arcs
+stands_by_parts node arcs sound trains orders = record {
+  sound = sound;
   complete = λ u v arc_length arc. elim arc.kind [
-    | inl train ↦
-        leads_kept mid new (number_of node.problem u) (number_of node.problem v) arc_length orders.kept
-        (chains.leads u v arc_length (omega (arith, arc.from_forced.train, long)) arc.from_forced arc.to_forced train)
+    | inl train ↦ trains u v arc_length arc.from_forced arc.to_forced train
     | inr r ↦ elim r [
       | inl order ↦
-          let leads = orders.leads u v order.decided arc.from_forced arc.to_forced order.conflicts in
-          subst (LeadsAlong node new u v) (sym order.length_is) leads.from_first
+          let leads = orders u v order.decided arc.from_forced arc.to_forced order.conflicts in
+          subst (LeadsAlong node arcs u v) (sym order.length_is) leads.from_first
       | inr release ↦
-          let leads = orders.leads release.holder v release.decided release.forced arc.to_forced release.conflicts in
-          subst (LeadsAlong node new u v) (sym release.length_is) (leads.from_next u release.goes_to)
+          let leads = orders release.holder v release.decided release.forced arc.to_forced release.conflicts in
+          subst (LeadsAlong node arcs u v) (sym release.length_is) (leads.from_next u release.goes_to)
     ]
   ];
 }
+
+pub whole_list : (node : Node) (count : ℕ) (mid new : List Arc) → count ≡ length node.problem.trains → AddsChains node count [] mid → AddsOrders node node.decisions mid new → AreArcsOf node new
+whole_list node count mid new long chains orders =
+    stands_by_parts node new (orders.sound (λ decision there. there) (chains.extends.sound (All-nil (IsArcOf node))))
+    (λ u v sum one other arc. leads_kept mid new (number_of node.problem u) (number_of node.problem v) sum orders.kept (chains.leads u v sum (omega (arith, one.train, long)) one other arc)) orders.leads

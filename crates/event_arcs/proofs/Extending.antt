@@ -1,5 +1,5 @@
 -- What a list of arcs is worth once one more is decided.
-use Rattle.std.proofs.Common.{ℕ, ◌<◌, ◌≤◌, List, [], ◌∷◌, ◌++◌, length, Some, refl, sym, subst, ◌∙◌, arith, inl, inr}
+use Rattle.std.proofs.Common.{◌≢◌, ℕ, ◌<◌, ◌≤◌, List, [], ◌∷◌, ◌++◌, length, Some, refl, sym, subst, ◌∙◌, arith, inl, inr}
 use Rattle.std.specs.Prelude.{All, Contains}
 use Rattle.std.proofs.lemmas.List.Elements.{All-push, All-pop, All-append, All-contains, All-weaker, Contains-append_left, Contains-append_cases}
 use Rattle.plain_values.proofs.Lists.{contains_one}
@@ -16,7 +16,9 @@ use Rattle.disp_laws.proofs.LeastSums.{train_arc_exists}
 use Rattle.incremental_paths.specs.declared.arc.Arc.{Arc}
 use Rattle.event_arcs.specs.Listed.{IsArcOf, LeadsOver, AreArcsOf, IsOpOf, IsLeft, SpansTrains}
 use Rattle.event_arcs.proofs.Numbering.{forced_is_op, same_by_number}
+use Rattle.event_arcs.specs.Owned.{train_of_decision}
 use Rattle.event_arcs.specs.Chained.{LeadsAlong}
+use Rattle.event_arcs.proofs.Owning.{other_decision}
 use Rattle.event_arcs.specs.Ordering.{LeadsAsOrdered}
 use Rattle.event_arcs.proofs.Joining.{leads_kept}
 use Rattle.event_arcs.proofs.Deciding.{first_same}
@@ -41,6 +43,13 @@ module _ (node : Node) (decision : Decision) where
     decisions_agree = (All-pop (AgreesWithDecision t route) (node.decisions ++ decision ∷ []) node.decisions (Some decision) refl allowed.decisions_agree).0;
   }
 
+  pub allowed_still : (t : ℕ) (route : List ℕ) → train_of_decision decision ≢ Some t → IsAllowed node t route → IsAllowed (with_decision node decision) t route
+  allowed_still t route other allowed = record {
+    is_route = allowed.is_route;
+    fixings_agree = allowed.fixings_agree;
+    decisions_agree = All-push (AgreesWithDecision t route) node.decisions decision allowed.decisions_agree (other_decision t route decision other);
+  }
+
   forced_still : (o : Op) → HasRoute (with_decision node decision) o.train → IsForced node o → IsForced (with_decision node decision) o
   forced_still o has forced = record { train = forced.train; allowed = has; each_has = λ route allowed. forced.each_has route (allowed_before o.train route allowed) }
 
@@ -54,23 +63,31 @@ module _ (node : Node) (decision : Decision) where
   arc_still u v n from to arc = elim arc.kind [
     | inl train ↦ let now = train_arc_still u v n one other train in (now.0, record { from_forced = one; to_forced = other; kind = inl now.1 }, now.2)
     | inr r ↦ elim r [
-      | inl order ↦ (n, record {
-        from_forced = one;
-        to_forced = other;
-        kind = inr (inl (record { decided = Contains-append_left node.decisions (decision ∷ []) _ order.decided; conflicts = order.conflicts; length_is = order.length_is }));
-      }, omega arith)
-      | inr release ↦ (n, record {
-        from_forced = one;
-        to_forced = other;
-        kind = inr (inr (record {
-          holder = release.holder;
-          decided = Contains-append_left node.decisions (decision ∷ []) _ release.decided;
-          forced = forced_still release.holder (subst (HasRoute (with_decision node decision)) release.goes_to.0 from) release.forced;
-          conflicts = release.conflicts;
-          goes_to = (release.goes_to.0, λ route allowed. release.goes_to.1 route (allowed_before release.holder.train route allowed));
-          length_is = release.length_is;
-        }));
-      }, omega arith)
+      | inl order ↦ (
+        n,
+        record {
+          from_forced = one;
+          to_forced = other;
+          kind = inr (inl (record { decided = Contains-append_left node.decisions (decision ∷ []) _ order.decided; conflicts = order.conflicts; length_is = order.length_is }));
+        },
+        omega arith,
+      )
+      | inr release ↦ (
+        n,
+        record {
+          from_forced = one;
+          to_forced = other;
+          kind = inr (inr (record {
+            holder = release.holder;
+            decided = Contains-append_left node.decisions (decision ∷ []) _ release.decided;
+            forced = forced_still release.holder (subst (HasRoute (with_decision node decision)) release.goes_to.0 from) release.forced;
+            conflicts = release.conflicts;
+            goes_to = (release.goes_to.0, λ route allowed. release.goes_to.1 route (allowed_before release.holder.train route allowed));
+            length_is = release.length_is;
+          }));
+        },
+        omega arith,
+      )
     ]
   ]
     where

@@ -28,7 +28,7 @@ other_fixing t route (Started u o time) other = λ same. absurd (other (sym same
 other_fixing t route (Chosen u o next) other = λ same. absurd (other (sym same))
 other_fixing t route (NotBefore u o time) other = tt
 
-other_decision : (t : ℕ) (route : List ℕ) (decision : Decision) → (train_of_decision decision ≡ Some t → ⊥) → AgreesWithDecision t route decision
+pub other_decision : (t : ℕ) (route : List ℕ) (decision : Decision) → (train_of_decision decision ≡ Some t → ⊥) → AgreesWithDecision t route decision
 other_decision t route (Go o next) other = λ same. absurd (other (ap Some same))
 other_decision t route (First a b) other = tt
 other_decision t route (Run o) other = λ same. absurd (other (ap Some same))

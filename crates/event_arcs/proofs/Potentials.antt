@@ -80,7 +80,7 @@ trains_to problem (suc n) le =
     let more = sum_by_more (λ (train : List Operation). length train) problem.trains n [] (omega (arith, le)) in
     let suc_is : n + 1 ≡ suc n = omega arith in
     let next : sum_by (λ (train : List Operation). length train) (take (suc n) problem.trains) ≡ sum_by (λ (train : List Operation). length train) (take n problem.trains) + length (train_at problem n) =
-        subst (λ (m : ℕ). sum_by (λ (train : List Operation). length train) (take m problem.trains) ≡ sum_by (λ (train : List Operation). length train) (take n problem.trains) + length (train_at problem n)) suc_is more in
+    subst (λ (m : ℕ). sum_by (λ (train : List Operation). length train) (take m problem.trains) ≡ sum_by (λ (train : List Operation). length train) (take n problem.trains) + length (train_at problem n)) suc_is more in
     omega (arith, next, trains_to problem n (omega (arith, le)))
 
 -- ---- how long arcs are

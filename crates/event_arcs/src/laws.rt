@@ -1,4 +1,4 @@
-ghost use Rattle.std.specs.Prelude.{◌≡◌, ◌↔◌, ◌<◌, ◌≤◌, ℕ, List, [], ◌∷◌, ◌++◌, All, Contains, length, map};
+ghost use Rattle.std.specs.Prelude.{◌≡◌, ◌≢◌, ◌↔◌, ◌<◌, ◌≤◌, ℕ, List, [], ◌∷◌, ◌++◌, All, Contains, Some, length, map};
 ghost use Rattle.disp_model.specs.declared.train.Op.{Op};
 ghost use Rattle.disp_model.specs.declared.fixing.Change.{Change};
 ghost use Rattle.disp_model.specs.declared.fixing.Fixing.{Fixing};
@@ -9,7 +9,7 @@ ghost use Rattle.disp_model.specs.Changes.{standing_of};
 ghost use Rattle.disp_model.specs.Numbers.{number_of};
 ghost use Rattle.disp_model.specs.Node.{Node, node_at, with_decision};
 ghost use Rattle.disp_model.specs.Routes.{AgreesWithFixing, AgreesWithDecision, IsAllowed, HasRoute, IsForced};
-ghost use Rattle.disp_model.specs.Arcs.{Conflicts};
+ghost use Rattle.disp_model.specs.Arcs.{Conflicts, IsTrainArc};
 ghost use Rattle.disp_model.specs.Walks.{IsWalk, IsLongest as IsLongestAt, IsCycle as IsCycleAt, HasCycle as HasCycleAt};
 ghost use Rattle.disp_model.specs.Replies.{IsEdition};
 ghost use Rattle.route_sets.specs.declared.routes.Routes.{Routes};
@@ -17,6 +17,8 @@ ghost use Rattle.route_sets.specs.Sets.{AreRoutesOf};
 ghost use Rattle.incremental_paths.specs.declared.arc.Arc.{Arc};
 ghost use Rattle.incremental_paths.specs.Walks.{IsWalkTo, walk_length, IsLongest, IsCycle, HasCycle, WalksAreShort};
 ghost use Rattle.event_arcs.specs.Listed.{IsArcOf, AreArcsOf, AreLowersOf, SpansTrains, GoesBetween, JoinsOps};
+ghost use Rattle.event_arcs.specs.Owned.{train_of_decision};
+ghost use Rattle.event_arcs.specs.Chained.{LeadsAlong};
 ghost use Rattle.event_arcs.specs.Ordering.{LeadsAsOrdered};
 
 /// The list has a cycle exactly where the arcs of the node have one, and a cycle of numbers is one
@@ -83,12 +85,15 @@ pub fn own_matters_suffice()
         → AreRoutesOf (node_at problem fixings decisions) t routes }
 {}
 
-/// With one more decision routes that are allowed were so before, a list's arcs stay arcs of the
-/// node, or shorter, where each train still has a route, and a list that stood for the node's arcs
-/// still spans the trains.
+/// With one more decision routes that are allowed were so before, and those of trains that it is not
+/// about stay so; a list's arcs stay arcs of the node, or shorter, where each train still has a
+/// route; and a list that stood for the node's arcs still spans the trains.
 pub fn decisions_tighten()
     ensures routes { (node : Node) (decision : Decision) (t : ℕ) (route : List ℕ)
         → IsAllowed (with_decision node decision) t route → IsAllowed node t route }
+    ensures others { (node : Node) (decision : Decision) (t : ℕ) (route : List ℕ)
+        → train_of_decision decision ≢ Some t
+        → IsAllowed node t route → IsAllowed (with_decision node decision) t route }
     ensures arcs { (node : Node) (decision : Decision) (arcs : List Arc)
         → ((t : ℕ) → t < length node.problem.trains → HasRoute (with_decision node decision) t)
         → All (IsArcOf node) arcs → All (IsArcOf (with_decision node decision)) arcs }
@@ -116,4 +121,15 @@ pub fn an_operation_goes_between()
         → JoinsOps node first before op → JoinsOps node second op behind
         → SpansTrains node (arcs ++ first ∷ [])
         × SpansTrains node ((arcs ++ first ∷ []) ++ second ∷ []) }
+{}
+
+/// A list stands for the arcs of a node where each listed arc is one of them, or shorter, and the
+/// list leads as far as the trains and the decided orders ask.
+pub fn a_list_stands_by_its_parts()
+    ensures { (node : Node) (arcs : List Arc) → All (IsArcOf node) arcs
+        → ((u v : Op) (sum : ℕ) → IsForced node u → IsForced node v → IsTrainArc node u v sum
+        → LeadsAlong node arcs u v sum)
+        → ((a b : Op) → Contains node.decisions (First a b) → IsForced node a → IsForced node b
+        → Conflicts node.problem a b → LeadsAsOrdered node arcs a b)
+        → AreArcsOf node arcs }
 {}

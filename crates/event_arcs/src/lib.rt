@@ -13,8 +13,8 @@ mod owns;
 mod placed;
 
 pub use laws::{
-    an_operation_goes_between, an_order_extends, cycles_are_shared, decisions_tighten,
-    longest_are_shared, own_matters_suffice, spanning_lists_are_short,
+    a_list_stands_by_its_parts, an_operation_goes_between, an_order_extends, cycles_are_shared,
+    decisions_tighten, longest_are_shared, own_matters_suffice, spanning_lists_are_short,
     unordered_nodes_have_no_cycle, walks_are_carried_over, walks_stay_short,
 };
 pub use list::{NodeArcs, arcs};

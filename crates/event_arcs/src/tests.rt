@@ -2,18 +2,13 @@
 ghost use Rattle.std.specs.Prelude.{◌≡◌, [], ◌∷◌, None, IfOk};
 
 use crate::{NodeArcs, arcs};
-use incremental_paths::Arc;
 use disp_model::{Decision, Fixing, List, Listing, Memory, Op, Operation, Problem, Text, Train};
+use incremental_paths::Arc;
 use std::alloc::Global;
 use std::test::Fail;
 
 /// An operation that lasts so long, holds resources, and goes on so.
-fn lasting(
-    alloc: Global,
-    min: u32,
-    listings: &[Listing],
-    next: &[u32],
-) -> Result<Operation, Memory>
+fn lasting(alloc: Global, min: u32, listings: &[Listing], next: &[u32]) -> Result<Operation, Memory>
     ensures { IfOk result
         (λ o. o
         ≡ record { lower = 0; upper = None; min = min; listings = listings.now; next = next.now }) }
