@@ -35,9 +35,6 @@ first_small node t placed there is =
 
 -- ---- the numbers of the first operations
 
-pub first_of_none : (problem : Problem) → number_of problem (op_of 0 0) ≡ 0
-first_of_none problem = omega arith
-
 pub first_of_next : (problem : Problem) (t : ℕ) → t < length problem.trains → number_of problem (op_of (t + 1) 0) ≡ number_of problem (op_of t 0) + length (train_at problem t)
 first_of_next problem t there = omega (arith, sum_by_more (λ (train : List Operation). length train) problem.trains t [] there)
 

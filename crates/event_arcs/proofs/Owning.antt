@@ -84,10 +84,7 @@ pub next_decision : (fixings : List Fixing) (decisions : List Decision) (i : ℕ
 next_decision fixings decisions i d decision old new lt is are takes =
     rw (take_more decisions i d lt) (decision_taken fixings (take i decisions) (get_or decisions i d) old new are (subst (λ (e : Decision). TakesDecision e old new) is takes))
 
--- of no fixings and no decisions, one train more
-pub own_none : AreOwn [] [] []
-own_none = record { of_fixings = λ t route lt. absurd (omega (arith, lt)); of_decisions = λ t route lt. absurd (omega (arith, lt)) }
-
+-- with one train more, of which nothing is said
 pub own_none_more : (owns new : List Own) (own : Own) → AreOwn [] [] owns → own.fixings ≡ [] → own.decisions ≡ [] → new ≡ owns ++ own ∷ [] → AreOwn [] [] new
 own_none_more owns new own are no_fixings no_decisions new_is = record {
   of_fixings = λ t route lt. (λ all. by_place t (λ o. All (AgreesWithFixing t route) o.fixings) (λ before. (are.of_fixings t route before).0 all) (subst (All (AgreesWithFixing t route)) (sym no_fixings) all) lt, λ all. All-nil (AgreesWithFixing t route));

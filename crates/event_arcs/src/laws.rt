@@ -85,8 +85,8 @@ pub fn own_matters_suffice()
         → AreRoutesOf (node_at problem fixings decisions) t routes }
 {}
 
-/// With one more decision routes that are allowed were so before, and those of trains that it is not
-/// about stay so; a list's arcs stay arcs of the node, or shorter, where each train still has a
+/// With one more decision routes that are allowed were so before, and those of trains that it is
+/// not about stay so; a list's arcs stay arcs of the node, or shorter, where each train still has a
 /// route; and a list that stood for the node's arcs still spans the trains.
 pub fn decisions_tighten()
     ensures routes { (node : Node) (decision : Decision) (t : ℕ) (route : List ℕ)
