@@ -181,9 +181,6 @@ ordered_kept node old new a b kept leads = record {
   from_next = λ n goes. leads_kept old new (number_of node.problem n) (number_of node.problem b) _ kept (leads.from_next n goes);
 }
 
-pub orders_none : (node : Node) (arcs : List Arc) → AddsOrders node [] arcs arcs
-orders_none node arcs = record { kept = λ arc there. there; sound = λ decided all. all; leads = λ a b there. absurd (omega (arith, there.1)) }
-
 pub orders_more : (node : Node) (decisions : List Decision) (i : ℕ) (d decision : Decision) (old mid new : List Arc) → i < length decisions → decision ≡ get_or decisions i d → AddsOrders node (take i decisions) old mid → AddsOrder node decision mid new
     → AddsOrders node (take (i + 1) decisions) old new
 orders_more node decisions i d decision old mid new lt is before own = rw (take_more decisions i d lt) (record {

@@ -2,7 +2,7 @@
 use Rattle.std.proofs.Common.{◌≡◌, ℕ, zero, suc, ◌+◌, ◌<◌, ◌≤◌, List, [], ◌∷◌, ◌++◌, length, take, get_or, Option, Some, None, refl, sym, ap, subst, ◌∙◌, inl, inr, arith}
 use Rattle.std.specs.Prelude.{Contains, IfSome, slice_get, ◌⊎◌}
 use Rattle.std.proofs.lemmas.Bool.{cases_lt}
-use Rattle.std.proofs.lemmas.Option.{none-some, same_Some, slice_get_within}
+use Rattle.std.proofs.lemmas.Option.{none-some, same_Some}
 use Rattle.std.proofs.lemmas.List.{get_or_default}
 use Rattle.std.proofs.lemmas.List.Elements.{All-push, Contains-append_left, Contains-append_right}
 use Rattle.disp_model.specs.declared.train.Op.{Op}
@@ -120,18 +120,6 @@ arc_down node t order i j o s is one other from to lt = elim (either_leads node 
     apart same = let places = one_place (train_at node.problem t) order i j s is (subst (λ (x : ℕ). slice_get order i ≡ Some x) same from) to in omega (arith, places, lt)
 
 -- ---- a step down the order
-
--- at the end of the order, nothing is chained
-pub chained_none : (node : Node) (t : ℕ) (order : List ℕ) (place : ℕ) (base : List Arc) → length order ≤ place → IsChained node t order place base base None
-chained_none node t order place base le = record {
-  extends = extends_none node base;
-  last_stands = tt;
-  to_last = λ o stands. absurd (past o stands);
-  between = λ o q sum one other arc. absurd (past o one);
-}
-  where
-    past : (o : ℕ) → StandsFrom node t order place o → ⊥
-    past o stands = omega (arith, le, stands.from, slice_get_within order stands.at o stands.here)
 
 -- an operation from a place on is at it, or further on
 at_or_on : (node : Node) (t : ℕ) (order : List ℕ) (place q o : ℕ) → slice_get order place ≡ Some q → StandsFrom node t order place o → (q ≡ o) ⊎ StandsFrom node t order (place + 1) o
@@ -294,9 +282,6 @@ chain_done node t routes order first place base arcs last given low chained = re
 
     leads : (u v : Op) (sum : ℕ) → u.train ≡ t → IsForced node u → IsForced node v → IsTrainArc node u v sum → LeadsAlong node arcs u v sum
     leads u v sum same one other arc = own u v sum same (sym arc.same_train ∙ same) one other arc
-
-pub chains_none : (node : Node) (arcs : List Arc) → AddsChains node 0 arcs arcs
-chains_none node arcs = record { extends = extends_none node arcs; leads = λ u v sum lt. absurd (omega (arith, lt)) }
 
 pub chains_more : (node : Node) (count : ℕ) (old mid new : List Arc) → AddsChains node count old mid → AddsChain node count mid new → AddsChains node (count + 1) old new
 chains_more node count old mid new before own = record {

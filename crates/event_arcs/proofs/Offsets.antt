@@ -1,7 +1,7 @@
 -- The routes of all trains, as they are read and kept, and the numbers of their first operations.
 use Rattle.std.proofs.Common.{◌≡◌, ℕ, ◌+◌, ◌^◌, ◌<◌, List, [], ◌∷◌, ◌++◌, length, get_or, Some, refl, sym, ap, subst, ◌∙◌, inl, inr, arith}
 use Rattle.std.specs.Prelude.{slice_get}
-use Rattle.std.proofs.lemmas.Option.{slice_get_read, slice_get_within}
+use Rattle.std.proofs.lemmas.Option.{slice_get_read}
 use Rattle.std.proofs.lemmas.List.{length-append, get_or_default}
 use Rattle.std.proofs.lemmas.List.Sums.{sum_by_more, sum_by-take-le}
 use Rattle.disp_model.specs.declared.train.Operation.{Operation}
@@ -54,9 +54,6 @@ routes_by_own problem fixings own_fixings decisions own_decisions owns t own rou
     own_routes problem fixings (own_at owns t).fixings decisions (own_at owns t).decisions t (λ route. are.of_fixings t route lt) (λ route. are.of_decisions t route lt) routes
     (subst (λ (l : List Fixing). AreRoutesOf (node_at problem l (own_at owns t).decisions) t routes) first
     (subst (λ (l : List Decision). AreRoutesOf (node_at problem own_fixings l) t routes) second says))
-
-pub placed_none : (node : Node) → ArePlacedTo node 0 []
-placed_none node = record { long = refl; there = omega arith; at = λ t placed at. absurd (omega (arith, slice_get_within [] t placed at)) }
 
 pub placed_more : (node : Node) (t : ℕ) (each new : List Placed) (placed : Placed) → t < length node.problem.trains → ArePlacedTo node t each → IsPlaced node t placed → new ≡ each ++ placed ∷ [] → ArePlacedTo node (t + 1) new
 placed_more node t each new placed there are is new_is = record {
