@@ -19,7 +19,7 @@ use Rattle.route_sets.specs.declared.routes.Routes.{Routes}
 use Rattle.route_sets.specs.Sets.{op_of, AreRoutesOf}
 use Rattle.event_arcs.specs.declared.owns.Own.{Own}
 use Rattle.event_arcs.specs.declared.placed.Placed.{Placed}
-use Rattle.event_arcs.specs.Owned.{own_at, AreOwn}
+use Rattle.event_arcs.specs.Owned.{own_at, AreByTrain}
 use Rattle.event_arcs.specs.Placed.{IsPlaced, ArePlacedTo, ArePlaced, IsFirstWithout}
 use Rattle.event_arcs.proofs.Owning.{own_routes}
 
@@ -44,7 +44,7 @@ first_within problem t = omega (arith, sum_by-take-le (λ (train : List Operatio
 -- ---- the routes of one more train
 
 -- the routes by what is the train's own are those by all fixings and decisions
-pub routes_by_own : (problem : Problem) (fixings own_fixings : List Fixing) (decisions own_decisions : List Decision) (owns : List Own) (t : ℕ) (own : Own) (routes : Routes) → AreOwn fixings decisions owns → t < length owns
+pub routes_by_own : (problem : Problem) (fixings own_fixings : List Fixing) (decisions own_decisions : List Decision) (owns : List Own) (t : ℕ) (own : Own) (routes : Routes) → AreByTrain fixings decisions owns → t < length owns
     → own ≡ get_or owns t own → own_fixings ≡ own.fixings → own_decisions ≡ own.decisions
     → AreRoutesOf (node_at problem own_fixings own_decisions) t routes → AreRoutesOf (node_at problem fixings decisions) t routes
 routes_by_own problem fixings own_fixings decisions own_decisions owns t own routes are lt is fixings_is decisions_is says =

@@ -18,7 +18,7 @@ use Rattle.route_sets.specs.declared.routes.Routes.{Routes}
 use Rattle.route_sets.specs.Marks.{mark_at}
 use Rattle.route_sets.specs.Sets.{op_of, IsMarkOf, AreRoutesOf}
 use Rattle.event_arcs.specs.declared.owns.Own.{Own}
-use Rattle.event_arcs.specs.Owned.{train_of_fixing, train_of_decision, own_at, TakesFixing, TakesDecision, AreOwn}
+use Rattle.event_arcs.specs.Owned.{train_of_fixing, train_of_decision, own_at, TakesFixing, TakesDecision, AreByTrain}
 
 -- ---- one more fixing, one more decision
 
@@ -47,7 +47,7 @@ more_on_one P xs ys zs x same is holds = (
   λ all. All-push P xs x (same.1 (subst (All P) is all)) holds,
 )
 
-fixing_taken : (fixings : List Fixing) (decisions : List Decision) (fixing : Fixing) (old new : List Own) → AreOwn fixings decisions old → TakesFixing fixing old new → AreOwn (fixings ++ fixing ∷ []) decisions new
+fixing_taken : (fixings : List Fixing) (decisions : List Decision) (fixing : Fixing) (old new : List Own) → AreByTrain fixings decisions old → TakesFixing fixing old new → AreByTrain (fixings ++ fixing ∷ []) decisions new
 fixing_taken fixings decisions fixing old new are takes = record {
   of_fixings = λ t route there. by_train t route (omega (arith, there, takes.long));
   of_decisions = λ t route there. subst (λ (l : List Decision). All (AgreesWithDecision t route) decisions ↔ All (AgreesWithDecision t route) l) (sym (takes.decisions t)) (are.of_decisions t route (omega (arith, there, takes.long)));
@@ -62,7 +62,7 @@ fixing_taken fixings decisions fixing old new are takes = record {
       | inr other ↦ more_on_one (AgreesWithFixing t route) fixings (own_at old t).fixings (own_at new t).fixings fixing (are.of_fixings t route there) (takes.others t other) (other_fixing t route fixing other)
     ]
 
-decision_taken : (fixings : List Fixing) (decisions : List Decision) (decision : Decision) (old new : List Own) → AreOwn fixings decisions old → TakesDecision decision old new → AreOwn fixings (decisions ++ decision ∷ []) new
+decision_taken : (fixings : List Fixing) (decisions : List Decision) (decision : Decision) (old new : List Own) → AreByTrain fixings decisions old → TakesDecision decision old new → AreByTrain fixings (decisions ++ decision ∷ []) new
 decision_taken fixings decisions decision old new are takes = record {
   of_fixings = λ t route there. subst (λ (l : List Fixing). All (AgreesWithFixing t route) fixings ↔ All (AgreesWithFixing t route) l) (sym (takes.fixings t)) (are.of_fixings t route (omega (arith, there, takes.long)));
   of_decisions = λ t route there. by_train t route (omega (arith, there, takes.long));
@@ -74,18 +74,18 @@ decision_taken fixings decisions decision old new are takes = record {
       | inr other ↦ more_on_one (AgreesWithDecision t route) decisions (own_at old t).decisions (own_at new t).decisions decision (are.of_decisions t route there) (takes.others t other) (other_decision t route decision other)
     ]
 
-pub next_fixing : (fixings : List Fixing) (decisions : List Decision) (i : ℕ) (d fixing : Fixing) (old new : List Own) → i < length fixings → fixing ≡ get_or fixings i d → AreOwn (take i fixings) decisions old → TakesFixing fixing old new
-    → AreOwn (take (i + 1) fixings) decisions new
+pub next_fixing : (fixings : List Fixing) (decisions : List Decision) (i : ℕ) (d fixing : Fixing) (old new : List Own) → i < length fixings → fixing ≡ get_or fixings i d → AreByTrain (take i fixings) decisions old → TakesFixing fixing old new
+    → AreByTrain (take (i + 1) fixings) decisions new
 next_fixing fixings decisions i d fixing old new lt is are takes =
     rw (take_more fixings i d lt) (fixing_taken (take i fixings) decisions (get_or fixings i d) old new are (subst (λ (f : Fixing). TakesFixing f old new) is takes))
 
-pub next_decision : (fixings : List Fixing) (decisions : List Decision) (i : ℕ) (d decision : Decision) (old new : List Own) → i < length decisions → decision ≡ get_or decisions i d → AreOwn fixings (take i decisions) old → TakesDecision decision old new
-    → AreOwn fixings (take (i + 1) decisions) new
+pub next_decision : (fixings : List Fixing) (decisions : List Decision) (i : ℕ) (d decision : Decision) (old new : List Own) → i < length decisions → decision ≡ get_or decisions i d → AreByTrain fixings (take i decisions) old → TakesDecision decision old new
+    → AreByTrain fixings (take (i + 1) decisions) new
 next_decision fixings decisions i d decision old new lt is are takes =
     rw (take_more decisions i d lt) (decision_taken fixings (take i decisions) (get_or decisions i d) old new are (subst (λ (e : Decision). TakesDecision e old new) is takes))
 
 -- with one train more, of which nothing is said
-pub own_none_more : (owns new : List Own) (own : Own) → AreOwn [] [] owns → own.fixings ≡ [] → own.decisions ≡ [] → new ≡ owns ++ own ∷ [] → AreOwn [] [] new
+pub own_none_more : (owns new : List Own) (own : Own) → AreByTrain [] [] owns → own.fixings ≡ [] → own.decisions ≡ [] → new ≡ owns ++ own ∷ [] → AreByTrain [] [] new
 own_none_more owns new own are no_fixings no_decisions new_is = record {
   of_fixings = λ t route lt. (λ all. by_place t (λ o. All (AgreesWithFixing t route) o.fixings) (λ before. (are.of_fixings t route before).0 all) (subst (All (AgreesWithFixing t route)) (sym no_fixings) all) lt, λ all. All-nil (AgreesWithFixing t route));
   of_decisions = λ t route lt. (λ all. by_place t (λ o. All (AgreesWithDecision t route) o.decisions) (λ before. (are.of_decisions t route before).0 all) (subst (All (AgreesWithDecision t route)) (sym no_decisions) all) lt, λ all. All-nil (AgreesWithDecision t route));

@@ -37,6 +37,6 @@ pub record TakesDecision (decision : Decision) (old new : List Own) : Type 0 whe
   pub fixings : (t : ℕ) → (own_at new t).fixings ≡ (own_at old t).fixings
 
 -- a train's routes agree with all fixings and decisions exactly where they agree with its own
-pub record AreOwn (fixings : List Fixing) (decisions : List Decision) (owns : List Own) : Type 0 where
+pub record AreByTrain (fixings : List Fixing) (decisions : List Decision) (owns : List Own) : Type 0 where
   pub of_fixings : (t : ℕ) (route : List ℕ) → t < length owns → All (AgreesWithFixing t route) fixings ↔ All (AgreesWithFixing t route) (own_at owns t).fixings
   pub of_decisions : (t : ℕ) (route : List ℕ) → t < length owns → All (AgreesWithDecision t route) decisions ↔ All (AgreesWithDecision t route) (own_at owns t).decisions

@@ -1,6 +1,6 @@
 ghost use Rattle.std.specs.Prelude.{◌≡◌, List, [], IfOk, OnOk, length};
 ghost use Rattle.disp_model.specs.declared.fixing.Fixing.{Fixing};
-ghost use Rattle.event_arcs.specs.Owned.{train_of_fixing, train_of_decision, TakesFixing, TakesDecision, AreOwn};
+ghost use Rattle.event_arcs.specs.Owned.{train_of_fixing, train_of_decision, TakesFixing, TakesDecision, AreByTrain};
 
 use disp_model::{Decision, Fixing, List, Memory};
 use std::alloc::Global;
@@ -38,7 +38,7 @@ fn train_of_decision(decision: &Decision) -> Option<u32>
 /// Nothing yet of so many trains.
 fn none_yet(alloc: Global, trains: usize) -> Result<Vec<Own>, Memory>
     ensures long { IfOk result (λ owns. length owns.items ≡ trains) }
-    ensures none { IfOk result (λ owns. AreOwn [] [] owns.items) }
+    ensures none { IfOk result (λ owns. AreByTrain [] [] owns.items) }
 {
     let mut owns = Vec::with_capacity(alloc, trains)?;
     for _train in 0..trains {
@@ -78,8 +78,8 @@ fn add_decision(owns: &mut Vec<Own>, decision: Decision) -> Result<(), Memory>
 /// Adds fixings, each to those of its train.
 fn add_fixings(owns: &mut Vec<Own>, fixings: &[Fixing]) -> Result<(), Memory>
     ensures long { OnOk result (length owns.new.items ≡ length owns.old.items) }
-    ensures own { AreOwn [] [] owns.old.items
-        → OnOk result (AreOwn fixings.now [] owns.new.items) }
+    ensures own { AreByTrain [] [] owns.old.items
+        → OnOk result (AreByTrain fixings.now [] owns.new.items) }
 {
     for fixing in fixings {
         add_fixing(owns, *fixing)?;
@@ -90,8 +90,8 @@ fn add_fixings(owns: &mut Vec<Own>, fixings: &[Fixing]) -> Result<(), Memory>
 /// Adds decisions, each to those of its train.
 fn add_decisions(owns: &mut Vec<Own>, decisions: &[Decision]) -> Result<(), Memory>
     ensures long { OnOk result (length owns.new.items ≡ length owns.old.items) }
-    ensures own { (fixings : List Fixing) → AreOwn fixings [] owns.old.items
-        → OnOk result (AreOwn fixings decisions.now owns.new.items) }
+    ensures own { (fixings : List Fixing) → AreByTrain fixings [] owns.old.items
+        → OnOk result (AreByTrain fixings decisions.now owns.new.items) }
 {
     for decision in decisions {
         add_decision(owns, *decision)?;
@@ -107,7 +107,7 @@ pub(crate) fn owns_of(
     decisions: &[Decision],
 ) -> Result<Vec<Own>, Memory>
     ensures long { IfOk result (λ owns. length owns.items ≡ trains) }
-    ensures own { IfOk result (λ owns. AreOwn fixings.now decisions.now owns.items) }
+    ensures own { IfOk result (λ owns. AreByTrain fixings.now decisions.now owns.items) }
 {
     let mut owns = none_yet(alloc, trains)?;
     add_fixings(&mut owns, fixings)?;

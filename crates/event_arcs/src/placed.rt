@@ -2,7 +2,7 @@ ghost use Rattle.std.specs.Prelude.{◌≡◌, List, IfOk, length};
 ghost use Rattle.disp_model.specs.declared.fixing.Fixing.{Fixing};
 ghost use Rattle.disp_model.specs.declared.decision.Decision.{Decision};
 ghost use Rattle.disp_model.specs.Node.{node_at};
-ghost use Rattle.event_arcs.specs.Owned.{AreOwn};
+ghost use Rattle.event_arcs.specs.Owned.{AreByTrain};
 ghost use Rattle.event_arcs.specs.Placed.{IsPlacing};
 
 use crate::owns::Own;
@@ -28,7 +28,7 @@ pub(crate) enum Placing {
 pub(crate) fn placing_of(alloc: Global, problem: &Problem, owns: &[Own]) -> Result<Placing, Memory>
     requires { length owns.now ≡ length problem.now.trains }
     ensures { (fixings : List Fixing) (decisions : List Decision)
-        → AreOwn fixings decisions owns.now
+        → AreByTrain fixings decisions owns.now
         → IfOk result (IsPlacing (node_at problem.now fixings decisions)) }
 {
     let mut each = Vec::with_capacity(alloc, owns.len())?;
