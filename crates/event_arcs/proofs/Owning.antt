@@ -165,4 +165,7 @@ module _ (problem : Problem) (fixings own_fixings : List Fixing) (decisions own_
     ordered = λ a b from to one other.
         let both = says.ordered a b from to one other in
         record { arc = λ lt. arc_to_all a b _ (both.arc lt); none = λ le sum arc. both.none le sum (arc_to_own a b sum arc) };
+    begins = λ route allowed. says.begins route (to_own route allowed);
+    ends = says.ends;
+    short = says.short;
   }
