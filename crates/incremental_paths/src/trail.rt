@@ -53,13 +53,33 @@ pub fn keep_arc(
     ensures begun_err { OnErr result (begun.new ≡ begun.old) }
     ensures ended_err { OnErr result (ended.new ≡ ended.old) }
 {
-    arcs.reserve(1)?;
     starts.reserve(1)?;
-    link(begun, ended, arc)?;
-    if let Err(_) = arcs.push(arc) {
+    link_arc(arcs, begun, ended, arc)?;
+    if let Err(_) = starts.push(start) {
         unreachable!();
     }
-    if let Err(_) = starts.push(start) {
+    Ok(())
+}
+
+/// Puts an arc behind the others, and threads it at both of its ends.
+pub fn link_arc(
+    arcs: &mut Vec<Arc>,
+    begun: &mut Threads,
+    ended: &mut Threads,
+    arc: Arc,
+) -> Result<(), AllocError>
+    requires from { arc.from < begun.old.size }
+    requires to { arc.to < ended.old.size }
+    ensures arcs { OnOk result (arcs.new.items ≡ arcs.old.items ++ arc ∷ []) }
+    ensures begun { OnOk result (begun.new ≡ threaded_with begun.old arc.from) }
+    ensures ended { OnOk result (ended.new ≡ threaded_with ended.old arc.to) }
+    ensures arcs_err { OnErr result (arcs.new.items ≡ arcs.old.items) }
+    ensures begun_err { OnErr result (begun.new ≡ begun.old) }
+    ensures ended_err { OnErr result (ended.new ≡ ended.old) }
+{
+    arcs.reserve(1)?;
+    link(begun, ended, arc)?;
+    if let Err(_) = arcs.push(arc) {
         unreachable!();
     }
     Ok(())
