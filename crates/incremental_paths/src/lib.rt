@@ -28,6 +28,7 @@ pub use laws::walks_are_bounded;
 pub use order::Order;
 pub use paths::Paths;
 pub use plain_values::Memory;
+pub use threads::Threads;
 
 #[cfg(test)]
 mod tests;

@@ -5,7 +5,7 @@ ghost use Rattle.incremental_paths.specs.Spread.{restored};
 use crate::arc::Arc;
 use crate::changes::{Change, Changes};
 use crate::threads::Threads;
-use std::alloc::AllocError;
+use plain_values::Memory;
 
 /// Puts back what the changes from a place on have replaced, the last one first, and forgets them.
 pub fn put_back(lengths: &mut [u64], trail: &mut Vec<Change>, start: usize)
@@ -41,7 +41,7 @@ pub fn keep_arc(
     ended: &mut Threads,
     arc: Arc,
     start: usize,
-) -> Result<(), AllocError>
+) -> Result<(), Memory>
     requires from { arc.from < begun.old.size }
     requires to { arc.to < ended.old.size }
     ensures arcs { OnOk result (arcs.new.items ≡ arcs.old.items ++ arc ∷ []) }
@@ -67,7 +67,7 @@ pub fn link_arc(
     begun: &mut Threads,
     ended: &mut Threads,
     arc: Arc,
-) -> Result<(), AllocError>
+) -> Result<(), Memory>
     requires from { arc.from < begun.old.size }
     requires to { arc.to < ended.old.size }
     ensures arcs { OnOk result (arcs.new.items ≡ arcs.old.items ++ arc ∷ []) }
@@ -86,7 +86,7 @@ pub fn link_arc(
 }
 
 // Threads an arc at both of its ends.
-fn link(begun: &mut Threads, ended: &mut Threads, arc: Arc) -> Result<(), AllocError>
+fn link(begun: &mut Threads, ended: &mut Threads, arc: Arc) -> Result<(), Memory>
     requires from { arc.from < begun.old.size }
     requires to { arc.to < ended.old.size }
     ensures begun { OnOk result (begun.new ≡ threaded_with begun.old arc.from) }
