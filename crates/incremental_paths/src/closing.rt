@@ -23,11 +23,13 @@ pub fn find_cycle(
     marks: &mut Marks,
     more: &[Arc],
 ) -> Result<Option<Vec<u32>>, Memory>
-    requires arranged { AreArranged (length order.old) arcs.old.items begun.old ended.old order.old marks.old }
+    requires arranged { AreArranged (length order.old)
+        arcs.old.items begun.old ended.old order.old marks.old }
     requires nodes { All (λ arc. (arc.from < length order.old) × (arc.to < length order.old))
         more.now }
     ensures arcs { arcs.new.items ≡ arcs.old.items }
-    ensures arranged { AreArranged (length order.old) arcs.new.items begun.new ended.new order.new marks.new }
+    ensures arranged { AreArranged (length order.old)
+        arcs.new.items begun.new ended.new order.new marks.new }
     ensures cycle { IfOk result
         (λ found. IfSome found (λ nodes. IsCycle (arcs.old.items ++ more.now) nodes.items)) }
     ensures none { IfOk result (λ found. IfNone found (¬ HasCycle (arcs.old.items ++ more.now))) }
@@ -50,11 +52,13 @@ fn link_all(
     marks: &mut Marks,
     more: &[Arc],
 ) -> Result<Option<Vec<u32>>, Memory>
-    requires arranged { AreArranged (length order.old) arcs.old.items begun.old ended.old order.old marks.old }
+    requires arranged { AreArranged (length order.old)
+        arcs.old.items begun.old ended.old order.old marks.old }
     requires nodes { All (λ arc. (arc.from < length order.old) × (arc.to < length order.old))
         more.now }
     ensures arcs { (linked : List Arc) × (arcs.new.items ≡ arcs.old.items ++ linked) }
-    ensures arranged { AreArranged (length order.old) arcs.new.items begun.new ended.new order.new marks.new }
+    ensures arranged { AreArranged (length order.old)
+        arcs.new.items begun.new ended.new order.new marks.new }
     ensures cycle { IfOk result
         (λ found. IfSome found (λ nodes. IsCycle (arcs.old.items ++ more.now) nodes.items)) }
     ensures none { IfOk result (λ found. IfNone found (¬ HasCycle (arcs.old.items ++ more.now))) }
@@ -76,10 +80,12 @@ fn link_or_close(
     marks: &mut Marks,
     arc: Arc,
 ) -> Result<Option<Vec<u32>>, Memory>
-    requires arranged { AreArranged (length order.old) arcs.old.items begun.old ended.old order.old marks.old }
+    requires arranged { AreArranged (length order.old)
+        arcs.old.items begun.old ended.old order.old marks.old }
     requires from { arc.from < length order.old }
     requires to { arc.to < length order.old }
-    ensures arranged { AreArranged (length order.old) arcs.new.items begun.new ended.new order.new marks.new }
+    ensures arranged { AreArranged (length order.old)
+        arcs.new.items begun.new ended.new order.new marks.new }
     ensures linked { IfOk result
         (λ found. IfNone found (arcs.new.items ≡ arcs.old.items ++ arc ∷ [])) }
     ensures unlinked { IfOk result (λ found. IfSome found (λ _. arcs.new.items ≡ arcs.old.items)) }

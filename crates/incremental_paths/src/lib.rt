@@ -1,6 +1,6 @@
-//! Path lengths over nodes with lowers, under arcs of which the last added is the first withdrawn. A
-//! node's length is the greatest of a walk that ends there (`specs/Walks.antt`), over the arcs kept
-//! and the lowers raised; `changed` tells which lengths the last call made greater. An arc is refused
+//! Path lengths over nodes with lowers, under arcs of which the last added goes first. A node's
+//! length is the greatest of a walk that ends there (`specs/Walks.antt`), over the arcs kept and
+//! the lowers raised; `changed` tells which lengths the last call made greater. An arc is refused
 //! exactly where it would close a cycle, and `cycle_with` asks that of several. What takes memory
 //! gives a `Result`. Nodes in a kept order, and threaded arcs, let a call cost what it changes.
 #![tactic(auto)]
