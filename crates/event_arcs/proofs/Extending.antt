@@ -50,7 +50,7 @@ module _ (node : Node) (decision : Decision) where
     decisions_agree = All-push (AgreesWithDecision t route) node.decisions decision allowed.decisions_agree (other_decision t route decision other);
   }
 
-  forced_still : (o : Op) → HasRoute (with_decision node decision) o.train → IsForced node o → IsForced (with_decision node decision) o
+  pub forced_still : (o : Op) → HasRoute (with_decision node decision) o.train → IsForced node o → IsForced (with_decision node decision) o
   forced_still o has forced = record { train = forced.train; allowed = has; each_has = λ route allowed. forced.each_has route (allowed_before o.train route allowed) }
 
   train_arc_still : (u v : Op) (n : ℕ) → IsForced (with_decision node decision) u → IsForced (with_decision node decision) v → IsTrainArc node u v n → (m : ℕ) × IsTrainArc (with_decision node decision) u v m × (n ≤ m)

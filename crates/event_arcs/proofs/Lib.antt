@@ -1,13 +1,13 @@
-mod Leading
-mod Numbering
-mod Cycling
-mod Lengths
-mod Shortness
-mod Owning
-mod Joining
-mod Deciding
-mod Offsets
-mod Blocks
-mod Potentials
-mod Extending
-mod Inserting
+pub mod Leading
+pub mod Numbering
+pub mod Cycling
+pub mod Lengths
+pub mod Shortness
+pub mod Owning
+pub mod Joining
+pub mod Deciding
+pub mod Offsets
+pub mod Blocks
+pub mod Potentials
+pub mod Extending
+pub mod Inserting

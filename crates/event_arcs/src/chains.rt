@@ -82,7 +82,7 @@ fn chain(arcs: &mut Vec<Arc>, routes: &Routes, order: &[u32], first: u32) -> Res
 }
 
 /// Adds the arcs of a train.
-fn add_chain(
+pub fn add_chain(
     alloc: Global,
     arcs: &mut Vec<Arc>,
     problem: &Problem,
@@ -102,7 +102,7 @@ fn add_chain(
 }
 
 /// Adds the arcs of each train.
-pub(crate) fn add_chains(
+pub fn add_chains(
     alloc: Global,
     arcs: &mut Vec<Arc>,
     problem: &Problem,

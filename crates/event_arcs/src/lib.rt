@@ -12,12 +12,16 @@ mod orders;
 mod owns;
 mod placed;
 
+pub use chains::add_chain;
 pub use laws::{
     a_list_stands_by_its_parts, an_operation_goes_between, an_order_extends, cycles_are_shared,
     decisions_tighten, longest_are_shared, own_matters_suffice, spanning_lists_are_short,
     unordered_nodes_have_no_cycle, walks_are_carried_over, walks_stay_short,
 };
-pub use list::{NodeArcs, arcs};
+pub use list::{NodeArcs, arcs, listed};
+pub use orders::add_order;
+pub use owns::{Own, owns_of, train_of_decision};
+pub use placed::{Placed, Placing, placing_of};
 
 #[cfg(test)]
 mod tests;

@@ -22,7 +22,7 @@ pub enum NodeArcs {
 }
 
 /// The arcs of the trains and of the orders that are decided.
-fn listed(
+pub fn listed(
     alloc: Global,
     problem: &Problem,
     each: &[Placed],

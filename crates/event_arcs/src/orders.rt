@@ -131,7 +131,7 @@ fn add_ordered(arcs: &mut Vec<Arc>, order: KnownOrder) -> Result<(), Memory>
 }
 
 /// Adds the arcs of one order that is decided.
-fn add_order(
+pub fn add_order(
     arcs: &mut Vec<Arc>,
     problem: &Problem,
     each: &[Placed],
@@ -154,7 +154,7 @@ fn add_order(
 }
 
 /// Adds the arcs of the orders that are decided.
-pub(crate) fn add_orders(
+pub fn add_orders(
     arcs: &mut Vec<Arc>,
     problem: &Problem,
     each: &[Placed],

@@ -7,7 +7,7 @@ use std::alloc::Global;
 
 /// The fixings and the decisions of one train.
 #[derive(Drop)]
-pub(crate) struct Own {
+pub struct Own {
     pub fixings: List<Fixing>,
     pub decisions: List<Decision>,
 }
@@ -24,7 +24,7 @@ fn train_of_fixing(fixing: &Fixing) -> u64
 }
 
 /// The train whose routes a decision is about.
-fn train_of_decision(decision: &Decision) -> Option<u32>
+pub fn train_of_decision(decision: &Decision) -> Option<u32>
     ensures { result ≡ train_of_decision decision.now }
 {
     match *decision {
@@ -62,7 +62,7 @@ fn add_fixing(owns: &mut Vec<Own>, fixing: Fixing) -> Result<(), Memory>
 }
 
 /// Adds a decision to those of its train.
-fn add_decision(owns: &mut Vec<Own>, decision: Decision) -> Result<(), Memory>
+pub fn add_decision(owns: &mut Vec<Own>, decision: Decision) -> Result<(), Memory>
     ensures { OnOk result (TakesDecision decision owns.old.items owns.new.items) }
 {
     let Some(train) = train_of_decision(&decision) else {
@@ -100,7 +100,7 @@ fn add_decisions(owns: &mut Vec<Own>, decisions: &[Decision]) -> Result<(), Memo
 }
 
 /// The fixings and the decisions of each of so many trains.
-pub(crate) fn owns_of(
+pub fn owns_of(
     alloc: Global,
     trains: usize,
     fixings: &[Fixing],

@@ -12,20 +12,20 @@ use std::alloc::Global;
 
 /// The routes of a train, and the number of its first operation.
 #[derive(Drop)]
-pub(crate) struct Placed {
+pub struct Placed {
     pub first: u32,
     pub routes: Routes,
 }
 
 /// The routes of each train, or the first train without an allowed one.
 #[derive(Drop)]
-pub(crate) enum Placing {
+pub enum Placing {
     Each(Vec<Placed>),
     NoRoute(u32),
 }
 
 /// The routes of each train that the fixings and the decisions of its own allow.
-pub(crate) fn placing_of(alloc: Global, problem: &Problem, owns: &[Own]) -> Result<Placing, Memory>
+pub fn placing_of(alloc: Global, problem: &Problem, owns: &[Own]) -> Result<Placing, Memory>
     requires { length owns.now ≡ length problem.now.trains }
     ensures { (fixings : List Fixing) (decisions : List Decision)
         → AreByTrain fixings decisions owns.now

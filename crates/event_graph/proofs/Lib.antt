@@ -1,0 +1,9 @@
+pub mod Narrowing
+pub mod Extending
+pub mod Touching
+pub mod Staying
+pub mod Adding
+pub mod Naming
+pub mod Deciding
+pub mod Training
+pub mod Past

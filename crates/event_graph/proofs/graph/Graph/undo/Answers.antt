@@ -1,0 +1,15 @@
+use Rattle.std.proofs.Common.{◌∙◌, ◌++◌, List, ap}
+use Rattle.event_graph.specs.declared.changes.Change.{Change}
+use Rattle.event_graph.proofs.Past.{may_undo, graph_undone}
+use Rattle.event_graph.proofs.graph.Graph.undo.Goals as goal
+
+pub restore-requires : goal.restore-requires
+restore-requires c =
+    let g = c.self.inside in
+    may_undo g.problem.now g.fixings.items g.ops.items g.decisions.items g.parts g.trail.items c.pop.new.self.items c.in-Some.change c.self.invariant (rw c.in-Some.is at c.pop.ensures.items)
+
+pub invariant_of-self : goal.invariant_of-self
+invariant_of-self c =
+    let g = c.self.inside in
+    graph_undone g.problem.now g.fixings.items g.ops.items g.decisions.items c.pop-in-Some.new.self.items g.parts c.restore.new.parts g.trail.items c.pop.new.self.items c.in-Some.change c.self.invariant (rw c.in-Some.is at c.pop.ensures.items)
+    (rw g.decisions.ok c.pop-in-Some.ensures.rest) c.restore.ensures.state c.restore.ensures.lowers c.restore.ensures.size

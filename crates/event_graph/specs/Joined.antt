@@ -1,0 +1,47 @@
+-- Arcs that are added to those of a node, or close a cycle.
+use Rattle.std.specs.Prelude.{◌≡◌, ℕ, List, ◌++◌, Result, Ok, Err, Some, length, slice_get}
+use Rattle.disp_model.specs.declared.train.Op.{Op}
+use Rattle.disp_model.specs.declared.fixing.Change.{Change}
+use Rattle.disp_model.specs.declared.problem.Problem.{Problem}
+use Rattle.disp_model.specs.WellFormed.{operation_count}
+use Rattle.disp_model.specs.Changes.{standing_of}
+use Rattle.disp_model.specs.Numbers.{number_of}
+use Rattle.disp_model.specs.Node.{Node}
+use Rattle.disp_model.specs.Walks.{IsCycle, HasCycle}
+use Rattle.disp_model.specs.Replies.{IsEdition}
+use Rattle.incremental_paths.specs.declared.arc.Arc.{Arc}
+use Rattle.incremental_paths.specs.Network.{Network}
+use Rattle.event_arcs.specs.Listed.{IsOpOf, AreArcsOf, AreLowersOf}
+use Rattle.event_graph.specs.declared.faults.ExtendNo.{ExtendNo}
+use Rattle.event_graph.specs.declared.faults.ExtendNo.TheVariants.{NoRoute, Cycle, Memory}
+
+-- the operations of a problem, each at its number
+pub record AreOpsOf (problem : Problem) (ops : List Op) : Type 0 where
+  pub long : length ops ≡ operation_count problem.trains
+  pub at : (o : Op) → IsOpOf problem o → slice_get ops (number_of problem o) ≡ Some o
+
+-- the node's fixings are those that stand in an edition
+abbrev pub IsOfEdition : Node → Type 0
+IsOfEdition node = (changes : List Change) × IsEdition node.problem changes × (node.fixings ≡ standing_of changes)
+
+-- with these arcs behind the kept ones they stand for the node
+pub record MayJoin (node : Node) (ops : List Op) (network : Network) (arcs : List Arc) : Type 0 where
+  pub ops_are : AreOpsOf node.problem ops
+  pub lowers_are : AreLowersOf node network.lowers
+  pub edition : IsOfEdition node
+  pub arcs_are : AreArcsOf node (network.arcs ++ arcs)
+
+-- a refusal names a cycle of these operations, or memory ran out
+abbrev pub IsNamedOr : (List Op → Type 0) → ExtendNo → Type 0
+IsNamedOr Names (NoRoute t) = ⊥
+IsNamedOr Names (Cycle ops) = Names ops
+IsNamedOr Names Memory = Unit {0}
+
+-- why they are not added: a cycle of the node, or want of memory
+abbrev pub IsCycleOr : Node → ExtendNo → Type 0
+IsCycleOr node why = IsNamedOr (IsCycle node) why
+
+-- they are added where the node has no cycle
+abbrev pub IsJoined : Node → Result (Unit {0}) ExtendNo → Type 0
+IsJoined node (Ok done) = HasCycle node → ⊥
+IsJoined node (Err why) = IsCycleOr node why

@@ -1,0 +1,6 @@
+pub mod Pairs
+pub mod Touched
+pub mod States
+pub mod Joined
+pub mod Kept
+pub mod Graphs

@@ -1,0 +1,114 @@
+ghost use Rattle.std.specs.Prelude.{◌≡◌, ◌<◌, ℕ, OnOk, OnErr, IfErr, length};
+ghost use Rattle.disp_model.specs.Node.{with_decision};
+ghost use Rattle.disp_model.specs.Routes.{HasRoute};
+ghost use Rattle.disp_model.specs.Walks.{HasCycle};
+ghost use Rattle.route_sets.specs.Sets.{AreRoutesOf};
+ghost use Rattle.event_arcs.specs.Listed.{AreArcsOf, AreLowersOf};
+ghost use Rattle.event_graph.specs.Kept.{IsRefusedAt};
+ghost use Rattle.event_graph.specs.Graphs.{without_last};
+
+use crate::changes::Change;
+use crate::decide::decide;
+use crate::faults::ExtendNo;
+use crate::parts::{Parts, restore};
+use disp_model::{Decision, Fixing, Op, Problem};
+use incremental_paths::Paths;
+use route_sets::Routes;
+use std::marker::Model;
+
+/// The arcs between the operations that the trains must run at a node of the search: a problem, the
+/// fixings that stand, and decisions, of which the last one can be taken back.
+#[derive(Drop)]
+pub struct Graph<'p> {
+    problem: &'p Problem,
+    fixings: Vec<Fixing>,
+    ops: Vec<Op>,
+    decisions: Vec<Decision>,
+    parts: Parts,
+    trail: Vec<Change>,
+}
+
+impl<'p> Model for Graph<'p> {
+    ghost use Rattle.disp_model.specs.Node.{Node, node_at};
+    ghost use Rattle.event_graph.specs.Graphs.{IsGraph};
+
+    ghost Value = { Node };
+
+    ghost view = { λ g. node_at g.problem.now g.fixings.items g.decisions.items };
+
+    ghost invariant = { λ g.
+        IsGraph g.problem.now g.fixings.items g.ops.items g.decisions.items g.parts g.trail.items };
+}
+
+impl<'p> Graph<'p> {
+    /// The decisions, in the order in which they were added.
+    pub fn decisions(&self) -> &[Decision]
+        ensures { result.now ≡ self.now.decisions }
+    {
+        &self.decisions
+    }
+
+    /// The paths over the operations by their numbers: node k is the k-th operation of the problem,
+    /// trains in order. Their arcs stand for those of the node.
+    pub fn paths(&self) -> &Paths
+        ensures arcs { AreArcsOf self.now result.now.arcs }
+        ensures lowers { AreLowersOf self.now result.now.lowers }
+        ensures no_cycle { HasCycle self.now → ⊥ }
+    {
+        &self.parts.paths
+    }
+
+    /// The allowed routes of a train. Each train has one.
+    pub fn routes(&self, train: u32) -> &Routes
+        requires { train < length self.now.problem.trains }
+        ensures routes { AreRoutesOf self.now train result.now }
+        ensures one { HasRoute self.now train }
+    {
+        &self.parts.each[train as usize].routes
+    }
+
+    /// Adds a decision. Fails where a train would have no allowed route, or else the arcs would have
+    /// a cycle, and for want of memory; then nothing has changed.
+    pub fn extend(&mut self, decision: Decision) -> Result<(), ExtendNo>
+        ensures ok { OnOk result (self.new ≡ with_decision self.old decision) }
+        ensures err { OnErr result (self.new ≡ self.old) }
+        ensures refused { IfErr result (IsRefusedAt (with_decision self.old decision)) }
+    {
+        let alloc = *self.decisions.allocator();
+        if self.trail.reserve(1).is_err() {
+            return Err(ExtendNo::Memory);
+        }
+        if self.decisions.reserve(1).is_err() {
+            return Err(ExtendNo::Memory);
+        }
+        match decide(
+            alloc,
+            self.problem,
+            &self.ops,
+            &mut self.parts,
+            decision,
+        ) {
+            Ok(change) => {
+                if self.trail.push(change).is_err() {
+                    unreachable!();
+                }
+                if self.decisions.push(decision).is_err() {
+                    unreachable!();
+                }
+                Ok(())
+            }
+            Err(no) => Err(no),
+        }
+    }
+
+    /// Takes the last decision back.
+    pub fn undo(&mut self)
+        requires { 0 < length self.old.decisions }
+        ensures { self.new ≡ without_last self.old }
+    {
+        if let Some(change) = self.trail.pop() {
+            restore(&mut self.parts, change);
+            self.decisions.pop();
+        }
+    }
+}
