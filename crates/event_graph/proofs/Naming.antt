@@ -83,6 +83,11 @@ behind : {X : Type 0} (P : X → Type 0) (xs ys : List X) → All P (xs ++ ys) �
 behind P [] ys all = all
 behind P (x ∷ xs) ys all = behind P xs ys (All-tail P x (xs ++ ys) all)
 
+pub both_there : (node : Node) (ops : List Op) (network : Network) (arcs : List Arc) → MayJoin node ops network arcs → All (λ arc. IsNode network arc.from × IsNode network arc.to) arcs
+both_there node ops network arcs may =
+    All-weaker (IsArcOf node) (λ arc. IsNode network arc.from × IsNode network arc.to) (λ arc is. (omega (arith, may.lowers_are.long, arc_from node arc is), omega (arith, may.lowers_are.long, arc_to node arc is))) arcs
+    (behind (IsArcOf node) network.arcs arcs may.arcs_are.sound)
+
 pub starts_there : (node : Node) (ops : List Op) (network : Network) (arcs : List Arc) → MayJoin node ops network arcs → All (λ arc. IsNode network arc.from) arcs
 starts_there node ops network arcs may =
     All-weaker (IsArcOf node) (λ arc. IsNode network arc.from) (λ arc is. omega (arith, may.lowers_are.long, arc_from node arc is)) arcs (behind (IsArcOf node) network.arcs arcs may.arcs_are.sound)

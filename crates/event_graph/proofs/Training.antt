@@ -2,9 +2,9 @@
 use Rattle.std.proofs.Common.{◌≡◌, ◌∙◌, ℕ, ◌+◌, ◌<◌, ◌≤◌, zero, suc, List, [], ◌∷◌, ◌++◌, length, get_or, set, Some, Bool, true, false, refl, sym, ap, subst, inl, inr, arith}
 use Rattle.std.specs.Prelude.{nat_eq, slice_get, slice_set, All, Contains, IsTrue, ◌↔◌}
 use Rattle.std.proofs.lemmas.Bool.{cases_Bool, cases_lt, eqb-true, eqb-false, false≢true}
-use Rattle.std.proofs.lemmas.Option.{none-some, same_Some}
-use Rattle.std.proofs.lemmas.List.{length-set, get_or-set_same, get_or-set_other, get_or_default}
-use Rattle.std.proofs.lemmas.List.Elements.{All-push, All-pop, All-weaker, Contains-append_left, Contains-push_cases}
+use Rattle.std.proofs.lemmas.Option.{none-some, same_Some, slice_get_within}
+use Rattle.std.proofs.lemmas.List.{append-nil, length-set, get_or-set_same, get_or-set_other, get_or_default}
+use Rattle.std.proofs.lemmas.List.Elements.{All-nil, All-push, All-pop, All-weaker, Contains-append_left, Contains-push_cases}
 use Rattle.disp_model.specs.declared.train.Op.{Op}
 use Rattle.disp_model.specs.declared.fixing.Fixing.{Fixing}
 use Rattle.disp_model.specs.declared.decision.Decision.{Decision}
@@ -19,19 +19,21 @@ use Rattle.incremental_paths.specs.declared.arc.Arc.{Arc}
 use Rattle.incremental_paths.specs.Network.{Network}
 use Rattle.event_arcs.specs.declared.owns.Own.{Own}
 use Rattle.event_arcs.specs.declared.placed.Placed.{Placed}
-use Rattle.event_arcs.specs.Listed.{AreArcsOf}
+use Rattle.disp_laws.proofs.LeavesStay.{HaveRoutes}
+use Rattle.event_arcs.specs.Listed.{IsArcOf, AreArcsOf}
+use Rattle.event_arcs.proofs.Cycling.{same_cycles}
 use Rattle.event_arcs.specs.Owned.{train_of_decision, own_at, AreByTrain}
 use Rattle.event_arcs.specs.Placed.{IsPlaced, ArePlaced, IsFirstWithout}
 use Rattle.event_arcs.proofs.Offsets.{placed_at, routes_by_own, all_have_routes}
 use Rattle.event_graph.specs.declared.orders.Pair.{Pair}
-use Rattle.event_graph.specs.declared.changes.Change.TheVariants.{Train}
+use Rattle.event_graph.specs.declared.changes.Change.TheVariants.{Nothing, Train}
 use Rattle.event_graph.specs.Pairs.{Ordered, IsDecidedAt}
 use Rattle.event_graph.specs.States.{AreOrdersOf, State, IsStateAt, AddsTrain, without}
 use Rattle.train_orders.proofs.Places.{set_at, set_elsewhere}
 use Rattle.event_graph.specs.Joined.{MayJoin}
 use Rattle.event_graph.specs.Kept.{MayDecide, MayAddTrain, Decides}
 use Rattle.event_graph.specs.declared.parts.Parts.{Parts}
-use Rattle.event_graph.proofs.Narrowing.{IsApart, route_after}
+use Rattle.event_graph.proofs.Narrowing.{IsApart, route_after, forced_before, goes_before}
 use Rattle.event_arcs.proofs.Owning.{other_decision}
 use Rattle.event_graph.proofs.Deciding.{placed_after, HasAdded}
 use Rattle.event_graph.proofs.Extending.{with_train}
@@ -213,3 +215,45 @@ pub both_back : (owns : List Own) (each : List Placed) (pairs : List Pair) (arcs
     → ◌≡◌ {A = State} (record { owns = owns; each = set (set each t placed) t before; pairs = pairs; arcs = now }) (record { owns = owns; each = each; pairs = pairs; arcs = arcs })
 both_back owns each pairs arcs now t before placed stood same =
     ap (λ (ps : List Placed). record { owns = owns; each = ps; pairs = pairs; arcs = now }) (put_back each t placed before stood) ∙ ap (λ (l : List Arc). record { owns = owns; each = each; pairs = pairs; arcs = l }) same
+
+-- ---- a decision about a train that is not there
+
+pub elsewhere_decides : (node : Node) (d : Decision) (t : ℕ) (state : State) → IsStateAt node state → train_of_decision d ≡ Some t → length node.problem.trains ≤ t → Decides (with_decision node d) Nothing state state
+elsewhere_decides node d t state is about past = record {
+  at = record {
+    owns_long = is.owns_long;
+    own = record {
+      of_fixings = is.own.of_fixings;
+      of_decisions = λ u route lt. (
+        λ all. (is.own.of_decisions u route lt).0 (All-pop (AgreesWithDecision u route) (node.decisions ++ d ∷ []) node.decisions (Some d) refl all).0,
+        λ own. All-push (AgreesWithDecision u route) node.decisions d ((is.own.of_decisions u route lt).1 own) (other_decision u route d (apart u (omega (arith, lt, is.owns_long)))),
+      );
+    };
+    placed = record { long = is.placed.long; there = is.placed.there; at = λ u placed here. placed_after node d u placed (apart u (omega (arith, slice_get_within state.each u placed here, is.placed.long))) (is.placed.at u placed here) };
+    orders = orders_stay node d t state.pairs about is.orders;
+    arcs = arcs;
+    no_cycle = λ has. is.no_cycle ((same_cycles node state.arcs is.arcs).0 ((same_cycles next state.arcs arcs).1 has));
+  };
+  may = tt;
+  back = refl;
+}
+  where
+    next : Node
+    next = with_decision node d
+
+    apart : (u : ℕ) → u < length node.problem.trains → IsApart d u
+    apart u lt = apart_of d t u about (λ same. omega (arith, lt, same, past))
+
+    have : HaveRoutes next
+    have u there = route_after node d u (apart u there) (all_have_routes node state.each is.placed u there)
+
+    adds : AddsTrain node d t []
+    adds = record {
+      about = about;
+      sound = All-nil (IsArcOf next);
+      chained = λ u v sum own from to arc. absurd (omega (arith, from.train, own, past));
+      ordered = λ a b decided one other conflicts. inl (forced_before node d a (apart a.train one.train) one, forced_before node d b (apart b.train other.train) other, λ n goes. goes_before node d a n (apart a.train one.train) goes);
+    }
+
+    arcs : AreArcsOf next state.arcs
+    arcs = subst (AreArcsOf next) (append-nil state.arcs) (with_train node d t state.arcs [] have is.arcs adds)

@@ -75,12 +75,12 @@ impl<'p> Graph<'p> {
         ensures refused { IfErr result (IsRefusedAt (with_decision self.old decision)) }
     {
         let alloc = *self.decisions.allocator();
-        if self.trail.reserve(1).is_err() {
+        let Ok(()) = self.trail.reserve(1) else {
             return Err(ExtendNo::Memory);
-        }
-        if self.decisions.reserve(1).is_err() {
+        };
+        let Ok(()) = self.decisions.reserve(1) else {
             return Err(ExtendNo::Memory);
-        }
+        };
         match decide(
             alloc,
             self.problem,

@@ -1,13 +1,10 @@
 use Rattle.std.proofs.Common.{◌++◌, ◌∙◌, List, ap, sym, subst}
 use Rattle.incremental_paths.specs.Network.{Network, unchanged}
-use Rattle.event_graph.proofs.Naming.{starts_there, ends_there, numbers_named, cycle_or, fronts_short, no_cycle_joined}
+use Rattle.event_graph.proofs.Naming.{both_there, starts_there, ends_there, numbers_named, cycle_or, fronts_short, no_cycle_joined}
 use Rattle.event_graph.proofs.join.join.Goals as goal
 
-pub cycle_with-requires-clause-from : goal.cycle_with-requires-clause-from
-cycle_with-requires-clause-from c = starts_there c.requires.0 c.args.ops.now c.args.paths.now c.args.arcs.now c.requires.1
-
-pub cycle_with-requires-clause-to : goal.cycle_with-requires-clause-to
-cycle_with-requires-clause-to c = ends_there c.requires.0 c.args.ops.now c.args.paths.now c.args.arcs.now c.requires.1
+pub cycle_with-requires : goal.cycle_with-requires
+cycle_with-requires c = record { nodes = both_there c.requires.0 c.args.ops.now c.args.paths.now c.args.arcs.now c.requires.1 }
 
 pub closing-requires : goal.closing-requires
 closing-requires c = rw c.deref.ensures.value (numbers_named c.requires.0 c.args.ops.now c.args.paths.now c.args.arcs.now c.in-Ok-Some.numbers.items c.requires.1 (rw c.in-Ok-Some.field-0-is at c.in-Ok-Some.ensures.cycle))

@@ -1,5 +1,4 @@
-use Rattle.std.proofs.Common.{◌∙◌, ◌++◌, List, ap}
-use Rattle.event_graph.specs.declared.changes.Change.{Change}
+use Rattle.std.proofs.Common.{◌∙◌, ℕ, take, ap, arith}
 use Rattle.event_graph.proofs.Past.{may_undo, graph_undone}
 use Rattle.event_graph.proofs.graph.Graph.undo.Goals as goal
 
@@ -12,4 +11,4 @@ pub invariant_of-self : goal.invariant_of-self
 invariant_of-self c =
     let g = c.self.inside in
     graph_undone g.problem.now g.fixings.items g.ops.items g.decisions.items c.pop-in-Some.new.self.items g.parts c.restore.new.parts g.trail.items c.pop.new.self.items c.in-Some.change c.self.invariant (rw c.in-Some.is at c.pop.ensures.items)
-    (rw g.decisions.ok c.pop-in-Some.ensures.rest) c.restore.ensures.state c.restore.ensures.lowers c.restore.ensures.size
+    (c.pop-in-Some.ensures.rest ∙ ap (λ (n : ℕ). take n g.decisions.items) (omega (arith, g.decisions.ok))) c.restore.ensures.state c.restore.ensures.lowers c.restore.ensures.size
