@@ -1,5 +1,5 @@
-ghost use Rattle.std.specs.Prelude.{ℕ, ◌≡◌, ◌<◌, ◌≤◌, ◌↔◌, ◌^◌, List, [], true, false, length, All, IfOk, IfErr, IfSome, IfNone, IsSome, IsNone, IsTrue, OnOk, OnErr, IsErrOf, ◌≢◌, slice_index};
-ghost use Rattle.incremental_paths.specs.Walks.{IsWalkTo, IsJoined, walk_length, HasNoNodeTwice, Leads, IsLongest, HasCycle};
+ghost use Rattle.std.specs.Prelude.{ℕ, ◌≡◌, ◌<◌, ◌≤◌, ◌↔◌, ◌^◌, ◌++◌, List, [], true, false, length, All, IfOk, IfErr, IfSome, IfNone, IsSome, IsNone, IsTrue, OnOk, OnErr, IsErrOf, ◌≢◌, slice_index};
+ghost use Rattle.incremental_paths.specs.Walks.{IsWalkTo, IsJoined, walk_length, HasNoNodeTwice, Leads, IsLongest, IsCycle, HasCycle};
 ghost use Rattle.incremental_paths.specs.Marked.{AreRising};
 ghost use Rattle.incremental_paths.specs.Ordered.{is_marked};
 ghost use Rattle.incremental_paths.specs.Network.{IsNode, IsShort, with_arc, without_last, raised, unchanged, TellsChanged};
@@ -7,6 +7,7 @@ ghost use Rattle.incremental_paths.specs.Network.{IsNode, IsShort, with_arc, wit
 use crate::arc::Arc;
 use crate::back::{comes_from_marked, find_way, walk_back, way_back};
 use crate::changes::{Change, Changes};
+use crate::closing::find_cycle;
 use crate::faults::AddNo;
 use crate::marks::Marks;
 use crate::order::Order;
@@ -157,6 +158,29 @@ impl Paths {
         Ok(())
     }
 
+    /// The nodes of a cycle that these arcs would close with the kept ones, and `None` where they
+    /// close none. From each node an arc leads to the next, and from the last to the first. No arc
+    /// is added, and only the order of the nodes changes.
+    pub fn cycle_with(&mut self, more: &[Arc]) -> Result<Option<Vec<u32>>, Memory>
+        requires nodes { All (λ arc. IsNode self.old arc.from × IsNode self.old arc.to) more.now }
+        ensures same { self.new ≡ unchanged self.old }
+        ensures cycle { IfOk result
+            (λ found. IfSome found (λ nodes. IsCycle (self.old.arcs ++ more.now) nodes.items)) }
+        ensures none { IfOk result
+            (λ found. IfNone found (¬ HasCycle (self.old.arcs ++ more.now))) }
+    {
+        self.changes.clear();
+        self.refused = None;
+        find_cycle(
+            &mut self.arcs,
+            &mut self.begun,
+            &mut self.ended,
+            &mut self.order,
+            &mut self.marks,
+            more,
+        )
+    }
+
     /// Takes the last `k` arcs away.
     pub fn withdraw(&mut self, k: u32)
         requires { let kept = self.old.arcs in k ≤ length kept }
@@ -228,7 +252,7 @@ impl Paths {
     }
 
     /// The nodes whose lengths the last call of `add` or `raise` made greater, each once. There are
-    /// none after `new`, `withdraw`, and an arc that was not added.
+    /// none after `new`, `withdraw`, `cycle_with`, and an arc that was not added.
     pub fn changed(&self) -> &[u32]
         ensures all { result.now ≡ self.now.changed }
         ensures nodes { All (IsNode self.now) self.now.changed }
@@ -238,7 +262,7 @@ impl Paths {
     }
 
     /// An order of the nodes in which each kept arc leads from a lower place to a higher. Only
-    /// `add` changes it.
+    /// `add` and `cycle_with` change it.
     pub fn order(&self) -> &Order
         ensures size { length result.now ≡ length self.now.lowers }
         ensures rising { AreRising self.now.arcs result.now }
