@@ -201,12 +201,12 @@ unfoldable pub all_ops_up_to : Problem → ℕ → List Op
 all_ops_up_to problem zero = []
 all_ops_up_to problem (suc t) = ops_up_to t (length (train_at problem t)) ++ all_ops_up_to problem t
 
-among_append_left : (o : Op) (xs ys : List Op) → Among o xs → Among o (xs ++ ys)
+pub among_append_left : (o : Op) (xs ys : List Op) → Among o xs → Among o (xs ++ ys)
 among_append_left o [] ys there = absurd there
 among_append_left o (x ∷ xs) ys (inl same) = inl same
 among_append_left o (x ∷ xs) ys (inr there) = inr (among_append_left o xs ys there)
 
-among_append_right : (o : Op) (xs ys : List Op) → Among o ys → Among o (xs ++ ys)
+pub among_append_right : (o : Op) (xs ys : List Op) → Among o ys → Among o (xs ++ ys)
 among_append_right o [] ys there = there
 among_append_right o (x ∷ xs) ys there = inr (among_append_right o xs ys there)
 

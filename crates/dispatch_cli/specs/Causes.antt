@@ -5,8 +5,8 @@ use Rattle.displib_reader.specs.declared.fault.ProblemNo.{ProblemNo}
 use Rattle.displib_reader.specs.declared.fault.ProblemNo.TheVariants as problem_no
 use Rattle.displib_reader.specs.Outcome.{IsReadAs, IsRefused}
 use Rattle.displib_reader.specs.Why.{why_text}
-use Rattle.solution_text.specs.Why as solution
-use Rattle.solution_text.specs.Reading as reading
+use Rattle.solution_text.specs.Why.{solution_why_text}
+use Rattle.solution_text.specs.Reading.{IsRefusedSolution}
 use Rattle.solution_text.specs.declared.fault.SolutionNo.{SolutionNo}
 use Rattle.solution_text.specs.declared.fault.SolutionNo.TheVariants as solution_no
 use Rattle.single_routes.specs.Choices.{HasChoices}
@@ -46,7 +46,7 @@ line_of (Words text) = text
 line_of (Failed which) = line (prefix_of which ++ codes "Failed")
 line_of (TooLong which) = line (prefix_of which ++ codes "TooLong")
 line_of (NoProblem refusal) = line (prefix_of input.Problem ++ why_text refusal)
-line_of (NoSolution refusal) = line (prefix_of input.Solution ++ solution.why_text refusal)
+line_of (NoSolution refusal) = line (prefix_of input.Solution ++ solution_why_text refusal)
 line_of (BadLine number why) = line (codes "fixings line " ++ decimal number ++ codes ": " ++ reason_text why)
 line_of Choices = line (prefix_of input.Problem ++ codes "Choices")
 line_of Memory = line (codes "memory")
@@ -106,7 +106,7 @@ IsNoProblem bytes refusal = IsRefused bytes refusal × (refusal ≢ problem_no.M
 
 -- so they are as a solution
 abbrev pub IsNoSolution : List ℕ → SolutionNo → Type 0
-IsNoSolution bytes refusal = reading.IsRefused bytes refusal × (refusal ≢ solution_no.Memory)
+IsNoSolution bytes refusal = IsRefusedSolution bytes refusal × (refusal ≢ solution_no.Memory)
 
 -- the task gives a name for a problem, and its file is that of this problem
 pub record TakesProblem (holds : Holdings) (task : Task) (problem : Problem) : Type 0 where

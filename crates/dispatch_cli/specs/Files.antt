@@ -9,7 +9,7 @@ use Rattle.disp_model.specs.declared.plan.Event.{Event}
 use Rattle.disp_model.specs.declared.problem.Problem.{Problem}
 use Rattle.disp_model.specs.declared.limits.TheConstants.{MOST_LINES}
 use Rattle.displib_reader.specs.Outcome.{IsReadAs}
-use Rattle.solution_text.specs.Reading as reading
+use Rattle.solution_text.specs.Reading.{IsReadAsSolution}
 use Rattle.fixing_files.specs.declared.take.LineNo.{LineNo}
 use Rattle.fixing_files.specs.Files.{TakesAll, StopsAt}
 use Rattle.dispatch_cli.specs.Outside.{Holdings, IsFile}
@@ -24,7 +24,7 @@ pub record IsProblemFile (holds : Holdings) (name : List ℕ) (problem : Problem
 pub record IsSolutionFile (holds : Holdings) (name : List ℕ) (plan : List Event) (stated : Option ℕ) : Type 0 where
   pub bytes : List ℕ
   pub file : IsFile holds name bytes
-  pub read : reading.IsReadAs bytes plan stated
+  pub read : IsReadAsSolution bytes plan stated
 
 -- the lines are not too many, and all are taken
 abbrev pub TakesLines : Problem → List (List ℕ) → List Change → Type 0

@@ -1,7 +1,7 @@
 ghost use Rattle.std.specs.Prelude.{◌≡◌, ◌≤◌, ◌<◌, ◌↔◌, false, IfOk, IfErr, IfSome, IsErrAnd, MatchResult, Err};
 ghost use Rattle.disp_outside.specs.Lines.{HasLinesOf};
 ghost use Rattle.displib_reader.specs.Outcome.{IsReadAs};
-ghost use Rattle.solution_text.specs.Reading as reading;
+ghost use Rattle.solution_text.specs.Reading.{IsReadAsSolution};
 ghost use Rattle.dispatch_cli.specs.declared.cause.Cause.TheVariants.{Failed};
 ghost use Rattle.dispatch_cli.specs.Outside.{IsFile, ReadsOne};
 ghost use Rattle.dispatch_cli.specs.Causes.{Misses, RefusesProblem, RefusesSolution, StopsProblem, StopsSolution, StopsFixings, RefusesLines, IsNotLong, IsReadingFault};
@@ -47,7 +47,7 @@ fn problem_of(alloc: Global, bytes: &[u8]) -> Result<Problem, Cause>
 
 /// The plan and the stated cost of a file's bytes.
 fn solution_of(alloc: Global, bytes: &[u8]) -> Result<(Plan, Option<u64>), Cause>
-    ensures { MatchResult result (λ r. reading.IsReadAs bytes.now r.0 r.1)
+    ensures { MatchResult result (λ r. IsReadAsSolution bytes.now r.0 r.1)
         (RefusesSolution bytes.now) }
 {
     match read_solution(alloc, bytes) {

@@ -17,3 +17,4 @@ pub mod Reordering
 pub mod Undoing
 pub mod KeptFields
 pub mod Longer
+pub mod CyclesClosed

@@ -9,11 +9,11 @@ use Rattle.incremental_paths.proofs.Members.{joined, joining}
 abbrev pub HasWay : List Arc → ℕ → ℕ → Type 0
 HasWay arcs u v = (rest : List ℕ) × Follows arcs u rest × (last_from u rest ≡ v)
 
-follows_append : (arcs : List Arc) (u : ℕ) (xs ys : List ℕ) → Follows arcs u xs → Follows arcs (last_from u xs) ys → Follows arcs u (xs ++ ys)
+pub follows_append : (arcs : List Arc) (u : ℕ) (xs ys : List ℕ) → Follows arcs u xs → Follows arcs (last_from u xs) ys → Follows arcs u (xs ++ ys)
 follows_append arcs u [] ys f g = g
 follows_append arcs u (x ∷ xs) ys f g = (f.0, follows_append arcs x xs ys f.1 g)
 
-last_append : (u : ℕ) (xs ys : List ℕ) → last_from u (xs ++ ys) ≡ last_from (last_from u xs) ys
+pub last_append : (u : ℕ) (xs ys : List ℕ) → last_from u (xs ++ ys) ≡ last_from (last_from u xs) ys
 last_append u [] ys = refl
 last_append u (x ∷ xs) ys = last_append x xs ys
 

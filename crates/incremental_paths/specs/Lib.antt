@@ -5,6 +5,7 @@ pub mod Linked
 pub mod Ordered
 pub mod NodeSets
 pub mod Marked
+pub mod Arranged
 pub mod Spread
 pub mod Back
 pub mod Kept

@@ -1,6 +1,6 @@
-ghost use Rattle.std.specs.Prelude.{ℕ, ◌≡◌, ◌≢◌, ◌<◌, ◌≤◌, ◌+◌, List, true, length, slice_index, slice_index_or, IfOk, IfSome, IfNone};
+ghost use Rattle.std.specs.Prelude.{ℕ, ◌≡◌, ◌≢◌, ◌<◌, ◌≤◌, ◌+◌, List, true, false, length, slice_index, slice_index_or, IfOk, IfSome, IfNone, IsTrue};
 ghost use Rattle.incremental_paths.specs.declared.arc.Arc.{Arc};
-ghost use Rattle.incremental_paths.specs.Walks.{IsWalkTo, walk_length, Leads};
+ghost use Rattle.incremental_paths.specs.Walks.{IsWalkTo, IsJoined, walk_length, Leads};
 ghost use Rattle.incremental_paths.specs.Ordered.{is_marked};
 ghost use Rattle.incremental_paths.specs.Marked.{begins, ends, AreWithin, AreRising, AreMarks};
 ghost use Rattle.incremental_paths.specs.Spread.{AreLengths, WalksFit};
@@ -122,6 +122,27 @@ fn marked_before(arcs: &[Arc], ended: &Threads, marks: &Marks, node: u32) -> u32
         front = ended.before(front - 1);
     }
     unreachable!()
+}
+
+/// Whether an arc leads to the node from one that is marked.
+pub fn comes_from_marked(arcs: &[Arc], ended: &Threads, marks: &[bool], node: u32) -> bool
+    requires ended { ended.now ≡ record { size = length marks.now; keys = ends arcs.now } }
+    requires within { AreWithin (length marks.now) arcs.now }
+    requires node { node < length marks.now }
+    ensures yes { IsTrue result → (u : ℕ) × IsJoined arcs.now u node
+        × (is_marked marks.now u ≡ true) }
+    ensures no { result ≡ false → (u : ℕ) → IsJoined arcs.now u node
+        → is_marked marks.now u ≡ false }
+{
+    let mut front = ended.last(node);
+    while front > 0 {
+        let arc = arcs[front - 1];
+        if marks[arc.from as usize] {
+            return true;
+        }
+        front = ended.before(front - 1);
+    }
+    false
 }
 
 /// The nodes of a way from one node to another, where there is one.

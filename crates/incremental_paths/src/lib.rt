@@ -1,13 +1,14 @@
-//! Path lengths over nodes with lowers, under arcs of which the last added is the first withdrawn. A
-//! node's length is the greatest of a walk that ends there (`specs/Walks.antt`), over the arcs kept
-//! and the lowers raised so far; `changed` tells which lengths the last call made greater. An arc
-//! that would close a cycle is refused, exactly then. Only `new`, `add`, `walk` and `between` take
-//! memory. Nodes in a kept order, and arcs threaded by their ends, let a call cost what it changes.
+//! Path lengths over nodes with lowers, under arcs of which the last added goes first. A node's
+//! length is the greatest of a walk that ends there (`specs/Walks.antt`), over the arcs kept and
+//! the lowers raised; `changed` tells which lengths the last call made greater. An arc is refused
+//! exactly where it would close a cycle, and `cycle_with` asks that of several. What takes memory
+//! gives a `Result`. Nodes in a kept order, and threaded arcs, let a call cost what it changes.
 #![tactic(auto)]
 
 mod arc;
 mod back;
 mod changes;
+mod closing;
 mod faults;
 mod laws;
 mod marks;
@@ -27,6 +28,7 @@ pub use laws::walks_are_bounded;
 pub use order::Order;
 pub use paths::Paths;
 pub use plain_values::Memory;
+pub use threads::Threads;
 
 #[cfg(test)]
 mod tests;

@@ -1,11 +1,13 @@
-ghost use Rattle.std.specs.Prelude.{ℕ, ◌≡◌, ◌<◌, ◌≤◌, ◌↔◌, ◌^◌, List, [], length, All, IfOk, IfErr, IfSome, IfNone, IsSome, IsNone, IsTrue, OnOk, OnErr, IsErrOf, ◌≢◌, slice_index};
-ghost use Rattle.incremental_paths.specs.Walks.{IsWalkTo, walk_length, HasNoNodeTwice, Leads, IsLongest, HasCycle};
+ghost use Rattle.std.specs.Prelude.{ℕ, ◌≡◌, ◌<◌, ◌≤◌, ◌↔◌, ◌^◌, ◌++◌, List, [], true, false, length, All, IfOk, IfErr, IfSome, IfNone, IsSome, IsNone, IsTrue, OnOk, OnErr, IsErrOf, ◌≢◌, slice_index};
+ghost use Rattle.incremental_paths.specs.Walks.{IsWalkTo, IsJoined, walk_length, HasNoNodeTwice, Leads, IsLongest, IsCycle, HasCycle};
 ghost use Rattle.incremental_paths.specs.Marked.{AreRising};
+ghost use Rattle.incremental_paths.specs.Ordered.{is_marked};
 ghost use Rattle.incremental_paths.specs.Network.{IsNode, IsShort, with_arc, without_last, raised, unchanged, TellsChanged};
 
 use crate::arc::Arc;
-use crate::back::{find_way, walk_back, way_back};
+use crate::back::{comes_from_marked, find_way, walk_back, way_back};
 use crate::changes::{Change, Changes};
+use crate::closing::find_cycle;
 use crate::faults::AddNo;
 use crate::marks::Marks;
 use crate::order::Order;
@@ -95,6 +97,13 @@ impl Paths {
         })
     }
 
+    /// How many nodes there are.
+    pub fn size(&self) -> usize
+        ensures { result ≡ length self.now.lowers }
+    {
+        self.lowers.len()
+    }
+
     /// Adds an arc behind the others. Fails where it would close a cycle, also one of length 0, and
     /// for want of memory.
     pub fn add(&mut self, from: u32, to: u32, length: u64) -> Result<(), AddNo>
@@ -147,6 +156,29 @@ impl Paths {
         let count = self.arcs.len();
         self.stale = keep_changes(&self.changes, &mut self.trail, self.stale, count);
         Ok(())
+    }
+
+    /// The nodes of a cycle that these arcs would close with the kept ones, and `None` where they
+    /// close none. From each node an arc leads to the next, and from the last to the first. No arc
+    /// is added, and only the order of the nodes changes.
+    pub fn cycle_with(&mut self, more: &[Arc]) -> Result<Option<Vec<u32>>, Memory>
+        requires nodes { All (λ arc. IsNode self.old arc.from × IsNode self.old arc.to) more.now }
+        ensures same { self.new ≡ unchanged self.old }
+        ensures cycle { IfOk result
+            (λ found. IfSome found (λ nodes. IsCycle (self.old.arcs ++ more.now) nodes.items)) }
+        ensures none { IfOk result
+            (λ found. IfNone found (¬ HasCycle (self.old.arcs ++ more.now))) }
+    {
+        self.changes.clear();
+        self.refused = None;
+        find_cycle(
+            &mut self.arcs,
+            &mut self.begun,
+            &mut self.ended,
+            &mut self.order,
+            &mut self.marks,
+            more,
+        )
     }
 
     /// Takes the last `k` arcs away.
@@ -220,7 +252,7 @@ impl Paths {
     }
 
     /// The nodes whose lengths the last call of `add` or `raise` made greater, each once. There are
-    /// none after `new`, `withdraw`, and an arc that was not added.
+    /// none after `new`, `withdraw`, `cycle_with`, and an arc that was not added.
     pub fn changed(&self) -> &[u32]
         ensures all { result.now ≡ self.now.changed }
         ensures nodes { All (IsNode self.now) self.now.changed }
@@ -230,7 +262,7 @@ impl Paths {
     }
 
     /// An order of the nodes in which each kept arc leads from a lower place to a higher. Only
-    /// `add` changes it.
+    /// `add` and `cycle_with` change it.
     pub fn order(&self) -> &Order
         ensures size { length result.now ≡ length self.now.lowers }
         ensures rising { AreRising self.now.arcs result.now }
@@ -256,6 +288,21 @@ impl Paths {
         ensures no_cycle { ¬ HasCycle self.now.arcs }
     {
         &self.arcs
+    }
+
+    /// Whether a kept arc leads to the node from one that is marked. It takes no memory.
+    pub fn is_entered_from(&self, node: u32, marks: &[bool]) -> bool
+        requires node { IsNode self.now node }
+        requires marks { length marks.now ≡ length self.now.lowers }
+        ensures yes { IsTrue result → (u : ℕ) × IsJoined self.now.arcs u node
+            × (is_marked marks.now u ≡ true) }
+        ensures no { result ≡ false → (u : ℕ) → IsJoined self.now.arcs u node
+            → is_marked marks.now u ≡ false }
+
+        // Of the marked nodes the one at the lowest place is entered from none.
+        ensures rising { (places : List ℕ) × AreRising self.now.arcs places }
+    {
+        comes_from_marked(&self.arcs, &self.ended, marks, node)
     }
 
     /// A walk to the node that is as long as the node's length.

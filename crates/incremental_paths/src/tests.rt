@@ -1,6 +1,6 @@
 ghost use Rattle.std.specs.Prelude.{◌≡◌, ◌<◌, ◌≤◌, ◌^◌, length, All, IfOk};
 
-use crate::{AddNo, Paths};
+use crate::{AddNo, Arc, Memory, Paths};
 use std::alloc::Global;
 use std::process::Abort;
 use std::test::Fail;
@@ -237,5 +237,66 @@ fn a_raise_stays_where_arcs_are_withdrawn_together(rt: HostRuntime) -> Result<()
         (Step::Withdraw(1), &[0, 0, 7], &[]),
     ];
     run(&rt, rt.alloc(), &[0, 0, 0], &rows)?;
+    Ok(())
+}
+
+// The cycle that these arcs would close has so many nodes, and 0 says that there is none. The one
+// arc is kept, and no node has changed.
+fn compare_cycle(
+    rt: &impl Abort,
+    paths: &mut Paths,
+    more: &[Arc],
+    nodes: usize,
+) -> Result<(), Memory>
+    requires { length paths.old.lowers ≡ 3 }
+    ensures { length paths.new.lowers ≡ 3 }
+{
+    assert!(rt; more.iter().all(|arc| arc.from < 3 && arc.to < 3));
+    let found = match paths.cycle_with(more)? {
+        Some(cycle) => cycle.len(),
+        None => 0,
+    };
+    assert_eq!(rt; found, nodes);
+    assert_eq!(rt; paths.arcs().len(), 1);
+    assert_eq!(rt; paths.changed().len(), 0);
+    Ok(())
+}
+
+// Each row has arcs, and how many nodes the cycle has that they would close.
+fn compare_cycles(
+    rt: &impl Abort,
+    paths: &mut Paths,
+    rows: &[(&[Arc], usize)],
+) -> Result<(), Memory>
+    requires { length paths.old.lowers ≡ 3 }
+{
+    for (more, nodes) in rows {
+        compare_cycle(rt, paths, more, *nodes)?;
+    }
+    Ok(())
+}
+
+// An arc of length 1.
+fn arc(from: u32, to: u32) -> Arc {
+    Arc {
+        from,
+        to,
+        length: 1,
+    }
+}
+
+#[test]
+fn several_arcs_close_a_cycle_together(rt: HostRuntime) -> Result<(), Fail> {
+    let mut paths = Paths::new(rt.alloc(), &[0, 0, 0])?;
+    add(&rt, &mut paths, 3, 0, 1, 7)?;
+    let rows: [(&[Arc], usize); 6] = [
+        (&[arc(1, 2), arc(2, 0)], 3),
+        (&[arc(1, 2), arc(0, 2)], 0),
+        (&[arc(1, 0)], 2),
+        (&[arc(2, 1), arc(1, 2)], 2),
+        (&[arc(2, 2)], 1),
+        (&[], 0),
+    ];
+    compare_cycles(&rt, &mut paths, &rows)?;
     Ok(())
 }

@@ -1,7 +1,8 @@
 ghost use Rattle.std.specs.Prelude.{ℕ, ◌≡◌, ◌<◌, ◌-◌, List, [], ◌∷◌, ◌++◌, length, take, slice_index, IfOk, OnOk, OnErr};
 ghost use Rattle.incremental_paths.specs.Threaded.{Threaded, IsFront, threaded_with};
 
-use std::alloc::{AllocError, Global};
+use plain_values::Memory;
+use std::alloc::Global;
 use std::marker::Model;
 
 // An element of the list, and how long the list's front is that has all earlier ones of this node.
@@ -11,10 +12,10 @@ struct Link {
     before: usize,
 }
 
-/// A list of nodes, with the places of each node in it threaded from the last to the first.
+/// A list of nodes, in which the places of each node are threaded from its last to its first.
 ///
-/// A place is told by the length of the list's front that ends with it, and 0 says that there is
-/// none.
+/// A place is the length of the list's front that ends with it, so that of the element at an index
+/// is one more than the index, and 0 says that there is none. No call goes through the list.
 #[derive(Debug, Drop)]
 pub struct Threads {
     fronts: Vec<usize>,
@@ -36,8 +37,8 @@ impl Model for Threads {
 }
 
 impl Threads {
-    /// No elements, of this many nodes.
-    pub fn new(alloc: Global, nodes: usize) -> Result<Self, AllocError>
+    /// An empty list, for the nodes below this number. It takes memory for each of them.
+    pub fn new(alloc: Global, nodes: usize) -> Result<Self, Memory>
         ensures { IfOk result (λ threads. threads ≡ record { size = nodes; keys = [] }) }
     {
         Ok(Threads {
@@ -46,8 +47,8 @@ impl Threads {
         })
     }
 
-    /// Puts a node behind the others.
-    pub fn push(&mut self, node: u32) -> Result<(), AllocError>
+    /// Puts a node behind the others. Where memory runs out, the list stays as it was.
+    pub fn push(&mut self, node: u32) -> Result<(), Memory>
         requires { node < self.old.size }
         ensures ok { OnOk result (self.new ≡ threaded_with self.old node) }
         ensures err { OnErr result (self.new ≡ self.old) }
@@ -58,7 +59,7 @@ impl Threads {
         Ok(())
     }
 
-    /// Takes the last node away.
+    /// Takes the last node of the list away.
     pub fn pop(&mut self)
         requires { 0 < length self.old.keys }
         ensures size { self.new.size ≡ self.old.size }
@@ -70,7 +71,7 @@ impl Threads {
         self.fronts[link.node as usize] = link.before;
     }
 
-    /// The last place of the node.
+    /// The last place of the node, and 0 where it does not stand in the list.
     pub fn last(&self, node: u32) -> usize
         requires { node < self.now.size }
         ensures { IsFront self.now.keys (length self.now.keys) node result }
@@ -78,7 +79,7 @@ impl Threads {
         self.fronts[node as usize]
     }
 
-    /// The place before this one of the same node. This one is told by its index.
+    /// The place before this index at which the same node stands, and 0 where there is none.
     pub fn before(&self, index: usize) -> usize
         requires { index < length self.now.keys }
         ensures { IsFront self.now.keys index (slice_index self.now.keys index) result }

@@ -5,7 +5,7 @@ ghost use Rattle.incremental_paths.specs.Spread.{restored};
 use crate::arc::Arc;
 use crate::changes::{Change, Changes};
 use crate::threads::Threads;
-use std::alloc::AllocError;
+use plain_values::Memory;
 
 /// Puts back what the changes from a place on have replaced, the last one first, and forgets them.
 pub fn put_back(lengths: &mut [u64], trail: &mut Vec<Change>, start: usize)
@@ -41,7 +41,7 @@ pub fn keep_arc(
     ended: &mut Threads,
     arc: Arc,
     start: usize,
-) -> Result<(), AllocError>
+) -> Result<(), Memory>
     requires from { arc.from < begun.old.size }
     requires to { arc.to < ended.old.size }
     ensures arcs { OnOk result (arcs.new.items ≡ arcs.old.items ++ arc ∷ []) }
@@ -53,20 +53,40 @@ pub fn keep_arc(
     ensures begun_err { OnErr result (begun.new ≡ begun.old) }
     ensures ended_err { OnErr result (ended.new ≡ ended.old) }
 {
-    arcs.reserve(1)?;
     starts.reserve(1)?;
-    link(begun, ended, arc)?;
-    if let Err(_) = arcs.push(arc) {
-        unreachable!();
-    }
+    link_arc(arcs, begun, ended, arc)?;
     if let Err(_) = starts.push(start) {
         unreachable!();
     }
     Ok(())
 }
 
+/// Puts an arc behind the others, and threads it at both of its ends.
+pub fn link_arc(
+    arcs: &mut Vec<Arc>,
+    begun: &mut Threads,
+    ended: &mut Threads,
+    arc: Arc,
+) -> Result<(), Memory>
+    requires from { arc.from < begun.old.size }
+    requires to { arc.to < ended.old.size }
+    ensures arcs { OnOk result (arcs.new.items ≡ arcs.old.items ++ arc ∷ []) }
+    ensures begun { OnOk result (begun.new ≡ threaded_with begun.old arc.from) }
+    ensures ended { OnOk result (ended.new ≡ threaded_with ended.old arc.to) }
+    ensures arcs_err { OnErr result (arcs.new.items ≡ arcs.old.items) }
+    ensures begun_err { OnErr result (begun.new ≡ begun.old) }
+    ensures ended_err { OnErr result (ended.new ≡ ended.old) }
+{
+    arcs.reserve(1)?;
+    link(begun, ended, arc)?;
+    if let Err(_) = arcs.push(arc) {
+        unreachable!();
+    }
+    Ok(())
+}
+
 // Threads an arc at both of its ends.
-fn link(begun: &mut Threads, ended: &mut Threads, arc: Arc) -> Result<(), AllocError>
+fn link(begun: &mut Threads, ended: &mut Threads, arc: Arc) -> Result<(), Memory>
     requires from { arc.from < begun.old.size }
     requires to { arc.to < ended.old.size }
     ensures begun { OnOk result (begun.new ≡ threaded_with begun.old arc.from) }

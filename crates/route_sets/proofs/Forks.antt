@@ -7,7 +7,7 @@ use Rattle.disp_model.specs.Train.{IsSuccessor, IsEntry, IsExit}
 use Rattle.disp_model.specs.WellFormed.{IsWellFormed, IsAcyclic, LeadsTo}
 use Rattle.train_orders.proofs.Places.{contains_none}
 
-one_in : (a s : ℕ) → Contains (a ∷ []) s → s ≡ a
+pub one_in : (a s : ℕ) → Contains (a ∷ []) s → s ≡ a
 one_in a s (zero, lt, e) = sym e
 one_in a s (suc k, lt, e) = absurd (omega (arith, lt))
 
@@ -22,7 +22,7 @@ climbs : (train : List Operation) → ((o s : ℕ) → IsSuccessor train o s →
 climbs train up zero o s h = up o s h
 climbs train up (suc n) o s (p, step, more) = omega (arith, up o p step, climbs train up n p s more)
 
-acyclic : (train : List Operation) (exit : ℕ) → 0 < length train → ((o : ℕ) → IsEntry train o → o ≡ 0) → ((o : ℕ) → IsExit train o → o ≡ exit) → ((o s : ℕ) → IsSuccessor train o s → o < s) → IsAcyclic train
+pub acyclic : (train : List Operation) (exit : ℕ) → 0 < length train → ((o : ℕ) → IsEntry train o → o ≡ 0) → ((o : ℕ) → IsExit train o → o ≡ exit) → ((o s : ℕ) → IsSuccessor train o s → o < s) → IsAcyclic train
 acyclic train exit some enters leaves up = record {
   entered = some;
   one_entry = λ o p one other. enters o one ∙ sym (enters p other);
@@ -67,7 +67,7 @@ fork_acyclic = acyclic fork 3 (omega arith) fork_enters fork_leaves fork_up
 no_name : (i j : ℕ) (other : List ℕ) → i < j → slice_get {X = List ℕ} [] i ≡ Some other → slice_get {X = List ℕ} [] j ≢ Some other
 no_name i j other lt at there = absurd cc
 
-one_once : (a i j s : ℕ) → i < j → slice_get (a ∷ []) i ≡ Some s → slice_get (a ∷ []) j ≢ Some s
+pub one_once : (a i j s : ℕ) → i < j → slice_get (a ∷ []) i ≡ Some s → slice_get (a ∷ []) j ≢ Some s
 one_once a i zero s lt at there = omega (arith, lt)
 one_once a i (suc j) s lt at there = absurd cc
 

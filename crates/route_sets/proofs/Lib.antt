@@ -2,7 +2,7 @@ pub mod Answering
 mod Asking
 mod Chaining
 mod Following
-mod Forks
+pub mod Forks
 mod Knowing
 mod Passing
 mod Relaxing

@@ -1,0 +1,13 @@
+mod Leading
+mod Numbering
+mod Cycling
+mod Lengths
+mod Shortness
+mod Owning
+mod Joining
+mod Deciding
+mod Offsets
+mod Blocks
+mod Potentials
+mod Extending
+mod Inserting

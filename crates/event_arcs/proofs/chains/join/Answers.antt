@@ -1,0 +1,17 @@
+use Rattle.std.proofs.Common.{◌≡◌, ◌+◌, ℕ, [], ◌∷◌, ◌++◌, Some, sym, ◌∙◌, ap}
+use Rattle.std.proofs.lemmas.Option.{same_Some}
+use Rattle.incremental_paths.specs.declared.arc.Arc.{Arc}
+use Rattle.event_arcs.proofs.chains.join.Goals as goal
+
+arc_to : ℕ → ℕ → ℕ → Arc
+arc_to from to length = record { from = from; to = to; length = length }
+
+pub returns-in_ok-push : goal.returns-in_ok-push
+unfolding arc_to
+returns-in_ok-push c = λ node t sum are one other arc.
+    let found : c.least_between.result ≡ Some sum = (c.least_between.ensures node t are sum).1 (one, other, arc) in
+    let same = same_Some c.in-Some.length sum (sym c.in-Some.is ∙ found) in
+    c.in_ok-push.ensures.items ∙ ap (λ (n : ℕ). c.args.arcs.now.items ++ arc_to (c.args.first + c.args.before) (c.args.first + c.args.op) n ∷ []) same
+
+pub returns-in_default : goal.returns-in_default
+returns-in_default c = λ node t sum are one other arc. absurd (c.in_default.not-Some sum ((c.least_between.ensures node t are sum).1 (one, other, arc)))
