@@ -1,4 +1,4 @@
-use Rattle.cycle_witness.proofs.CyclesFromWays.{cycle_from_way}
+use Rattle.incremental_paths.proofs.CyclesClosed.{cycle_from_way}
 use Rattle.cycle_witness.proofs.cycles.cycle.Goals as goal
 
 pub unreachable-requires : goal.unreachable-requires
