@@ -7,3 +7,4 @@ pub mod Naming
 pub mod Deciding
 pub mod Training
 pub mod Past
+pub mod Rooting

@@ -3,4 +3,5 @@ pub mod Touched
 pub mod States
 pub mod Joined
 pub mod Kept
+pub mod Roots
 pub mod Graphs

@@ -15,9 +15,9 @@ pub enum ExtendNo {
 }
 
 impl From<Memory> for ExtendNo {
-    fn from(_no: Memory) -> ExtendNo
-        ensures { result ≡ OutOfMemory }
-    {
+    ghost from_gives = { λ _ no. no ≡ OutOfMemory };
+
+    fn from(_no: Memory) -> ExtendNo {
         ExtendNo::Memory
     }
 }

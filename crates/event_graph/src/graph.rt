@@ -1,9 +1,10 @@
-ghost use Rattle.std.specs.Prelude.{◌≡◌, ◌<◌, ℕ, OnOk, OnErr, IfErr, length};
-ghost use Rattle.disp_model.specs.Node.{with_decision};
+ghost use Rattle.std.specs.Prelude.{◌≡◌, ◌<◌, ℕ, [], IfOk, OnOk, OnErr, IfErr, length};
+ghost use Rattle.disp_model.specs.Node.{node_at, with_decision};
 ghost use Rattle.disp_model.specs.Routes.{HasRoute};
 ghost use Rattle.disp_model.specs.Walks.{HasCycle};
 ghost use Rattle.route_sets.specs.Sets.{AreRoutesOf};
 ghost use Rattle.event_arcs.specs.Listed.{AreArcsOf, AreLowersOf};
+ghost use Rattle.event_graph.specs.Joined.{IsOfEdition};
 ghost use Rattle.event_graph.specs.Kept.{IsRefusedAt};
 ghost use Rattle.event_graph.specs.Graphs.{without_last};
 
@@ -11,9 +12,12 @@ use crate::changes::Change;
 use crate::decide::decide;
 use crate::faults::ExtendNo;
 use crate::parts::{Parts, restore};
+use crate::root::parts_of;
 use disp_model::{Decision, Fixing, Op, Problem};
+use event_windows::operations;
 use incremental_paths::Paths;
 use route_sets::Routes;
+use std::alloc::Global;
 use std::marker::Model;
 
 /// The arcs between the operations that the trains must run at a node of the search: a problem, the
@@ -41,6 +45,32 @@ impl<'p> Model for Graph<'p> {
 }
 
 impl<'p> Graph<'p> {
+    /// The graph of the fixings that stand in an edition of the problem, without decisions. Fails
+    /// where the fixings leave a train without an allowed route, and for want of memory.
+    pub fn new(
+        alloc: Global,
+        problem: &'p Problem,
+        fixings: &[Fixing],
+    ) -> Result<Graph<'p>, ExtendNo>
+        requires edition { IsOfEdition (node_at problem.now fixings.now []) }
+        ensures ok { IfOk result (λ graph. graph ≡ node_at problem.now fixings.now []) }
+        ensures refused { IfErr result (IsRefusedAt (node_at problem.now fixings.now [])) }
+    {
+        let Ok(kept) = Vec::from_slice(alloc, fixings) else {
+            return Err(ExtendNo::Memory);
+        };
+        let ops = operations(alloc, problem)?;
+        let parts = parts_of(alloc, problem, fixings, &ops)?;
+        Ok(Graph {
+            problem,
+            fixings: kept,
+            ops,
+            decisions: Vec::new(alloc),
+            parts,
+            trail: Vec::new(alloc),
+        })
+    }
+
     /// The decisions, in the order in which they were added.
     pub fn decisions(&self) -> &[Decision]
         ensures { result.now ≡ self.now.decisions }

@@ -1,6 +1,7 @@
 //! The graph of a node of the search: the arcs between the operations that its trains must run.
 //!
-//! `Graph::extend` adds a decision and `undo` takes the last one back, each in time of what changes:
+//! `Graph::new` is the graph where nothing is decided, in time linear in the problem and the
+//! fixings. `Graph::extend` adds a decision and `undo` takes the last one back, each in time of what changes:
 //! an order looks at its two operations, a decision about a train's routes at that train and at the
 //! orders of operations that are forced from then on. A decision that leaves a train without a
 //! route, or closes a cycle, is refused, and nothing changes.
@@ -16,6 +17,7 @@ mod join;
 mod orders;
 mod parts;
 mod paths;
+mod root;
 mod touched;
 
 pub use faults::ExtendNo;
