@@ -1,4 +1,4 @@
-use Rattle.std.proofs.Common.{◌≡◌, ℕ, List, length, ap, arith}
+use Rattle.std.proofs.Common.{ℕ, List, length, ap, arith}
 use Rattle.std.proofs.lemmas.List.{length_push}
 use Rattle.event_windows.proofs.Numbering.{count_more, firsts_more}
 use Rattle.event_windows.proofs.numbers.first_numbers.Goals as goal

@@ -1,4 +1,4 @@
-use Rattle.std.proofs.Common.{◌≡◌, ◌<◌, List, length, ap, sym, arith}
+use Rattle.std.proofs.Common.{List, length, ap, sym, arith}
 use Rattle.std.proofs.lemmas.List.{length_push}
 use Rattle.disp_model.specs.declared.train.Op.{Op}
 use Rattle.event_windows.proofs.Numbering.{op_there, lists_more}
