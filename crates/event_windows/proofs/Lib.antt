@@ -1,2 +1,3 @@
 pub mod Numbering
 pub mod Fixing
+pub mod Trains

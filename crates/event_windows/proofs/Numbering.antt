@@ -1,5 +1,5 @@
 -- Lists of operations by their numbers.
-use Rattle.std.proofs.Common.{◌≡◌, ℕ, ◌+◌, ◌<◌, List, [], ◌∷◌, ◌++◌, length, get_or, Option, Some, None, refl, sym, ap, subst, ◌∙◌, inl, inr, arith}
+use Rattle.std.proofs.Common.{◌≡◌, ℕ, ◌+◌, ◌<◌, List, [], ◌∷◌, ◌++◌, length, get_or, Some, sym, ap, subst, ◌∙◌, inl, inr, arith}
 use Rattle.std.specs.Prelude.{slice_get}
 use Rattle.std.proofs.lemmas.Bool.{cases_lt}
 use Rattle.std.proofs.lemmas.Option.{slice_get_within, get_or_from_slice_get, slice_get-get_or, same_Some}
@@ -10,7 +10,6 @@ use Rattle.disp_model.specs.declared.train.Operation.{Operation}
 use Rattle.disp_model.specs.declared.problem.Problem.{Problem}
 use Rattle.disp_model.specs.WellFormed.{operation_count}
 use Rattle.disp_model.specs.Numbers.{number_of}
-use Rattle.disp_model.specs.Valid.{train_at}
 use Rattle.disp_laws.proofs.Numbered.{below_count, numbers_apart, each_number}
 use Rattle.event_windows.specs.Operations.{HasOperation, operations_before, ListsFirst, IsAtNumber, AreOperationsOf, AreFirstNumbers}
 

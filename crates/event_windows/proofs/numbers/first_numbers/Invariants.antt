@@ -1,5 +1,5 @@
 -- the first numbers of the trains before
-use Rattle.std.proofs.Common.{◌≡◌, ℕ, ◌+◌, ◌<◌, length, Some}
+use Rattle.std.proofs.Common.{◌≡◌, ℕ, ◌<◌, length, Some}
 use Rattle.std.specs.Prelude.{slice_get}
 use Rattle.event_windows.specs.Operations.{operations_before}
 use Rattle.event_windows.proofs.numbers.first_numbers.Given as goal

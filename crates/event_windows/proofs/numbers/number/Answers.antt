@@ -1,4 +1,4 @@
-use Rattle.std.proofs.Common.{◌≡◌, ◌+◌, arith}
+use Rattle.std.proofs.Common.{◌+◌, arith}
 use Rattle.event_windows.specs.Operations.{IsAtNumber}
 use Rattle.event_windows.proofs.Numbering.{first_is, number_is, number_below}
 use Rattle.event_windows.proofs.numbers.number.Goals as goal

@@ -1,4 +1,4 @@
-use Rattle.std.proofs.Common.{◌≡◌, ℕ, length, take, ap, ◌∙◌, arith, List}
+use Rattle.std.proofs.Common.{◌≡◌, length, take, ap, ◌∙◌, arith, List}
 use Rattle.std.specs.Prelude.{sum_by}
 use Rattle.std.proofs.lemmas.List.{take_all}
 use Rattle.disp_model.specs.declared.train.Operation.{Operation}

@@ -1,5 +1,5 @@
 -- the operations of the trains before
-use Rattle.std.proofs.Common.{◌≡◌, ◌+◌, ◌≤◌, length}
+use Rattle.std.proofs.Common.{◌≡◌, length}
 use Rattle.event_windows.specs.Operations.{operations_before, ListsFirst}
 use Rattle.event_windows.proofs.numbers.operations.Given as goal
 

@@ -1,5 +1,5 @@
 -- the operations before the train's, and its first so many
-use Rattle.std.proofs.Common.{◌≡◌, ◌+◌, ◌≤◌, length}
+use Rattle.std.proofs.Common.{◌≡◌, ◌+◌, length}
 use Rattle.event_windows.specs.Operations.{operations_before, ListsFirst}
 use Rattle.event_windows.proofs.numbers.push_train.Given as goal
 

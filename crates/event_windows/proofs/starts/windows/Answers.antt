@@ -1,8 +1,6 @@
-use Rattle.std.proofs.Common.{◌≡◌, ◌<◌, List, length, get_or, ap, subst, sym, ◌∙◌, arith}
-use Rattle.std.proofs.lemmas.List.{length_push}
+use Rattle.std.proofs.Common.{get_or, subst, sym, ◌∙◌, arith}
 use Rattle.std.proofs.lemmas.Option.{slice_get-get_or}
 use Rattle.disp_model.specs.declared.train.Op.{Op}
-use Rattle.event_windows.specs.declared.starts.Window.{Window}
 use Rattle.event_windows.specs.Operations.{AreOperationsOf}
 use Rattle.event_windows.proofs.Fixing.{windows_more, windows_all, times_read}
 use Rattle.event_windows.proofs.starts.windows.Goals as goal
@@ -19,7 +17,7 @@ loop-n-preserved c =
     let at = slice_get-get_or ops n (record { train = 0; op = 0 }) c.loop-n-test.true in
     let listed : AreOperationsOf c.args.problem.now ops = subst (AreOperationsOf c.args.problem.now) (sym c.deref-op-items.ensures.value) c.in_ok-ops.ensures in
     record {
-      long = omega (arith, ap (λ (l : List Window). length l) items, length_push windows window, kept.long);
+      long = omega (arith, c.in_ok-push.ensures.len, kept.long);
       said = windows_more c.args.problem.now c.args.fixings.now ops windows c.push.new.self.items n op window items kept.long at (c.window_of.ensures c.args.fixings.now (c.index.ensures ∙ times_read c.args.problem.now c.args.fixings.now ops c.in_ok-times.times.items n op _ listed c.in_ok-times.ensures at)) kept.said;
     }
 

@@ -1,4 +1,4 @@
-use Rattle.std.proofs.Common.{◌≡◌, subst}
+use Rattle.std.proofs.Common.{subst}
 use Rattle.disp_model.specs.declared.train.Op.{Op}
 use Rattle.event_windows.specs.Operations.{IsAtNumber}
 use Rattle.event_windows.proofs.Fixing.{op_is, times_set}

@@ -1,4 +1,4 @@
-use Rattle.std.proofs.Common.{rules, ◌≡◌, ◌∙◌}
+use Rattle.std.proofs.Common.{rules}
 use Rattle.event_windows.proofs.Fixing.{times_free}
 use Rattle.event_windows.proofs.times.times_of.Goals as goal
 
