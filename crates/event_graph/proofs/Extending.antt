@@ -39,11 +39,11 @@ first_apart a b t e = none-some t e
 pub with_order : (node : Node) (a b : Op) (old new : List Arc) → HaveRoutes (with_decision node (First a b)) → AreArcsOf node old → AddsOrder (with_decision node (First a b)) (First a b) [] new → AreArcsOf (with_decision node (First a b)) (old ++ new)
 with_order node a b old new have are adds =
     order_extends node a b old new are (adds.sound (Contains-push node.decisions (First a b)) (All-nil (IsArcOf next))) (λ one other conflicts.
-      let leads = adds.leads a b refl (forced_still node (First a b) a (have a.train one.train) one) (forced_still node (First a b) b (have b.train other.train) other) conflicts in
-      record {
-        from_first = leads_right node old new a b (min_of node.problem a + release_of node.problem a b) leads.from_first;
-        from_next = λ n goes. leads_right node old new n b (release_of node.problem a b) (leads.from_next n goes);
-      })
+    let leads = adds.leads a b refl (forced_still node (First a b) a (have a.train one.train) one) (forced_still node (First a b) b (have b.train other.train) other) conflicts in
+    record {
+      from_first = leads_right node old new a b (min_of node.problem a + release_of node.problem a b) leads.from_first;
+      from_next = λ n goes. leads_right node old new n b (release_of node.problem a b) (leads.from_next n goes);
+    })
   where
     next : Node
     next = with_decision node (First a b)

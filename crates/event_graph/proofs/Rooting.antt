@@ -1,7 +1,9 @@
 -- What is kept where nothing is decided.
-use Rattle.std.proofs.Common.{◌≡◌, ◌∙◌, ℕ, ◌<◌, List, [], ◌++◌, length, ap, sym, subst, arith}
+use Rattle.std.proofs.Common.{◌≡◌, ◌∙◌, ℕ, List, [], ◌++◌, refl, ap, sym, subst}
+use Rattle.std.proofs.lemmas.Option.{none-some}
 use Rattle.disp_model.specs.declared.train.Op.{Op}
-use Rattle.disp_model.specs.Node.{Node}
+use Rattle.disp_model.specs.declared.problem.Problem.{Problem}
+use Rattle.disp_model.specs.Node.{Node, node_at}
 use Rattle.disp_model.specs.Routes.{HasRoute}
 use Rattle.disp_model.specs.Walks.{HasCycle}
 use Rattle.incremental_paths.specs.declared.arc.Arc.{Arc}
@@ -26,3 +28,7 @@ paths_are node network new lowers arcs is kept joined lowers_are arcs_are no_cyc
   lowers_are = subst (AreLowersOf node) (sym (kept ∙ ap (λ (n : Network). n.lowers) is)) lowers_are;
   no_cycle = no_cycle;
 }
+
+-- the fixings of a problem to which nothing has changed
+pub of_no_changes : (problem : Problem) → IsOfEdition (node_at problem [] [])
+of_no_changes problem = ([], λ i change at. absurd (none-some change at), refl)

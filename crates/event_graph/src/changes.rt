@@ -6,7 +6,9 @@ pub(crate) enum Change {
     /// The decision names what is not there.
     Nothing,
     /// An order of two operations is listed, and has added so many arcs.
-    Order { arcs: usize },
+    Order {
+        arcs: usize,
+    },
     /// The routes of a train: what was kept of it before, and how many arcs were added.
     Train {
         train: usize,

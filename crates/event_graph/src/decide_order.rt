@@ -12,7 +12,6 @@ ghost use Rattle.event_graph.specs.Kept.{state_of, MayDecide, MayAddOrder, AddsA
 use crate::changes::Change;
 use crate::faults::ExtendNo;
 use crate::join::join;
-
 use crate::orders::Pair;
 use crate::parts::Parts;
 use disp_model::{Decision, Op, Problem};

@@ -111,13 +111,7 @@ impl<'p> Graph<'p> {
         let Ok(()) = self.decisions.reserve(1) else {
             return Err(ExtendNo::Memory);
         };
-        match decide(
-            alloc,
-            self.problem,
-            &self.ops,
-            &mut self.parts,
-            decision,
-        ) {
+        match decide(alloc, self.problem, &self.ops, &mut self.parts, decision) {
             Ok(change) => {
                 if self.trail.push(change).is_err() {
                     unreachable!();

@@ -22,3 +22,6 @@ mod touched;
 
 pub use faults::ExtendNo;
 pub use graph::Graph;
+
+#[cfg(test)]
+mod tests;

@@ -32,8 +32,7 @@ pub returns-in-Err-clause-decided : goal.returns-in-Err-clause-decided
 returns-in-Err-clause-decided c fixings decisions may =
     let parts = c.args.parts.now in
     let node : Node = node_at c.args.problem.now fixings decisions in
-    let next : Node = with_decision node (First c.args.a c.args.b) in
-    (
+    let next : Node = with_decision node (First c.args.a c.args.b) in (
       refused_at next c.in-Err.no (all_have_routes next parts.each.items (order_placed node c.args.a c.args.b parts.each.items may.state.placed)) (c.in-Err.ensures.added fixings decisions (may_add (node_at c.args.problem.now fixings decisions) c.args.ops.now c.args.parts.now c.deref-2.result.now c.args.a c.args.b may c.deref-2.ensures.value)),
       back_again parts.owns.items parts.each.items parts.orders.pairs c.push.new.self.pairs c.pop.new.self.pairs c.in-Some.pair parts.paths.arcs c.join_order.new.paths.arcs c.in-Ok.ensures.ok c.pop.ensures.pairs c.in-Err.ensures.err,
     )

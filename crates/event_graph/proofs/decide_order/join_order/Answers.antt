@@ -10,11 +10,10 @@ pub join-requires : goal.join-requires
 join-requires c =
     let node : Node = node_at c.args.problem.now c.requires.0 c.requires.1 in
     let may = c.requires.2 in
-    let next : Node = with_decision node c.args.decision in
-    (
+    let next : Node = with_decision node c.args.decision in (
       next,
       rw c.deref.ensures.value (order_joins node c.args.ops.now c.args.each.now c.args.paths.now c.args.decision c.add_order.new.arcs.items may
-      (rw c.new-arcs.ensures.items at c.in-Ok.ensures c.requires.0 next.decisions (placed_then node c.args.ops.now c.args.each.now c.args.paths.now c.args.decision may))),
+          (rw c.new-arcs.ensures.items at c.in-Ok.ensures c.requires.0 next.decisions (placed_then node c.args.ops.now c.args.each.now c.args.paths.now c.args.decision may))),
     )
 
 pub returns-in-Ok-join-clause-added : goal.returns-in-Ok-join-clause-added

@@ -76,9 +76,8 @@ returns-in-Err-clause-decided c fixings decisions may =
     let first = ap (λ (p : Placed). p.first) made ∙ ap (λ (p : Placed). p.first) (read_same parts.each.items t c.index-2.result.now before each_within c.index-2.ensures stood) in
     let placed = placed_now node d t parts.each.items before c.replace-before.new.dest c.none_left.result c.requires.there may.state.placed stood first (subst (λ (p : Placed). AreRoutesOf next t p.routes) (sym made) routes)
     (c.none_left.ensures next t routes) c.if-none_left.false in
-    let all = train_placed node d t parts.each.items c.replace-before.new.dest c.requires.about each_within may.state.placed placed in
-    (
+    let all = train_placed node d t parts.each.items c.replace-before.new.dest c.requires.about each_within may.state.placed placed in (
       refused_at next c.in-Err.no (all_have_routes next (set parts.each.items t c.replace-before.new.dest) all)
-      (c.in-Err.ensures.added fixings decisions d (may_train node d c.args.ops.now parts t before c.replace-before.new.dest c.deref.result.now may c.requires.about c.requires.there stood placed c.deref.ensures.value)),
+          (c.in-Err.ensures.added fixings decisions d (may_train node d c.args.ops.now parts t before c.replace-before.new.dest c.deref.result.now may c.requires.about c.requires.there stood placed c.deref.ensures.value)),
       both_back parts.owns.items parts.each.items parts.orders.pairs parts.paths.arcs c.join_train.new.paths.arcs t before c.replace-before.new.dest stood c.in-Err.ensures.err,
     )

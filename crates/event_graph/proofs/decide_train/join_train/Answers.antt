@@ -9,11 +9,10 @@ pub join-requires : goal.join-requires
 join-requires c =
     let node : Node = node_at c.args.problem.now c.requires.0 c.requires.1 in
     let d = c.requires.2 in
-    let may = c.requires.3 in
-    (
+    let may = c.requires.3 in (
       with_decision node d,
       rw c.deref.ensures.value (train_joins node d c.args.ops.now c.args.each.now c.args.orders.now c.args.paths.now c.args.before.now c.args.train c.in-Ok.arcs.items may
-      (c.in-Ok.ensures c.requires.0 c.requires.1 d may.about may.was may.placed may.orders_are)),
+          (c.in-Ok.ensures c.requires.0 c.requires.1 d may.about may.was may.placed may.orders_are)),
     )
 
 pub returns-in-Ok-join-clause-added : goal.returns-in-Ok-join-clause-added

@@ -8,8 +8,7 @@ use Rattle.event_graph.proofs.orders.Orders.add_behind.Goals as goal
 pub loop-place-init : goal.loop-place-init
 loop-place-init c =
     let keys = c.self.inside.by_first.keys in
-    let same = ap (λ (o : Ordered). o.pairs) c.self.view_is in
-    (
+    let same = ap (λ (o : Ordered). o.pairs) c.self.view_is in (
       placed_last keys _ c.args.number c.last-place.result (omega arith) c.last-place.ensures,
       λ fixings decisions placed. loop_begins (λ p. p.from) keys c.args.number (node_at c.args.problem.now fixings decisions) c.self.inside.pairs.items c.args.self.now.pairs c.last-place.result c.args.arcs.now.items c.self.invariant.firsts same c.last-place.ensures,
     )
@@ -17,8 +16,7 @@ loop-place-init c =
 pub loop-place-preserved : goal.loop-place-preserved
 loop-place-preserved c =
     let keys = c.self.inside.by_first.keys in
-    let same = ap (λ (o : Ordered). o.pairs) c.self.view_is in
-    (
+    let same = ap (λ (o : Ordered). o.pairs) c.self.view_is in (
       place_on keys c.args.number c.loop-place.place c.before-place.result c.loop-place-test.true c.loop-place.invariant.0 c.before-place.ensures,
       λ fixings decisions placed.
           loop_on (λ p. p.from) keys c.args.number (node_at c.args.problem.now fixings decisions) c.self.inside.pairs.items c.args.self.now.pairs c.loop-place.place c.before-place.result c.index-pair.result.now c.decision_of.result
