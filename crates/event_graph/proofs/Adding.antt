@@ -1,6 +1,6 @@
 -- What a decision about the routes of a train adds.
-use Rattle.std.proofs.Common.{◌≡◌, ◌∙◌, ℕ, ◌+◌, ◌<◌, List, [], ◌∷◌, ◌++◌, length, Some, refl, sym, ap, subst, inl, inr}
-use Rattle.std.specs.Prelude.{nat_eq, All, Contains, ◌⊎◌}
+use Rattle.std.proofs.Common.{◌≡◌, ◌∙◌, ℕ, ◌<◌, List, [], ◌∷◌, length, Some, refl, sym, ap, subst, inl, inr}
+use Rattle.std.specs.Prelude.{nat_eq, Contains, ◌⊎◌}
 use Rattle.std.proofs.lemmas.Bool.{cases_Bool, eqb-true, eqb-false}
 use Rattle.std.proofs.lemmas.Option.{same_Some}
 use Rattle.std.proofs.lemmas.List.Elements.{All-nil, All-weaker, Contains-append_left}
@@ -17,12 +17,11 @@ use Rattle.incremental_paths.specs.declared.arc.Arc.{Arc}
 use Rattle.route_sets.specs.Sets.{op_of}
 use Rattle.event_arcs.specs.Listed.{IsArcOf}
 use Rattle.event_arcs.specs.Chained.{AddsChain}
-use Rattle.event_arcs.specs.Ordering.{LeadsAsOrdered}
 use Rattle.event_arcs.specs.Owned.{train_of_decision}
 use Rattle.event_arcs.proofs.Numbering.{forced_is_op}
 use Rattle.event_arcs.proofs.Joining.{leads_kept}
 use Rattle.event_graph.specs.declared.orders.Pair.{Pair}
-use Rattle.event_graph.specs.Pairs.{Touches, IsDecidedAt}
+use Rattle.event_graph.specs.Pairs.{IsDecidedAt}
 use Rattle.event_graph.specs.Touched.{StaysAs, AddsChanged}
 use Rattle.event_graph.specs.States.{pair_of, AreOrdersOf, IsOldOrNew, AddsTrain}
 use Rattle.event_graph.proofs.Narrowing.{IsApart, forced_before, goes_before}

@@ -1,23 +1,21 @@
 -- What a decided order makes of what is kept.
-use Rattle.std.proofs.Common.{◌≡◌, ◌∙◌, ℕ, ◌+◌, ◌-◌, ◌<◌, ◌≤◌, List, [], ◌∷◌, ◌++◌, length, take, Some, refl, sym, ap, subst, inl, inr, arith}
-use Rattle.std.specs.Prelude.{slice_get, All, Contains, ◌↔◌}
-use Rattle.std.proofs.lemmas.Option.{none-some}
+use Rattle.std.proofs.Common.{◌≡◌, ◌∙◌, ℕ, ◌-◌, ◌≤◌, List, [], ◌∷◌, ◌++◌, length, take, Some, refl, sym, ap, subst, inl, inr, arith}
+use Rattle.std.specs.Prelude.{Contains}
 use Rattle.std.proofs.lemmas.List.{length-append, take-append-le, take_all, append-nil}
-use Rattle.std.proofs.lemmas.List.Elements.{All-nil, All-push, All-pop, All-weaker, Contains-push, Contains-push_cases, Contains-append_left}
+use Rattle.std.proofs.lemmas.List.Elements.{All-push, All-pop, All-weaker, Contains-push, Contains-push_cases, Contains-append_left}
 use Rattle.disp_model.specs.declared.train.Op.{Op}
-use Rattle.disp_model.specs.declared.fixing.Fixing.{Fixing}
 use Rattle.disp_model.specs.declared.decision.Decision.{Decision}
-use Rattle.disp_model.specs.declared.decision.Decision.TheVariants.{Go, First, Run, Skip}
+use Rattle.disp_model.specs.declared.decision.Decision.TheVariants.{First}
 use Rattle.disp_model.specs.Node.{Node, with_decision}
-use Rattle.disp_model.specs.Routes.{AgreesWithDecision, HasRoute, IsForced}
+use Rattle.disp_model.specs.Routes.{AgreesWithDecision, IsForced}
 use Rattle.disp_model.specs.Walks.{HasCycle}
 use Rattle.incremental_paths.specs.declared.arc.Arc.{Arc}
 use Rattle.incremental_paths.specs.Network.{Network}
 use Rattle.event_arcs.specs.declared.owns.Own.{Own}
 use Rattle.event_arcs.specs.declared.placed.Placed.{Placed}
-use Rattle.event_arcs.specs.Listed.{IsOpOf, AreArcsOf, AreLowersOf}
+use Rattle.event_arcs.specs.Listed.{IsOpOf, AreArcsOf}
 use Rattle.event_arcs.specs.Ordering.{AddsOrder}
-use Rattle.event_arcs.specs.Owned.{train_of_decision, own_at, AreByTrain}
+use Rattle.event_arcs.specs.Owned.{AreByTrain}
 use Rattle.event_arcs.specs.Placed.{IsPlaced, ArePlaced}
 use Rattle.event_arcs.proofs.Numbering.{forced_is_op}
 use Rattle.event_arcs.proofs.Offsets.{all_have_routes}

@@ -1,27 +1,27 @@
 -- The arcs that stand for a node with one more decision: those from before, and those that it adds.
-use Rattle.std.proofs.Common.{◌≡◌, ◌∙◌, ℕ, ◌+◌, ◌<◌, ◌≤◌, List, [], ◌∷◌, ◌++◌, length, Some, refl, sym, ap, subst, inl, inr, arith}
-use Rattle.std.specs.Prelude.{nat_eq, All, Contains, ◌⊎◌}
+use Rattle.std.proofs.Common.{◌≡◌, ◌∙◌, ℕ, ◌+◌, List, [], ◌++◌, Some, refl, sym, subst, inl, inr}
+use Rattle.std.specs.Prelude.{nat_eq, Contains, ◌⊎◌}
 use Rattle.std.proofs.lemmas.Bool.{cases_Bool, eqb-true, eqb-false}
 use Rattle.std.proofs.lemmas.Option.{none-some, same_Some}
-use Rattle.std.proofs.lemmas.List.Elements.{All-nil, All-append, All-weaker, Contains-push, Contains-push_cases, Contains-append_left, Contains-append_right}
+use Rattle.std.proofs.lemmas.List.Elements.{All-nil, All-append, Contains-push, Contains-push_cases, Contains-append_left, Contains-append_right}
 use Rattle.disp_model.specs.declared.train.Op.{Op}
 use Rattle.disp_model.specs.declared.decision.Decision.{Decision}
 use Rattle.disp_model.specs.declared.decision.Decision.TheVariants.{First}
 use Rattle.disp_model.specs.Numbers.{number_of}
 use Rattle.disp_model.specs.Node.{Node, with_decision}
-use Rattle.disp_model.specs.Routes.{HasRoute, IsForced}
-use Rattle.disp_model.specs.Arcs.{Conflicts, release_of, min_of, IsTrainArc, IsOrderArc, IsReleaseArc, GoesTo, IsArc}
+use Rattle.disp_model.specs.Routes.{IsForced}
+use Rattle.disp_model.specs.Arcs.{release_of, min_of, IsTrainArc, IsOrderArc, IsReleaseArc, GoesTo, IsArc}
 use Rattle.disp_laws.proofs.LeavesStay.{HaveRoutes}
 use Rattle.disp_laws.proofs.OpenChoices.{goes_to_forced}
 use Rattle.incremental_paths.specs.declared.arc.Arc.{Arc}
-use Rattle.event_arcs.specs.Listed.{IsArcOf, LeadsOver, AreArcsOf}
-use Rattle.event_arcs.specs.Chained.{Extends, LeadsAlong, AddsChain}
-use Rattle.event_arcs.specs.Ordering.{LeadsAsOrdered, AddsOrder}
+use Rattle.event_arcs.specs.Listed.{IsArcOf, AreArcsOf}
+use Rattle.event_arcs.specs.Chained.{LeadsAlong}
+use Rattle.event_arcs.specs.Ordering.{AddsOrder}
 use Rattle.event_arcs.specs.Owned.{train_of_decision}
 use Rattle.event_arcs.proofs.Joining.{leads_kept}
-use Rattle.event_graph.specs.States.{IsOldOrNew, AddsTrain}
+use Rattle.event_graph.specs.States.{AddsTrain}
 use Rattle.event_arcs.proofs.Extending.{forced_still, still_sound, order_extends}
-use Rattle.event_graph.proofs.Narrowing.{IsApart, forced_before, goes_before, train_arc_before}
+use Rattle.event_graph.proofs.Narrowing.{IsApart, forced_before, train_arc_before}
 
 -- ---- ways along more arcs
 

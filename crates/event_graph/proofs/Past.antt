@@ -8,12 +8,12 @@ use Rattle.disp_model.specs.declared.fixing.Fixing.{Fixing}
 use Rattle.disp_model.specs.declared.decision.Decision.{Decision}
 use Rattle.disp_model.specs.declared.problem.Problem.{Problem}
 use Rattle.disp_model.specs.Numbers.{number_of}
-use Rattle.disp_model.specs.Node.{Node, node_at, with_decision}
+use Rattle.disp_model.specs.Node.{node_at, with_decision}
 use Rattle.event_graph.specs.declared.changes.Change.{Change}
 use Rattle.event_graph.specs.declared.parts.Parts.{Parts}
 use Rattle.event_graph.specs.States.{State, IsStateAt, restored, MayRestore}
-use Rattle.event_graph.specs.Kept.{state_of, MayDecide, Decides}
-use Rattle.event_graph.specs.Graphs.{LeadsBack, ArePast, IsGraph}
+use Rattle.event_graph.specs.Kept.{state_of, Decides}
+use Rattle.event_graph.specs.Graphs.{ArePast, IsGraph}
 
 got_front : {X : Type 0} → (xs : List X) (i j : ℕ) (x : X) → j < i → slice_get xs j ≡ Some x → slice_get (take i xs) j ≡ Some x
 got_front xs zero j x lt at = absurd (omega arith)

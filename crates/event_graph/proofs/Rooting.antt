@@ -4,17 +4,11 @@ use Rattle.std.proofs.lemmas.Option.{none-some}
 use Rattle.disp_model.specs.declared.train.Op.{Op}
 use Rattle.disp_model.specs.declared.problem.Problem.{Problem}
 use Rattle.disp_model.specs.Node.{Node, node_at}
-use Rattle.disp_model.specs.Routes.{HasRoute}
 use Rattle.disp_model.specs.Walks.{HasCycle}
 use Rattle.incremental_paths.specs.declared.arc.Arc.{Arc}
 use Rattle.incremental_paths.specs.Network.{Network}
-use Rattle.event_arcs.specs.declared.placed.Placed.{Placed}
 use Rattle.event_arcs.specs.Listed.{AreArcsOf, AreLowersOf}
-use Rattle.event_arcs.specs.Placed.{ArePlaced}
-use Rattle.event_graph.specs.declared.faults.ExtendNo.{ExtendNo}
-use Rattle.event_graph.specs.declared.faults.ExtendNo.TheVariants.{NoRoute, Cycle, Memory}
-use Rattle.event_graph.specs.Joined.{AreOpsOf, IsOfEdition, MayJoin, IsCycleOr}
-use Rattle.event_graph.specs.Kept.{IsRefusedAt}
+use Rattle.event_graph.specs.Joined.{AreOpsOf, IsOfEdition, MayJoin}
 use Rattle.event_graph.specs.Roots.{ArePathsOf}
 
 pub may_join_first : (node : Node) (ops : List Op) (network : Network) (lowers : List ℕ) (arcs : List Arc) → network ≡ record { lowers = lowers; arcs = []; changed = [] }

@@ -1,6 +1,6 @@
 -- Operations whose orders ask no more than before, and the arcs of the orders of the others.
 use Rattle.std.proofs.Common.{◌≡◌, ◌∙◌, ℕ, ◌+◌, ◌<◌, ◌≤◌, List, length, get_or, Bool, true, false, Option, Some, None, refl, sym, ap, subst, inl, inr, arith}
-use Rattle.std.specs.Prelude.{nat_eq, not, Contains, IsTrue, IsFalse, ◌↔◌, ◌⊎◌}
+use Rattle.std.specs.Prelude.{nat_eq, not, Contains, IsTrue, ◌↔◌, ◌⊎◌}
 use Rattle.std.specs.Option.{option_eq}
 use Rattle.std.proofs.lemmas.Bool.{cases_Bool, cases_lt, eqb-true, false≢true}
 use Rattle.disp_model.specs.declared.train.Op.{Op}

@@ -1,7 +1,7 @@
 -- What a decision about the routes of a train makes of what is kept.
-use Rattle.std.proofs.Common.{◌≡◌, ◌∙◌, ℕ, ◌+◌, ◌<◌, ◌≤◌, zero, suc, List, [], ◌∷◌, ◌++◌, length, get_or, set, Some, Bool, true, false, refl, sym, ap, subst, inl, inr, arith}
-use Rattle.std.specs.Prelude.{nat_eq, slice_get, slice_set, All, Contains, IsTrue, ◌↔◌}
-use Rattle.std.proofs.lemmas.Bool.{cases_Bool, cases_lt, eqb-true, eqb-false, false≢true}
+use Rattle.std.proofs.Common.{◌≡◌, ◌∙◌, ℕ, ◌<◌, ◌≤◌, zero, suc, List, [], ◌∷◌, ◌++◌, length, get_or, set, Some, Bool, false, refl, sym, ap, subst, inl, inr, arith}
+use Rattle.std.specs.Prelude.{nat_eq, slice_get, All, IsTrue, ◌↔◌}
+use Rattle.std.proofs.lemmas.Bool.{cases_Bool, eqb-true, eqb-false, false≢true}
 use Rattle.std.proofs.lemmas.Option.{none-some, same_Some, slice_get_within}
 use Rattle.std.proofs.lemmas.List.{append-nil, length-set, get_or-set_same, get_or-set_other, get_or_default}
 use Rattle.std.proofs.lemmas.List.Elements.{All-nil, All-push, All-pop, All-weaker, Contains-append_left, Contains-push_cases}

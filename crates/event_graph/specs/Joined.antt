@@ -1,5 +1,5 @@
 -- Arcs that are added to those of a node, or close a cycle.
-use Rattle.std.specs.Prelude.{◌≡◌, ℕ, List, ◌++◌, Result, Ok, Err, Some, length, slice_get}
+use Rattle.std.specs.Prelude.{◌≡◌, List, ◌++◌, Result, Ok, Err, Some, length, slice_get}
 use Rattle.disp_model.specs.declared.train.Op.{Op}
 use Rattle.disp_model.specs.declared.fixing.Change.{Change}
 use Rattle.disp_model.specs.declared.problem.Problem.{Problem}

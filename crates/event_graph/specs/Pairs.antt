@@ -1,7 +1,6 @@
 -- Orders that are decided, and the arcs that those of one operation add.
 use Rattle.std.specs.Prelude.{◌≡◌, ℕ, ◌-◌, ◌<◌, ◌≤◌, List, All, Contains, Some, map, length, slice_get, slice_index, ◌⊎◌}
 use Rattle.disp_model.specs.declared.decision.Decision.TheVariants.{First}
-use Rattle.disp_model.specs.Numbers.{number_of}
 use Rattle.disp_model.specs.Node.{Node}
 use Rattle.disp_model.specs.Routes.{IsForced}
 use Rattle.disp_model.specs.Arcs.{Conflicts}

@@ -1,5 +1,5 @@
 -- Operations whose orders ask no more than before, and the arcs of the orders of the others.
-use Rattle.std.specs.Prelude.{◌≡◌, ℕ, ◌<◌, List, All, Contains, ◌⊎◌}
+use Rattle.std.specs.Prelude.{ℕ, ◌<◌, List, All, Contains, ◌⊎◌}
 use Rattle.disp_model.specs.declared.train.Op.{Op}
 use Rattle.disp_model.specs.Node.{Node}
 use Rattle.disp_model.specs.Routes.{IsForced}

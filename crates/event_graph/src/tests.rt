@@ -143,13 +143,7 @@ fn orders_are_added_and_refused(rt: HostRuntime) -> Result<(), Fail> {
     )?;
     extend(&rt, &mut graph, order(0, 1));
     check_arcs(&rt, rt.alloc(), &graph, "0-1:10 2-3:4 0-2:10 1-2:0 ")?;
-    check_refused(
-        &rt,
-        rt.alloc(),
-        &mut graph,
-        order(1, 0),
-        "cycle",
-    )?;
+    check_refused(&rt, rt.alloc(), &mut graph, order(1, 0), "cycle")?;
     check_arcs(&rt, rt.alloc(), &graph, "0-1:10 2-3:4 0-2:10 1-2:0 ")?;
     Ok(())
 }

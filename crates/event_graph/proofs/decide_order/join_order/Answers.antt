@@ -1,8 +1,6 @@
-use Rattle.std.proofs.Common.{◌≡◌, ◌∙◌, ◌++◌, ◌≤◌, List, length, sym, ap, subst, arith}
+use Rattle.std.proofs.Common.{◌∙◌, ◌++◌, List, ap, arith}
 use Rattle.disp_model.specs.Node.{Node, node_at, with_decision}
 use Rattle.incremental_paths.specs.declared.arc.Arc.{Arc}
-use Rattle.event_arcs.specs.Listed.{AreArcsOf}
-use Rattle.event_graph.specs.States.{without}
 use Rattle.event_graph.proofs.Deciding.{placed_then, order_joins, added}
 use Rattle.event_graph.proofs.decide_order.join_order.Goals as goal
 

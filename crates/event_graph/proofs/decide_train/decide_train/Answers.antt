@@ -1,4 +1,4 @@
-use Rattle.std.proofs.Common.{◌≡◌, ◌∙◌, ◌<◌, length, set, refl, sym, ap, subst, arith}
+use Rattle.std.proofs.Common.{◌∙◌, ◌<◌, length, set, refl, sym, ap, subst, arith}
 use Rattle.event_arcs.specs.declared.placed.Placed.{Placed}
 use Rattle.route_sets.specs.Sets.{AreRoutesOf}
 use Rattle.disp_model.specs.Node.{Node, node_at, with_decision}

@@ -1,5 +1,3 @@
-use Rattle.std.proofs.Common.{◌++◌, ◌∙◌, List, ap, sym, subst}
-use Rattle.incremental_paths.specs.Network.{Network, unchanged}
 use Rattle.event_graph.proofs.Naming.{both_there, starts_there, ends_there, numbers_named, cycle_or, fronts_short, no_cycle_joined}
 use Rattle.event_graph.proofs.join.join.Goals as goal
 

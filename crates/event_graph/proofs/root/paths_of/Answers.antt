@@ -1,7 +1,6 @@
-use Rattle.std.proofs.Common.{[], ◌∙◌, ℕ, List, ap, sym, subst, arith}
+use Rattle.std.proofs.Common.{[], sym, subst}
 use Rattle.std.proofs.lemmas.Result.{err_from_is_err_and}
 use Rattle.disp_model.specs.Node.{Node, node_at}
-use Rattle.incremental_paths.specs.declared.arc.Arc.{Arc}
 use Rattle.event_arcs.specs.Listed.{AreArcsOf, AreLowersOf}
 use Rattle.event_graph.specs.Joined.{MayJoin}
 use Rattle.event_graph.proofs.Rooting.{may_join_first, paths_are}

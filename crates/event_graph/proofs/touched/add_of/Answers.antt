@@ -1,4 +1,4 @@
-use Rattle.std.proofs.Common.{ap, arith}
+use Rattle.std.proofs.Common.{arith}
 use Rattle.std.proofs.lemmas.Result.{on_ok_weaker}
 use Rattle.disp_model.specs.Node.{Node, node_at}
 use Rattle.event_arcs.proofs.Offsets.{placed_at}

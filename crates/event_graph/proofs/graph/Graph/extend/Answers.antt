@@ -1,7 +1,6 @@
-use Rattle.std.proofs.Common.{◌≡◌, ◌∙◌, ◌∷◌, ◌++◌, [], List, ap, sym, subst}
+use Rattle.std.proofs.Common.{◌≡◌, ◌∙◌, ◌∷◌, ◌++◌, [], List, ap}
 use Rattle.disp_model.specs.declared.decision.Decision.{Decision}
 use Rattle.event_graph.specs.declared.changes.Change.{Change}
-use Rattle.event_graph.specs.Graphs.{IsGraph}
 use Rattle.event_graph.proofs.Past.{graph_extends}
 use Rattle.event_graph.proofs.graph.Graph.extend.Goals as goal
 

@@ -1,6 +1,5 @@
-use Rattle.std.proofs.Common.{ap, refl, arith}
+use Rattle.std.proofs.Common.{ap, arith}
 use Rattle.disp_model.specs.Node.{node_at}
-use Rattle.event_graph.specs.declared.orders.Pair.{Pair}
 use Rattle.event_graph.specs.Pairs.{Ordered}
 use Rattle.event_graph.proofs.Touching.{placed_last, place_on, loop_begins, loop_on, added_all}
 use Rattle.event_graph.proofs.orders.Orders.add_behind.Goals as goal
