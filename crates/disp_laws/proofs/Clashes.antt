@@ -117,27 +117,31 @@ own e = record { train = refl; operation = refl }
 turned : (problem : Problem) (a b : Op) → Conflicts problem a b → a.train ≢ b.train → b.train ≢ a.train
 turned problem a b conflicts trains same = trains (sym same)
 
+-- the clash of two events that do not keep apart, and the same the other way round
+straight : (node : Node) (plan : List Event) (m : Meets node plan) → Clash node.problem plan (op_of m.e) (op_of m.f)
+straight node plan m = record { i = m.i; j = m.j; earlier = m.e; later = m.f; order = m.order; earlier_there = m.first; later_there = m.second; names = inl (own m.e, own m.f); not_apart = m.not_apart }
+
+crossed : (node : Node) (plan : List Event) (m : Meets node plan) → Clash node.problem plan (op_of m.f) (op_of m.e)
+crossed node plan m = record { i = m.i; j = m.j; earlier = m.e; later = m.f; order = m.order; earlier_there = m.first; later_there = m.second; names = inr (own m.e, own m.f); not_apart = m.not_apart }
+
+-- events that do not keep apart are in no decided order
+pub meets_undecided : (node : Node) (plan : List Event) → IsEarliest node plan → (m : Meets node plan) → Contains node.decisions (First (op_of m.e) (op_of m.f)) → ⊥
+meets_undecided node plan earliest m decided =
+    m.not_apart (decided_apart node plan m.i m.j m.e m.f earliest m.order m.first m.second (clash_shares node.problem plan (op_of m.e) (op_of m.f) m.trains (straight node plan m)) decided)
+
+pub meets_undecided_back : (node : Node) (plan : List Event) → IsEarliest node plan → (m : Meets node plan) → Contains node.decisions (First (op_of m.f) (op_of m.e)) → ⊥
+meets_undecided_back node plan earliest m decided =
+    decided_back node plan m.i m.j m.e m.f earliest m.order m.first m.second (clash_shares node.problem plan (op_of m.f) (op_of m.e) (λ same. m.trains (sym same)) (crossed node plan m)) decided
+
 -- events that do not keep apart are an open clash
 pub meets_clash : (node : Node) (plan : List Event) → IsEarliest node plan → Meets node plan → (a : Op) × (b : Op) × IsOpenClash node plan a b
 meets_clash node plan earliest m = elim (cases_lt m.e.train m.f.train) [
-  | inl lt ↦ (op_of m.e, op_of m.f, record { trains = lt; clash = straight; undecided = undecided; undecided_back = undecided_back })
+  | inl lt ↦ (op_of m.e, op_of m.f, record { trains = lt; clash = straight node plan m; undecided = meets_undecided node plan earliest m; undecided_back = meets_undecided_back node plan earliest m })
   | inr le ↦ elim (cases_lt m.f.train m.e.train) [
-    | inl lt ↦ (op_of m.f, op_of m.e, record { trains = lt; clash = crossed; undecided = undecided_back; undecided_back = undecided })
+    | inl lt ↦ (op_of m.f, op_of m.e, record { trains = lt; clash = crossed node plan m; undecided = meets_undecided_back node plan earliest m; undecided_back = meets_undecided node plan earliest m })
     | inr ge ↦ absurd (m.trains (omega (arith, le, ge)))
   ]
 ]
-  where
-    straight : Clash node.problem plan (op_of m.e) (op_of m.f)
-    straight = record { i = m.i; j = m.j; earlier = m.e; later = m.f; order = m.order; earlier_there = m.first; later_there = m.second; names = inl (own m.e, own m.f); not_apart = m.not_apart }
-
-    crossed : Clash node.problem plan (op_of m.f) (op_of m.e)
-    crossed = record { i = m.i; j = m.j; earlier = m.e; later = m.f; order = m.order; earlier_there = m.first; later_there = m.second; names = inr (own m.e, own m.f); not_apart = m.not_apart }
-
-    undecided : Contains node.decisions (First (op_of m.e) (op_of m.f)) → ⊥
-    undecided decided = m.not_apart (decided_apart node plan m.i m.j m.e m.f earliest m.order m.first m.second (clash_shares node.problem plan (op_of m.e) (op_of m.f) m.trains straight) decided)
-
-    undecided_back : Contains node.decisions (First (op_of m.f) (op_of m.e)) → ⊥
-    undecided_back decided = decided_back node plan m.i m.j m.e m.f earliest m.order m.first m.second (clash_shares node.problem plan (op_of m.f) (op_of m.e) (λ same. m.trains (sym same)) crossed) decided
 
 -- ---- whether a pair is an open clash is decided
 
@@ -218,7 +222,7 @@ below_then a b c (inl one) (inr two) = inl (omega (arith, one, two.0))
 below_then a b c (inr one) (inl two) = inl (omega (arith, one.0, two))
 below_then a b c (inr one) (inr two) = inr (one.0 ∙ two.0, omega (arith, one.1, two.1))
 
-up_to_or_back : (a b c d : Op) → IsPairUpTo a b c d ⊎ IsPairUpTo c d a b
+pub up_to_or_back : (a b c d : Op) → IsPairUpTo a b c d ⊎ IsPairUpTo c d a b
 up_to_or_back a b c d = elim (below_or_same a c) [
   | inl below ↦ inl (inl below)
   | inr rest ↦ elim rest [
@@ -233,7 +237,7 @@ up_to_or_back a b c d = elim (below_or_same a c) [
   ]
 ]
 
-up_to_then : (a b c d x y : Op) → IsPairUpTo a b c d → IsPairUpTo c d x y → IsPairUpTo a b x y
+pub up_to_then : (a b c d x y : Op) → IsPairUpTo a b c d → IsPairUpTo c d x y → IsPairUpTo a b x y
 up_to_then a b c d x y (inl one) (inl two) = inl (below_then a c x one two)
 up_to_then a b c d x y (inl one) (inr two) = inl (subst (IsBelow a) two.0 one)
 up_to_then a b c d x y (inr one) (inl two) = inl (subst (λ (o : Op). IsBelow o x) (sym one.0) two)

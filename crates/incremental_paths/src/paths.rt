@@ -2,7 +2,7 @@ ghost use Rattle.std.specs.Prelude.{ℕ, ◌≡◌, ◌<◌, ◌≤◌, ◌↔�
 ghost use Rattle.incremental_paths.specs.Walks.{IsWalkTo, IsJoined, walk_length, HasNoNodeTwice, Leads, IsLongest, IsCycle, HasCycle};
 ghost use Rattle.incremental_paths.specs.Marked.{AreRising};
 ghost use Rattle.incremental_paths.specs.Ordered.{is_marked};
-ghost use Rattle.incremental_paths.specs.Network.{IsNode, IsShort, with_arc, without_last, raised, unchanged, TellsChanged};
+ghost use Rattle.incremental_paths.specs.Network.{IsNode, IsShort, with_arc, without_last, raised, unchanged, HasLength, TellsChanged};
 
 use crate::arc::Arc;
 use crate::back::{comes_from_marked, find_way, walk_back, way_back};
@@ -256,6 +256,8 @@ impl Paths {
     pub fn changed(&self) -> &[u32]
         ensures all { result.now ≡ self.now.changed }
         ensures nodes { All (IsNode self.now) self.now.changed }
+        ensures lengths { All (λ node. (longest : ℕ) × HasLength self.now node longest)
+            self.now.changed }
         ensures once { HasNoNodeTwice self.now.changed }
     {
         self.changes.grown()

@@ -66,11 +66,11 @@ begins_are node t order rows e are is (p ∷ rest) allowed = (rest, ap (λ (x : 
 
 -- ---- what stands behind an operation on a route
 
-none_behind : (train : List Operation) (front : List ℕ) (o : ℕ) (rest : List ℕ) → IsRoute train (front ++ o ∷ rest) → IsExit train o → rest ≡ []
+pub none_behind : (train : List Operation) (front : List ℕ) (o : ℕ) (rest : List ℕ) → IsRoute train (front ++ o ∷ rest) → IsExit train o → rest ≡ []
 none_behind train front o [] is exit = refl
 none_behind train front o (s ∷ rest) is exit = absurd (contains_none s (subst (λ (l : List ℕ). Contains l s) exit.last (route_from train front o (s ∷ rest) is).0))
 
-there : (node : Node) (t : ℕ) → HasRoute node t → t < length node.problem.trains
+pub there : (node : Node) (t : ℕ) → HasRoute node t → t < length node.problem.trains
 there node t (route, allowed) = elim (cases_lt t (length node.problem.trains)) [
   | inl lt ↦ lt
   | inr past ↦ absurd (by route (subst (λ (train : List Operation). IsRoute train route) (get_or_past node.problem.trains t [] past) allowed.is_route))
@@ -80,7 +80,7 @@ there node t (route, allowed) = elim (cases_lt t (length node.problem.trains)) [
     by [] is = is
     by (o ∷ rest) is = omega (arith, is.0.there)
 
-after_on : (node : Node) (t : ℕ) (front : List ℕ) (o : ℕ) (rest : List ℕ) → IsAllowed node t (front ++ o ∷ rest) → after o (front ++ o ∷ rest) ≡ after o (o ∷ rest)
+pub after_on : (node : Node) (t : ℕ) (front : List ℕ) (o : ℕ) (rest : List ℕ) → IsAllowed node t (front ++ o ∷ rest) → after o (front ++ o ∷ rest) ≡ after o (o ∷ rest)
 after_on node t front o rest allowed =
     after_behind o o front rest (λ early. not_before_on_route (train_at node.problem t) o front rest (node.problem.well_formed.acyclic t [] (there node t (front ++ o ∷ rest, allowed))) allowed.is_route early)
 
@@ -90,10 +90,10 @@ behind_is node t front o s (q ∷ rest) allowed e = (rest, ap (λ (x : ℕ). x �
 
 -- ---- what is found is each allowed route
 
-abbrev Goes_by : Node → ℕ → List ℕ → ℕ → Type 0
+abbrev pub Goes_by : Node → ℕ → List ℕ → ℕ → Type 0
 Goes_by node t front o = (route : List ℕ) → IsAllowed node t route → (rest : List ℕ) × (route ≡ front ++ o ∷ rest)
 
-goes_further : (node : Node) (t : ℕ) (front : List ℕ) (o s : ℕ) → Goes_by node t front o → ((route : List ℕ) → IsAllowed node t route → after o route ≡ Some s) → Goes_by node t (front ++ o ∷ []) s
+pub goes_further : (node : Node) (t : ℕ) (front : List ℕ) (o s : ℕ) → Goes_by node t front o → ((route : List ℕ) → IsAllowed node t route → after o route ≡ Some s) → Goes_by node t (front ++ o ∷ []) s
 goes_further node t front o s by goes route allowed =
     let part = by route allowed in
     let more = behind_is node t front o s part.0 (subst (IsAllowed node t) part.1 allowed) (subst (λ (l : List ℕ). after o l ≡ Some s) part.1 (goes route allowed)) in
@@ -142,7 +142,7 @@ only_one node t routes steps found are left says =
 
 -- ---- where one route is allowed it is found
 
-here_in : (front : List ℕ) (x : ℕ) (rest : List ℕ) → IsIn x (front ++ x ∷ rest)
+pub here_in : (front : List ℕ) (x : ℕ) (rest : List ℕ) → IsIn x (front ++ x ∷ rest)
 here_in [] x rest = inl refl
 here_in (p ∷ front) x rest = inr (here_in front x rest)
 
@@ -214,18 +214,19 @@ none_followed node t routes (suc steps) o front rest route mark are one is at lt
         let led : option_map (λ (rest : List ℕ). o ∷ rest) (onward q) ≡ None = subst (λ (n : Option ℕ). next_followed o n onward ≡ None) on.next says in
         later q rest (is ∙ sym (append_assoc front (o ∷ []) (q ∷ rest))) on (not_mapped o (onward q) led)
 
+-- the operation that each allowed route begins with is forced
+pub begin_forced : (node : Node) (t : ℕ) (routes : Routes) → AreRoutesOf node t routes → HasRoute node t → IsForced node (op_of t routes.entry)
+begin_forced node t routes are some = record {
+  train = there node t some;
+  allowed = some;
+  each_has = λ other allowed. let part = are.begins other allowed in subst (λ (l : List ℕ). Contains l routes.entry) (sym part.1) (contains_here routes.entry part.0);
+}
+
 pub none_only : (node : Node) (t : ℕ) (routes : Routes) (route : List ℕ) → AreRoutesOf node t routes → follow routes.marks.items (length routes.marks.items) routes.entry ≡ None → HasOneRoute node t route → ⊥
 none_only node t routes route are says one =
     let begin = are.begins route one.allowed in
-    let found = forced_marked node t routes.entry (mark_at routes.marks.items routes.entry) (are.marks routes.entry) forced in
+    let found = forced_marked node t routes.entry (mark_at routes.marks.items routes.entry) (are.marks routes.entry) (begin_forced node t routes are (route, one.allowed)) in
     none_followed node t routes (length routes.marks.items) routes.entry [] begin.0 route found.0 are one begin.1 found.1 (are.short routes.entry found.0 found.1) says
-  where
-    forced : IsForced node (op_of t routes.entry)
-    forced = record {
-      train = there node t (route, one.allowed);
-      allowed = (route, one.allowed);
-      each_has = λ other allowed. let part = are.begins other allowed in subst (λ (l : List ℕ). Contains l routes.entry) (sym part.1) (contains_here routes.entry part.0);
-    }
 
 pub only_route_is : (node : Node) (t : ℕ) (routes : Routes) (found : Option (List ℕ)) → AreRoutesOf node t routes → routes.left ≡ true → found ≡ follow routes.marks.items (length routes.marks.items) routes.entry → IsOnlyRoute node t found
 only_route_is node t routes None are left is = λ route one. none_only node t routes route are (sym is) one
@@ -237,7 +238,7 @@ mapped_twice : (route : List ℕ) (o : ℕ) (found : Option (List ℕ)) → opti
 mapped_twice route o None = refl
 mapped_twice route o (Some rest) = ap Some (sym (append_assoc route (o ∷ []) rest))
 
-not_zero : (n : ℕ) → (n ≡ 0 → ⊥) → nat_eq n 0 ≡ false
+pub not_zero : (n : ℕ) → (n ≡ 0 → ⊥) → nat_eq n 0 ≡ false
 not_zero n more = elim (cases_Bool (nat_eq n 0)) [ inl e ↦ absurd (more (eqb-true n 0 e)) | inr e ↦ e ]
 
 pub step_on : (marks : List (Option Mark)) (n i o s : ℕ) (found : Option (List ℕ)) (route : List ℕ) (mark : Mark) → i < n → found ≡ option_map (λ (rest : List ℕ). route ++ rest) (follow marks (n - i) o) → mark_at marks o ≡ Some mark → (mark.place ≡ 0 → ⊥) → mark.next ≡ Some s

@@ -4,6 +4,7 @@ mod Chaining
 mod Following
 pub mod Forks
 mod Knowing
+mod Parting
 mod Passing
 mod Relaxing
 mod Sweeping

@@ -39,6 +39,21 @@ abbrev pub follow : List (Option Mark) → ℕ → ℕ → Option (List ℕ)
 follow marks zero o = None
 follow marks (suc steps) o = mark_followed o (mark_at marks o) (λ s. follow marks steps s)
 
+-- an operation itself, where its mark names none that comes next and it is not at place 0, that of the exit; else what is
+-- found from the next one on
+abbrev pub next_parted : ℕ → ℕ → Option ℕ → (ℕ → Option ℕ) → Option ℕ
+next_parted o place None onward = if place == 0 then None else Some o
+next_parted o place (Some s) onward = onward s
+
+abbrev pub mark_parted : ℕ → Option Mark → (ℕ → Option ℕ) → Option ℕ
+mark_parted o None onward = None
+mark_parted o (Some mark) onward = next_parted o mark.place mark.next onward
+
+-- from an operation on, each time to the one that comes next, where the marks first name none, in so many steps at most
+abbrev pub parting : List (Option Mark) → ℕ → ℕ → Option ℕ
+parting marks zero o = None
+parting marks (suc steps) o = mark_parted o (mark_at marks o) (λ s. parting marks steps s)
+
 -- each allowed route begins with the operation
 abbrev pub BeginsEach : Node → ℕ → ℕ → Type 0
 BeginsEach node t e = (route : List ℕ) → IsAllowed node t route → (rest : List ℕ) × (route ≡ e ∷ rest)
@@ -56,3 +71,7 @@ pub record AreRoutesOf (node : Node) (t : ℕ) (routes : Routes) : Type 0 where
 abbrev pub IsOnlyRoute : Node → ℕ → Option (List ℕ) → Type 0
 IsOnlyRoute node t (Some route) = HasOneRoute node t route
 IsOnlyRoute node t None = (route : List ℕ) → HasOneRoute node t route → ⊥
+
+-- where routes are allowed, none of them parts from another only where one alone is allowed
+abbrev pub IsAloneUnparted : Node → ℕ → Option ℕ → Type 0
+IsAloneUnparted node t fork = fork ≡ None → HasRoute node t → (route : List ℕ) × HasOneRoute node t route

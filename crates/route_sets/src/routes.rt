@@ -2,6 +2,7 @@ ghost use Rattle.std.specs.Prelude.{◌≡◌, ◌↔◌, ◌<◌, ℕ, IfOk, Is
 ghost use Rattle.disp_model.specs.Node.{Node, node_at};
 ghost use Rattle.disp_model.specs.Routes.{HasRoute, IsForced};
 ghost use Rattle.disp_model.specs.Arcs.{IsTrainArc, GoesTo};
+ghost use Rattle.disp_model.specs.Earliest.{IsFork};
 ghost use Rattle.route_sets.specs.Ways.{last_of};
 ghost use Rattle.route_sets.specs.Marks.{mark_at};
 
@@ -34,7 +35,7 @@ fn last_of(order: &[u32]) -> u32
 }
 
 impl Routes {
-    ghost use Rattle.route_sets.specs.Sets.{op_of, AreRoutesOf, follow, IsOnlyRoute};
+    ghost use Rattle.route_sets.specs.Sets.{op_of, AreRoutesOf, follow, IsOnlyRoute, parting, IsAloneUnparted};
 
     /// The routes of a train that the fixings and the decisions allow. Takes time linear in the
     /// operations of the train, their successors, the fixings and the decisions.
@@ -156,5 +157,36 @@ impl Routes {
         let alloc = *self.marks.allocator();
         let found = self.follow(alloc, self.entry)?;
         Ok(found)
+    }
+
+    /// From an operation on, each time to the only one that comes next: the first that is not the
+    /// exit and has no such one.
+    fn parting(&self, first: u32) -> Option<u32>
+        ensures { result ≡ parting self.now.marks.items (length self.now.marks.items) first }
+    {
+        let mut op = first;
+        for _ in 0..self.marks.len() {
+            let mark = self.mark(op)?;
+            let Some(next) = mark.next else {
+                return if mark.place == 0 { None } else { Some(op) };
+            };
+            op = next;
+        }
+        None
+    }
+
+    /// The operation up to which the allowed routes go alike, and from which they part; none where
+    /// one route is allowed or none. Takes no memory, and at most the time of a look at each
+    /// operation.
+    pub fn fork(&self) -> Option<u32>
+        ensures part { (node : Node) (t : ℕ) → AreRoutesOf node t self.now → (o : ℕ)
+            → (result ≡ Some o) ↔ IsFork node (op_of t o) }
+        ensures alone { (node : Node) (t : ℕ) → AreRoutesOf node t self.now
+            → IsAloneUnparted node t result }
+    {
+        if !self.left {
+            return None;
+        }
+        self.parting(self.entry)
     }
 }

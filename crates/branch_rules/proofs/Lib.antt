@@ -1,0 +1,4 @@
+mod Blocks
+mod Ending
+mod Looking
+mod Picking

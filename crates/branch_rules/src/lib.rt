@@ -1,0 +1,18 @@
+//! The choice that a branch of the search makes, and its children.
+//!
+//! `pick_fixed` answers the choice of the fixed rule: the fork of the first train with two routes,
+//! in one look at each operation; else the first pair of operations that clash in the earliest
+//! plan, in a look at the events that start while one holds resources. `children` lists decisions.
+#![tactic(auto)]
+
+mod child;
+mod end;
+mod pair;
+mod pick;
+mod sweep;
+
+pub use child::children;
+pub use pick::pick_fixed;
+
+#[cfg(test)]
+mod tests;
