@@ -10,7 +10,7 @@ use Rattle.route_sets.proofs.Forks.{acyclic, one_in, one_once}
 
 abbrev pub held : ℕ → List Operation
 held min =
-    record { lower = 0; upper = None; min = min; listings = record { resource = 0; release = 0 } ∷ []; next = 1 ∷ [] }
+    record { lower = 0; upper = Some 3; min = min; listings = record { resource = 0; release = 0 } ∷ []; next = 1 ∷ [] }
     ∷ record { lower = 0; upper = None; min = 0; listings = []; next = [] } ∷ []
 
 enters : (min o : ℕ) → IsEntry (held min) o → o ≡ 0

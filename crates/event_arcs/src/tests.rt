@@ -1,5 +1,5 @@
 // Two trains on one block, and a fork.
-ghost use Rattle.std.specs.Prelude.{◌≡◌, [], ◌∷◌, None, IfOk};
+ghost use Rattle.std.specs.Prelude.{◌≡◌, [], ◌∷◌, Some, None, IfOk};
 
 use crate::{NodeArcs, arcs};
 use disp_model::{Decision, Fixing, List, Listing, Memory, Op, Operation, Problem, Text, Train};
@@ -7,15 +7,21 @@ use incremental_paths::Arc;
 use std::alloc::Global;
 use std::test::Fail;
 
-/// An operation that lasts so long, holds resources, and goes on so.
-fn lasting(alloc: Global, min: u32, listings: &[Listing], next: &[u32]) -> Result<Operation, Memory>
+/// An operation that may start until a time, lasts so long, holds resources, and goes on so.
+fn lasting(
+    alloc: Global,
+    upper: Option<u32>,
+    min: u32,
+    listings: &[Listing],
+    next: &[u32],
+) -> Result<Operation, Memory>
     ensures { IfOk result
         (λ o. o
-        ≡ record { lower = 0; upper = None; min = min; listings = listings.now; next = next.now }) }
+        ≡ record { lower = 0; upper = upper; min = min; listings = listings.now; next = next.now }) }
 {
     Ok(Operation {
         lower: 0,
-        upper: None,
+        upper,
         min,
         listings: List::from_vec(Vec::from_slice(alloc, listings)?),
         next: List::from_vec(Vec::from_slice(alloc, next)?),
@@ -28,12 +34,12 @@ fn name(alloc: Global, text: &str) -> Result<Text, Memory>
     Ok(Text::from_string(String::from_str(alloc, text)?))
 }
 
-/// A train that holds the resource for so long, then reaches its exit.
+/// A train that holds the resource for so long from 3 at the latest, then reaches its exit.
 fn holding(alloc: Global, min: u32) -> Result<Train, Memory>
     ensures { IfOk result
         (λ t. t ≡ record {
           lower = 0;
-          upper = None;
+          upper = Some 3;
           min = min;
           listings =
               record { resource = 0; release = 0 } ∷ [];
@@ -45,8 +51,8 @@ fn holding(alloc: Global, min: u32) -> Result<Train, Memory>
         resource: 0,
         release: 0,
     };
-    let first = lasting(alloc, min, &[listing], &[1])?;
-    let exit = lasting(alloc, 0, &[], &[])?;
+    let first = lasting(alloc, Some(3), min, &[listing], &[1])?;
+    let exit = lasting(alloc, None, 0, &[], &[])?;
     Ok(List::from_vec(vec![in alloc; first, exit]?))
 }
 
@@ -67,7 +73,7 @@ fn forked(alloc: Global) -> Result<Problem, Memory> {
     let entry = lasting(alloc, 0, &[], &[1, 2])?;
     let one = lasting(alloc, 5, &[], &[3])?;
     let other = lasting(alloc, 3, &[], &[3])?;
-    let exit = lasting(alloc, 0, &[], &[])?;
+    let exit = lasting(alloc, None, 0, &[], &[])?;
     let train = List::from_vec(vec![in alloc; entry, one, other, exit]?);
     Ok(Problem {
         trains: List::from_vec(vec![in alloc; train]?),

@@ -10,7 +10,7 @@ use Rattle.disp_model.specs.Node.{Node, with_decision}
 use Rattle.disp_model.specs.Routes.{AgreesWithDecision, IsForced}
 use Rattle.disp_model.specs.Walks.{HasCycle}
 use Rattle.incremental_paths.specs.declared.arc.Arc.{Arc}
-use Rattle.incremental_paths.specs.Network.{Network}
+use Rattle.timed_paths.specs.Timed.{Timed}
 use Rattle.event_arcs.specs.declared.owns.Own.{Own}
 use Rattle.event_arcs.specs.declared.placed.Placed.{Placed}
 use Rattle.event_arcs.specs.Listed.{IsOpOf, AreArcsOf}
@@ -50,24 +50,24 @@ order_own node a b owns are = record {
   );
 }
 
-pub placed_then : (node : Node) (ops : List Op) (each : List Placed) (network : Network) (d : Decision) → MayAddOrder node ops each network d → ArePlaced (with_decision node d) each
-placed_then node ops each network d may = by may.is_order
+pub placed_then : (node : Node) (ops : List Op) (each : List Placed) (paths : Timed) (d : Decision) → MayAddOrder node ops each paths d → ArePlaced (with_decision node d) each
+placed_then node ops each paths d may = by may.is_order
   where
     by : (a : Op) × (b : Op) × (d ≡ First a b) → ArePlaced (with_decision node d) each
     by (a, b, is) = subst (λ (e : Decision). ArePlaced (with_decision node e) each) (sym is) (order_placed node a b each may.placed)
 
 -- ---- its arcs
 
-pub order_joins : (node : Node) (ops : List Op) (each : List Placed) (network : Network) (d : Decision) (arcs : List Arc) → MayAddOrder node ops each network d → AddsOrder (with_decision node d) d [] arcs → MayJoin (with_decision node d) ops network arcs
-order_joins node ops each network d arcs may adds = by may.is_order
+pub order_joins : (node : Node) (ops : List Op) (each : List Placed) (paths : Timed) (d : Decision) (arcs : List Arc) → MayAddOrder node ops each paths d → AddsOrder (with_decision node d) d [] arcs → MayJoin (with_decision node d) ops paths arcs
+order_joins node ops each paths d arcs may adds = by may.is_order
   where
-    by : (a : Op) × (b : Op) × (d ≡ First a b) → MayJoin (with_decision node d) ops network arcs
+    by : (a : Op) × (b : Op) × (d ≡ First a b) → MayJoin (with_decision node d) ops paths arcs
     by (a, b, is) = record {
       ops_are = may.ops_are;
       lowers_are = record { long = may.lowers_are.long; at = may.lowers_are.at };
       edition = may.edition;
-      arcs_are = subst (λ (e : Decision). AreArcsOf (with_decision node e) (network.arcs ++ arcs)) (sym is)
-          (with_order node a b network.arcs arcs (λ t there. route_after node (First a b) t (first_apart a b t) (all_have_routes node each may.placed t there)) may.arcs_are
+      arcs_are = subst (λ (e : Decision). AreArcsOf (with_decision node e) (paths.arcs ++ arcs)) (sym is)
+          (with_order node a b paths.arcs arcs (λ t there. route_after node (First a b) t (first_apart a b t) (all_have_routes node each may.placed t there)) may.arcs_are
           (subst (λ (e : Decision). AddsOrder (with_decision node e) e [] arcs) is adds));
     }
 

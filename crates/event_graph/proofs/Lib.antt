@@ -7,4 +7,6 @@ pub mod Naming
 pub mod Deciding
 pub mod Training
 pub mod Past
+pub mod Windowed
 pub mod Rooting
+pub mod Lateness

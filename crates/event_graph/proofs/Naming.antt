@@ -14,7 +14,8 @@ use Rattle.disp_laws.proofs.Numbered.{below_count}
 use Rattle.disp_laws.proofs.HorizonBounds.{AreSmall, edition_is_small}
 use Rattle.incremental_paths.specs.declared.arc.Arc.{Arc}
 use Rattle.incremental_paths.specs.Walks.{WalksAreShort, IsCycle as IsCycleOf, HasCycle as HasCycleOf}
-use Rattle.incremental_paths.specs.Network.{Network, IsNode}
+use Rattle.incremental_paths.specs.Network.{IsNode}
+use Rattle.timed_paths.specs.Timed.{Timed, network_of}
 use Rattle.event_arcs.specs.Listed.{IsOpOf, IsArcOf}
 use Rattle.event_arcs.proofs.Numbering.{forced_is_op}
 use Rattle.event_arcs.proofs.Cycling.{cycle_of_numbers, same_cycles}
@@ -60,15 +61,15 @@ numbers_below problem (o ∷ ops) there =
     All-cons (λ n. n < operation_count problem.trains) (number_of problem o) (map (number_of problem) ops) (below_count problem o here.train here.op) (numbers_below problem ops (All-tail (IsOpOf problem) o ops there))
 
 -- the numbers of a cycle that the arcs close are those of operations
-pub numbers_named : (node : Node) (ops : List Op) (network : Network) (arcs : List Arc) (numbers : List ℕ) → MayJoin node ops network arcs → IsCycleOf (network.arcs ++ arcs) numbers → All (λ n. n < length ops) numbers
-numbers_named node ops network arcs numbers may cycle =
-    let found = cycle_of_numbers node (network.arcs ++ arcs) numbers may.arcs_are.sound cycle in
+pub numbers_named : (node : Node) (ops : List Op) (paths : Timed) (arcs : List Arc) (numbers : List ℕ) → MayJoin node ops paths arcs → IsCycleOf (paths.arcs ++ arcs) numbers → All (λ n. n < length ops) numbers
+numbers_named node ops paths arcs numbers may cycle =
+    let found = cycle_of_numbers node (paths.arcs ++ arcs) numbers may.arcs_are.sound cycle in
     subst (λ (k : ℕ). All (λ n. n < k) numbers) (sym may.ops_are.long) (subst (λ (l : List ℕ). All (λ n. n < operation_count node.problem.trains) l) found.1 (numbers_below node.problem found.0 (cycle_there node found.0 found.2)))
 
-pub named_cycle : (node : Node) (ops : List Op) (network : Network) (arcs : List Arc) (numbers : List ℕ) (named : List Op) → MayJoin node ops network arcs → IsCycleOf (network.arcs ++ arcs) numbers → map Some named ≡ map (slice_get ops) numbers
+pub named_cycle : (node : Node) (ops : List Op) (paths : Timed) (arcs : List Arc) (numbers : List ℕ) (named : List Op) → MayJoin node ops paths arcs → IsCycleOf (paths.arcs ++ arcs) numbers → map Some named ≡ map (slice_get ops) numbers
     → IsCycle node named
-named_cycle node ops network arcs numbers named may cycle says =
-    let found = cycle_of_numbers node (network.arcs ++ arcs) numbers may.arcs_are.sound cycle in
+named_cycle node ops paths arcs numbers named may cycle says =
+    let found = cycle_of_numbers node (paths.arcs ++ arcs) numbers may.arcs_are.sound cycle in
     subst (IsCycle node) (sym (named_are node.problem ops found.0 numbers named may.ops_are (cycle_there node found.0 found.2) found.1 says)) found.2
 
 -- ---- arcs that may be added
@@ -83,30 +84,30 @@ behind : {X : Type 0} (P : X → Type 0) (xs ys : List X) → All P (xs ++ ys) �
 behind P [] ys all = all
 behind P (x ∷ xs) ys all = behind P xs ys (All-tail P x (xs ++ ys) all)
 
-pub both_there : (node : Node) (ops : List Op) (network : Network) (arcs : List Arc) → MayJoin node ops network arcs → All (λ arc. IsNode network arc.from × IsNode network arc.to) arcs
-both_there node ops network arcs may =
-    All-weaker (IsArcOf node) (λ arc. IsNode network arc.from × IsNode network arc.to) (λ arc is. (omega (arith, may.lowers_are.long, arc_from node arc is), omega (arith, may.lowers_are.long, arc_to node arc is))) arcs
-    (behind (IsArcOf node) network.arcs arcs may.arcs_are.sound)
+pub both_there : (node : Node) (ops : List Op) (paths : Timed) (arcs : List Arc) → MayJoin node ops paths arcs → All (λ arc. IsNode (network_of paths) arc.from × IsNode (network_of paths) arc.to) arcs
+both_there node ops paths arcs may =
+    All-weaker (IsArcOf node) (λ arc. IsNode (network_of paths) arc.from × IsNode (network_of paths) arc.to) (λ arc is. (omega (arith, may.lowers_are.long, arc_from node arc is), omega (arith, may.lowers_are.long, arc_to node arc is))) arcs
+    (behind (IsArcOf node) paths.arcs arcs may.arcs_are.sound)
 
-pub starts_there : (node : Node) (ops : List Op) (network : Network) (arcs : List Arc) → MayJoin node ops network arcs → All (λ arc. IsNode network arc.from) arcs
-starts_there node ops network arcs may =
-    All-weaker (IsArcOf node) (λ arc. IsNode network arc.from) (λ arc is. omega (arith, may.lowers_are.long, arc_from node arc is)) arcs (behind (IsArcOf node) network.arcs arcs may.arcs_are.sound)
+pub starts_there : (node : Node) (ops : List Op) (paths : Timed) (arcs : List Arc) → MayJoin node ops paths arcs → All (λ arc. IsNode (network_of paths) arc.from) arcs
+starts_there node ops paths arcs may =
+    All-weaker (IsArcOf node) (λ arc. IsNode (network_of paths) arc.from) (λ arc is. omega (arith, may.lowers_are.long, arc_from node arc is)) arcs (behind (IsArcOf node) paths.arcs arcs may.arcs_are.sound)
 
-pub ends_there : (node : Node) (ops : List Op) (network : Network) (arcs : List Arc) → MayJoin node ops network arcs → All (λ arc. IsNode network arc.to) arcs
-ends_there node ops network arcs may =
-    All-weaker (IsArcOf node) (λ arc. IsNode network arc.to) (λ arc is. omega (arith, may.lowers_are.long, arc_to node arc is)) arcs (behind (IsArcOf node) network.arcs arcs may.arcs_are.sound)
+pub ends_there : (node : Node) (ops : List Op) (paths : Timed) (arcs : List Arc) → MayJoin node ops paths arcs → All (λ arc. IsNode (network_of paths) arc.to) arcs
+ends_there node ops paths arcs may =
+    All-weaker (IsArcOf node) (λ arc. IsNode (network_of paths) arc.to) (λ arc is. omega (arith, may.lowers_are.long, arc_to node arc is)) arcs (behind (IsArcOf node) paths.arcs arcs may.arcs_are.sound)
 
 front : {X : Type 0} (P : X → Type 0) (xs ys : List X) (k : ℕ) → All P (xs ++ ys) → All P (xs ++ take k ys)
 front P [] ys k all = All-take P k ys all
 front P (x ∷ xs) ys k all = All-cons P x (xs ++ take k ys) (All-head P x (xs ++ ys) all) (front P xs ys k (All-tail P x (xs ++ ys) all))
 
-pub fronts_short : (node : Node) (ops : List Op) (network : Network) (arcs : List Arc) → MayJoin node ops network arcs → (HasCycleOf (network.arcs ++ arcs) → ⊥) → (k : ℕ) → WalksAreShort network.lowers (network.arcs ++ take k arcs)
-fronts_short node ops network arcs may none k =
-    short_walks node (network.arcs ++ take k arcs) network.lowers (subst AreSmall (sym may.edition.2) (edition_is_small node.problem may.edition.0 may.edition.1)) (front (IsArcOf node) network.arcs arcs k may.arcs_are.sound) may.lowers_are
-    (λ has. none ((same_cycles node (network.arcs ++ arcs) may.arcs_are).1 has))
+pub fronts_short : (node : Node) (ops : List Op) (paths : Timed) (arcs : List Arc) → MayJoin node ops paths arcs → (HasCycleOf (paths.arcs ++ arcs) → ⊥) → (k : ℕ) → WalksAreShort paths.lowers (paths.arcs ++ take k arcs)
+fronts_short node ops paths arcs may none k =
+    short_walks node (paths.arcs ++ take k arcs) paths.lowers (subst AreSmall (sym may.edition.2) (edition_is_small node.problem may.edition.0 may.edition.1)) (front (IsArcOf node) paths.arcs arcs k may.arcs_are.sound) may.lowers_are
+    (λ has. none ((same_cycles node (paths.arcs ++ arcs) may.arcs_are).1 has))
 
-pub no_cycle_joined : (node : Node) (ops : List Op) (network : Network) (arcs : List Arc) → MayJoin node ops network arcs → (HasCycleOf (network.arcs ++ arcs) → ⊥) → HasCycle node → ⊥
-no_cycle_joined node ops network arcs may none has = none ((same_cycles node (network.arcs ++ arcs) may.arcs_are).1 has)
+pub no_cycle_joined : (node : Node) (ops : List Op) (paths : Timed) (arcs : List Arc) → MayJoin node ops paths arcs → (HasCycleOf (paths.arcs ++ arcs) → ⊥) → HasCycle node → ⊥
+no_cycle_joined node ops paths arcs may none has = none ((same_cycles node (paths.arcs ++ arcs) may.arcs_are).1 has)
 
 -- ---- one number more
 
@@ -118,8 +119,8 @@ named_more ops named numbers i d lt within before =
     ∙ ap (λ (o : Option Op). map (slice_get ops) (take i numbers) ++ o ∷ []) (sym (slice_get-get_or ops (get_or numbers i 0) d (All-get_or (λ n. n < length ops) numbers i 0 lt within)))
     ∙ sym (map-append (slice_get ops) (take i numbers) (get_or numbers i 0 ∷ [])) ∙ ap (λ (l : List ℕ). map (slice_get ops) l) (sym (take_more numbers i 0 lt))
 
-pub cycle_or : (node : Node) (ops : List Op) (network : Network) (arcs : List Arc) (numbers : List ℕ) (why : ExtendNo) → MayJoin node ops network arcs → IsCycleOf (network.arcs ++ arcs) numbers
+pub cycle_or : (node : Node) (ops : List Op) (paths : Timed) (arcs : List Arc) (numbers : List ℕ) (why : ExtendNo) → MayJoin node ops paths arcs → IsCycleOf (paths.arcs ++ arcs) numbers
     → IsNamedOr (λ named. map Some named ≡ map (slice_get ops) numbers) why → IsCycleOr node why
-cycle_or node ops network arcs numbers (NoRoute t) may cycle says = says
-cycle_or node ops network arcs numbers (Cycle named) may cycle says = named_cycle node ops network arcs numbers named may cycle says
-cycle_or node ops network arcs numbers Memory may cycle says = tt
+cycle_or node ops paths arcs numbers (NoRoute t) may cycle says = says
+cycle_or node ops paths arcs numbers (Cycle named) may cycle says = named_cycle node ops paths arcs numbers named may cycle says
+cycle_or node ops paths arcs numbers Memory may cycle says = tt

@@ -12,6 +12,7 @@ use Rattle.disp_model.specs.Node.{node_at, with_decision}
 use Rattle.event_graph.specs.declared.changes.Change.{Change}
 use Rattle.event_graph.specs.declared.parts.Parts.{Parts}
 use Rattle.event_graph.specs.States.{State, IsStateAt, restored, MayRestore}
+use Rattle.event_graph.specs.Late.{AreUppersOf}
 use Rattle.event_graph.specs.Kept.{state_of, Decides}
 use Rattle.event_graph.specs.Graphs.{ArePast, IsGraph}
 
@@ -43,10 +44,12 @@ past_more problem fixings decisions trail d change (suc k) state le past = recor
   before = past_more problem fixings decisions trail d change k (restored past.change state) (omega (arith, le)) past.before;
 }
 
-pub graph_extends : (problem : Problem) (fixings : List Fixing) (ops : List Op) (decisions : List Decision) (parts new : Parts) (trail : List Change) (d : Decision) (change : Change) → IsGraph problem fixings ops decisions parts trail
-    → Decides (with_decision (node_at problem fixings decisions) d) change (state_of parts) (state_of new) → new.paths.lowers ≡ parts.paths.lowers → new.orders.size ≡ parts.orders.size
-    → IsGraph problem fixings ops (decisions ++ d ∷ []) new (trail ++ change ∷ [])
-graph_extends problem fixings ops decisions parts new trail d change is decides lowers size = record {
+pub graph_extends : (problem : Problem) (fixings : List Fixing) (ops closed : List Op) (decisions : List Decision) (parts new : Parts) (trail : List Change) (d : Decision) (change : Change) → IsGraph problem fixings ops closed decisions parts trail
+    → Decides (with_decision (node_at problem fixings decisions) d) change (state_of parts) (state_of new) → new.paths.lowers ≡ parts.paths.lowers → new.paths.uppers ≡ parts.paths.uppers → new.orders.size ≡ parts.orders.size
+    → IsGraph problem fixings ops closed (decisions ++ d ∷ []) new (trail ++ change ∷ [])
+graph_extends problem fixings ops closed decisions parts new trail d change is decides lowers uppers size = record {
+  uppers_are = subst (AreUppersOf problem fixings) (sym uppers) is.uppers_are;
+  closed_are = is.closed_are;
   may = record {
     state = decides.at;
     ops_are = is.may.ops_are;
@@ -94,9 +97,9 @@ record IsLast (problem : Problem) (fixings : List Fixing) (decisions : List Deci
   pub at : IsStateAt (node_at problem fixings (take (length left) decisions)) (restored change state)
   pub before : ArePast problem fixings decisions (left ++ change ∷ []) (length left) (restored change state)
 
-last_is : (problem : Problem) (fixings : List Fixing) (ops : List Op) (decisions : List Decision) (parts : Parts) (left : List Change) (change : Change) → IsGraph problem fixings ops decisions parts (left ++ change ∷ [])
+last_is : (problem : Problem) (fixings : List Fixing) (ops closed : List Op) (decisions : List Decision) (parts : Parts) (left : List Change) (change : Change) → IsGraph problem fixings ops closed decisions parts (left ++ change ∷ [])
     → IsLast problem fixings decisions left change (state_of parts)
-last_is problem fixings ops decisions parts left change is = by (subst (λ (n : ℕ). ArePast problem fixings decisions (left ++ change ∷ []) n (state_of parts)) (let same : length decisions ≡ suc (length left) = omega (arith, count) in same) is.past)
+last_is problem fixings ops closed decisions parts left change is = by (subst (λ (n : ℕ). ArePast problem fixings decisions (left ++ change ∷ []) n (state_of parts)) (let same : length decisions ≡ suc (length left) = omega (arith, count) in same) is.past)
   where
     count : length decisions ≡ length left + 1
     count = sym is.long ∙ length-append left (change ∷ [])
@@ -111,16 +114,18 @@ last_is problem fixings ops decisions parts left change is = by (subst (λ (n : 
           before = subst (λ (c : Change). ArePast problem fixings decisions (left ++ change ∷ []) (length left) (restored c (state_of parts))) same past.before;
         }
 
-pub may_undo : (problem : Problem) (fixings : List Fixing) (ops : List Op) (decisions : List Decision) (parts : Parts) (trail left : List Change) (change : Change) → IsGraph problem fixings ops decisions parts trail → trail ≡ left ++ change ∷ [] → MayRestore change (state_of parts)
-may_undo problem fixings ops decisions parts trail left change is popped = (last_is problem fixings ops decisions parts left change (subst (IsGraph problem fixings ops decisions parts) popped is)).may
+pub may_undo : (problem : Problem) (fixings : List Fixing) (ops closed : List Op) (decisions : List Decision) (parts : Parts) (trail left : List Change) (change : Change) → IsGraph problem fixings ops closed decisions parts trail → trail ≡ left ++ change ∷ [] → MayRestore change (state_of parts)
+may_undo problem fixings ops closed decisions parts trail left change is popped = (last_is problem fixings ops closed decisions parts left change (subst (IsGraph problem fixings ops closed decisions parts) popped is)).may
 
-pub graph_undone : (problem : Problem) (fixings : List Fixing) (ops : List Op) (decisions kept : List Decision) (parts new : Parts) (trail left : List Change) (change : Change) → IsGraph problem fixings ops decisions parts trail → trail ≡ left ++ change ∷ []
-    → kept ≡ take (length decisions - 1) decisions → state_of new ≡ restored change (state_of parts) → new.paths.lowers ≡ parts.paths.lowers → new.orders.size ≡ parts.orders.size → IsGraph problem fixings ops kept new left
-graph_undone problem fixings ops decisions kept parts new trail left change is popped shorter state lowers size =
-    let last = last_is problem fixings ops decisions parts left change (subst (IsGraph problem fixings ops decisions parts) popped is) in
+pub graph_undone : (problem : Problem) (fixings : List Fixing) (ops closed : List Op) (decisions kept : List Decision) (parts new : Parts) (trail left : List Change) (change : Change) → IsGraph problem fixings ops closed decisions parts trail → trail ≡ left ++ change ∷ []
+    → kept ≡ take (length decisions - 1) decisions → state_of new ≡ restored change (state_of parts) → new.paths.lowers ≡ parts.paths.lowers → new.paths.uppers ≡ parts.paths.uppers → new.orders.size ≡ parts.orders.size → IsGraph problem fixings ops closed kept new left
+graph_undone problem fixings ops closed decisions kept parts new trail left change is popped shorter state lowers uppers size =
+    let last = last_is problem fixings ops closed decisions parts left change (subst (IsGraph problem fixings ops closed decisions parts) popped is) in
     let same : kept ≡ take (length left) decisions = shorter ∙ ap (λ (n : ℕ). take n decisions) (omega (arith, last.long)) in
     let count : length kept ≡ length left = ap (λ (ds : List Decision). length ds) same ∙ length-take-le (length left) decisions (omega (arith, last.long)) in
     record {
+      uppers_are = subst (AreUppersOf problem fixings) (sym uppers) is.uppers_are;
+      closed_are = is.closed_are;
       may = record {
         state = subst (λ (ds : List Decision). IsStateAt (node_at problem fixings ds) (state_of new)) (sym same) (subst (λ (s : State). IsStateAt (node_at problem fixings (take (length left) decisions)) s) (sym state) last.at);
         ops_are = is.may.ops_are;

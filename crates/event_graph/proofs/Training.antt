@@ -16,7 +16,7 @@ use Rattle.route_sets.specs.declared.routes.Routes.{Routes}
 use Rattle.route_sets.specs.Sets.{AreRoutesOf}
 use Rattle.disp_model.specs.Routes.{AgreesWithFixing, AgreesWithDecision, HasRoute}
 use Rattle.incremental_paths.specs.declared.arc.Arc.{Arc}
-use Rattle.incremental_paths.specs.Network.{Network}
+use Rattle.timed_paths.specs.Timed.{Timed}
 use Rattle.event_arcs.specs.declared.owns.Own.{Own}
 use Rattle.event_arcs.specs.declared.placed.Placed.{Placed}
 use Rattle.disp_laws.proofs.LeavesStay.{HaveRoutes}
@@ -38,13 +38,13 @@ use Rattle.event_arcs.proofs.Owning.{other_decision}
 use Rattle.event_graph.proofs.Deciding.{placed_after, HasAdded}
 use Rattle.event_graph.proofs.Extending.{with_train}
 
-pub train_joins : (node : Node) (d : Decision) (ops : List Op) (each : List Placed) (orders : Ordered) (network : Network) (before : Placed) (t : ℕ) (arcs : List Arc) → MayAddTrain node d ops each orders network before t → AddsTrain node d t arcs
-    → MayJoin (with_decision node d) ops network arcs
-train_joins node d ops each orders network before t arcs may adds = record {
+pub train_joins : (node : Node) (d : Decision) (ops : List Op) (each : List Placed) (orders : Ordered) (paths : Timed) (before : Placed) (t : ℕ) (arcs : List Arc) → MayAddTrain node d ops each orders paths before t → AddsTrain node d t arcs
+    → MayJoin (with_decision node d) ops paths arcs
+train_joins node d ops each orders paths before t arcs may adds = record {
   ops_are = may.ops_are;
   lowers_are = record { long = may.lowers_are.long; at = may.lowers_are.at };
   edition = may.edition;
-  arcs_are = with_train node d t network.arcs arcs (all_have_routes (with_decision node d) each may.placed) may.arcs_are adds;
+  arcs_are = with_train node d t paths.arcs arcs (all_have_routes (with_decision node d) each may.placed) may.arcs_are adds;
 }
 
 -- ---- the train's own decisions

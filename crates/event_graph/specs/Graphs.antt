@@ -8,6 +8,7 @@ use Rattle.disp_model.specs.Node.{Node, node_at}
 use Rattle.event_graph.specs.declared.changes.Change.{Change}
 use Rattle.event_graph.specs.declared.parts.Parts.{Parts}
 use Rattle.event_graph.specs.States.{State, IsStateAt, restored, MayRestore}
+use Rattle.event_graph.specs.Late.{AreUppersOf, AreClosedOf}
 use Rattle.event_graph.specs.Kept.{state_of, MayDecide}
 
 -- without its last decision
@@ -26,7 +27,9 @@ abbrev pub ArePast : Problem → List Fixing → List Decision → List Change �
 ArePast problem fixings decisions trail zero state = Unit {0}
 ArePast problem fixings decisions trail (suc k) state = LeadsBack (λ before. ArePast problem fixings decisions trail k before) problem fixings decisions trail k state
 
-pub record IsGraph (problem : Problem) (fixings : List Fixing) (ops : List Op) (decisions : List Decision) (parts : Parts) (trail : List Change) : Type 0 where
+pub record IsGraph (problem : Problem) (fixings : List Fixing) (ops closed : List Op) (decisions : List Decision) (parts : Parts) (trail : List Change) : Type 0 where
+  pub uppers_are : AreUppersOf problem fixings parts.paths.uppers
+  pub closed_are : AreClosedOf problem fixings closed
   pub may : MayDecide (node_at problem fixings decisions) ops parts
   pub long : length trail ≡ length decisions
   pub past : ArePast problem fixings decisions trail (length decisions) (state_of parts)

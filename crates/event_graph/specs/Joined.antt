@@ -10,7 +10,7 @@ use Rattle.disp_model.specs.Node.{Node}
 use Rattle.disp_model.specs.Walks.{IsCycle, HasCycle}
 use Rattle.disp_model.specs.Replies.{IsEdition}
 use Rattle.incremental_paths.specs.declared.arc.Arc.{Arc}
-use Rattle.incremental_paths.specs.Network.{Network}
+use Rattle.timed_paths.specs.Timed.{Timed}
 use Rattle.event_arcs.specs.Listed.{IsOpOf, AreArcsOf, AreLowersOf}
 use Rattle.event_graph.specs.declared.faults.ExtendNo.{ExtendNo}
 use Rattle.event_graph.specs.declared.faults.ExtendNo.TheVariants.{NoRoute, Cycle, Memory}
@@ -25,11 +25,11 @@ abbrev pub IsOfEdition : Node → Type 0
 IsOfEdition node = (changes : List Change) × IsEdition node.problem changes × (node.fixings ≡ standing_of changes)
 
 -- with these arcs behind the kept ones they stand for the node
-pub record MayJoin (node : Node) (ops : List Op) (network : Network) (arcs : List Arc) : Type 0 where
+pub record MayJoin (node : Node) (ops : List Op) (paths : Timed) (arcs : List Arc) : Type 0 where
   pub ops_are : AreOpsOf node.problem ops
-  pub lowers_are : AreLowersOf node network.lowers
+  pub lowers_are : AreLowersOf node paths.lowers
   pub edition : IsOfEdition node
-  pub arcs_are : AreArcsOf node (network.arcs ++ arcs)
+  pub arcs_are : AreArcsOf node (paths.arcs ++ arcs)
 
 -- a refusal names a cycle of these operations, or memory ran out
 abbrev pub IsNamedOr : (List Op → Type 0) → ExtendNo → Type 0

@@ -8,7 +8,7 @@ use Rattle.disp_model.specs.Walks.{IsCycle, HasCycle}
 use Rattle.disp_model.specs.declared.decision.Decision.{Decision}
 use Rattle.disp_model.specs.declared.decision.Decision.TheVariants.{First}
 use Rattle.incremental_paths.specs.declared.arc.Arc.{Arc}
-use Rattle.incremental_paths.specs.Network.{Network}
+use Rattle.timed_paths.specs.Timed.{Timed}
 use Rattle.event_arcs.specs.declared.placed.Placed.{Placed}
 use Rattle.event_arcs.specs.Listed.{AreArcsOf, AreLowersOf}
 use Rattle.event_arcs.specs.Placed.{IsFirstWithout, IsPlaced, ArePlaced}
@@ -50,26 +50,26 @@ AddsArcs node old new (Ok count) = AreArcsOf node new × (HasCycle node → ⊥)
 AddsArcs node old new (Err why) = IsCycleOr node why
 
 -- the arcs of an order may be added
-pub record MayAddOrder (node : Node) (ops : List Op) (each : List Placed) (network : Network) (decision : Decision) : Type 0 where
+pub record MayAddOrder (node : Node) (ops : List Op) (each : List Placed) (paths : Timed) (decision : Decision) : Type 0 where
   pub is_order : (a : Op) × (b : Op) × (decision ≡ First a b)
   pub ops_are : AreOpsOf node.problem ops
-  pub lowers_are : AreLowersOf node network.lowers
+  pub lowers_are : AreLowersOf node paths.lowers
   pub edition : IsOfEdition node
   pub placed : ArePlaced node each
-  pub arcs_are : AreArcsOf node network.arcs
+  pub arcs_are : AreArcsOf node paths.arcs
 
 -- the arcs of a train whose routes a decision has changed may be added
-pub record MayAddTrain (node : Node) (decision : Decision) (ops : List Op) (each : List Placed) (orders : Ordered) (network : Network) (before : Placed) (t : ℕ) : Type 0 where
+pub record MayAddTrain (node : Node) (decision : Decision) (ops : List Op) (each : List Placed) (orders : Ordered) (paths : Timed) (before : Placed) (t : ℕ) : Type 0 where
   pub about : train_of_decision decision ≡ Some t
   pub there : t < length node.problem.trains
   pub ops_are : AreOpsOf node.problem ops
-  pub lowers_are : AreLowersOf node network.lowers
+  pub lowers_are : AreLowersOf node paths.lowers
   pub edition : IsOfEdition node
   pub placed : ArePlaced (with_decision node decision) each
   pub was : IsPlaced node t before
   pub orders_are : AreOrdersOf node orders.pairs
   pub size : orders.size ≡ operation_count node.problem.trains
-  pub arcs_are : AreArcsOf node network.arcs
+  pub arcs_are : AreArcsOf node paths.arcs
 
 abbrev pub AnswersAt : Node → State → State → Result Change ExtendNo → Type 0
 AnswersAt node old new (Ok change) = Decides node change old new

@@ -26,6 +26,7 @@ fn decide_routes(
     requires may { (fixings : List Fixing) × (decisions : List DecisionOf)
         × MayDecide (node_at problem.now fixings decisions) ops.now parts.old }
     ensures lowers { parts.new.paths.lowers ≡ parts.old.paths.lowers }
+    ensures uppers { parts.new.paths.uppers ≡ parts.old.paths.uppers }
     ensures size { parts.new.orders.size ≡ parts.old.orders.size }
     ensures decided { (fixings : List Fixing) (decisions : List DecisionOf)
         → MayDecide (node_at problem.now fixings decisions) ops.now parts.old
@@ -49,6 +50,7 @@ pub(crate) fn decide(
     requires { (fixings : List Fixing) × (decisions : List DecisionOf)
         × MayDecide (node_at problem.now fixings decisions) ops.now parts.old }
     ensures lowers { parts.new.paths.lowers ≡ parts.old.paths.lowers }
+    ensures uppers { parts.new.paths.uppers ≡ parts.old.paths.uppers }
     ensures size { parts.new.orders.size ≡ parts.old.orders.size }
     ensures decided { (fixings : List Fixing) (decisions : List DecisionOf)
         → MayDecide (node_at problem.now fixings decisions) ops.now parts.old

@@ -16,8 +16,8 @@ use crate::orders::Pair;
 use crate::parts::Parts;
 use disp_model::{Decision, Op, Problem};
 use event_arcs::{Placed, add_order};
-use incremental_paths::Paths;
 use std::alloc::Global;
+use timed_paths::TimedPaths;
 
 /// Whether there is such an operation.
 fn is_there(problem: &Problem, op: Op) -> bool
@@ -64,12 +64,13 @@ fn join_order(
     problem: &Problem,
     ops: &[Op],
     each: &[Placed],
-    paths: &mut Paths,
+    paths: &mut TimedPaths,
     decision: Decision,
 ) -> Result<usize, ExtendNo>
     requires { (fixings : List Fixing) × (decisions : List DecisionOf)
         × MayAddOrder (node_at problem.now fixings decisions) ops.now each.now paths.old decision }
     ensures lowers { paths.new.lowers ≡ paths.old.lowers }
+    ensures uppers { paths.new.uppers ≡ paths.old.uppers }
     ensures err { OnErr result (paths.new.arcs ≡ paths.old.arcs) }
     ensures added { (fixings : List Fixing) (decisions : List DecisionOf)
         → MayAddOrder (node_at problem.now fixings decisions) ops.now each.now paths.old decision
@@ -98,6 +99,7 @@ pub(crate) fn decide_order(
     requires { (fixings : List Fixing) × (decisions : List DecisionOf)
         × MayDecide (node_at problem.now fixings decisions) ops.now parts.old }
     ensures lowers { parts.new.paths.lowers ≡ parts.old.paths.lowers }
+    ensures uppers { parts.new.paths.uppers ≡ parts.old.paths.uppers }
     ensures size { parts.new.orders.size ≡ parts.old.orders.size }
     ensures decided { (fixings : List Fixing) (decisions : List DecisionOf)
         → MayDecide (node_at problem.now fixings decisions) ops.now parts.old

@@ -13,10 +13,10 @@ use crate::parts::Parts;
 use crate::touched::arcs_of_train;
 use disp_model::{Copied, Decision, Memory, Op, Problem};
 use event_arcs::{Own, Placed};
-use incremental_paths::Paths;
 use route_sets::Routes;
 use std::alloc::Global;
 use std::mem;
+use timed_paths::TimedPaths;
 
 /// A train's fixings and decisions, with one decision more.
 fn own_with(own: &Own, decision: Decision) -> Result<Own, Memory>
@@ -37,7 +37,7 @@ fn join_train(
     ops: &[Op],
     each: &[Placed],
     orders: &Orders,
-    paths: &mut Paths,
+    paths: &mut TimedPaths,
     before: &Placed,
     train: usize,
 ) -> Result<usize, ExtendNo>
@@ -45,6 +45,7 @@ fn join_train(
         × MayAddTrain (node_at problem.now fixings decisions) decision ops.now each.now orders.now
         paths.old before.now train }
     ensures lowers { paths.new.lowers ≡ paths.old.lowers }
+    ensures uppers { paths.new.uppers ≡ paths.old.uppers }
     ensures err { OnErr result (paths.new.arcs ≡ paths.old.arcs) }
     ensures added { (fixings : List Fixing) (decisions : List DecisionOf) (decision : DecisionOf)
         → MayAddTrain (node_at problem.now fixings decisions) decision ops.now each.now orders.now
@@ -75,6 +76,7 @@ pub(crate) fn decide_train(
     requires may { (fixings : List Fixing) × (decisions : List DecisionOf)
         × MayDecide (node_at problem.now fixings decisions) ops.now parts.old }
     ensures lowers { parts.new.paths.lowers ≡ parts.old.paths.lowers }
+    ensures uppers { parts.new.paths.uppers ≡ parts.old.paths.uppers }
     ensures size { parts.new.orders.size ≡ parts.old.orders.size }
     ensures decided { (fixings : List Fixing) (decisions : List DecisionOf)
         → MayDecide (node_at problem.now fixings decisions) ops.now parts.old

@@ -1,20 +1,24 @@
-ghost use Rattle.std.specs.Prelude.{◌≡◌, ◌<◌, ℕ, [], IfOk, OnOk, OnErr, IfErr, length};
+ghost use Rattle.std.specs.Prelude.{◌≡◌, ◌<◌, ℕ, [], IfOk, OnOk, OnErr, IfErr, MatchOption, length};
 ghost use Rattle.disp_model.specs.Node.{node_at, with_decision};
 ghost use Rattle.disp_model.specs.Routes.{HasRoute};
 ghost use Rattle.disp_model.specs.Walks.{HasCycle};
+ghost use Rattle.disp_model.specs.Nodes.{HasLate};
 ghost use Rattle.route_sets.specs.Sets.{AreRoutesOf};
 ghost use Rattle.event_arcs.specs.Listed.{AreArcsOf, AreLowersOf};
 ghost use Rattle.event_graph.specs.Joined.{IsOfEdition};
 ghost use Rattle.event_graph.specs.Kept.{IsRefusedAt};
+ghost use Rattle.event_graph.specs.Late.{IsLateAt};
 ghost use Rattle.event_graph.specs.Graphs.{without_last};
 
 use crate::changes::Change;
 use crate::decide::decide;
 use crate::faults::ExtendNo;
+use crate::late::first_forced;
+use crate::opening::closed;
 use crate::parts::{Parts, restore};
 use crate::root::parts_of;
 use disp_model::{Decision, Fixing, Op, Problem};
-use event_windows::operations;
+use event_windows::{operations, windows};
 use incremental_paths::Paths;
 use route_sets::Routes;
 use std::alloc::Global;
@@ -27,6 +31,8 @@ pub struct Graph<'p> {
     problem: &'p Problem,
     fixings: Vec<Fixing>,
     ops: Vec<Op>,
+    // Operations that may start at no time.
+    closed: Vec<Op>,
     decisions: Vec<Decision>,
     parts: Parts,
     trail: Vec<Change>,
@@ -34,14 +40,16 @@ pub struct Graph<'p> {
 
 impl<'p> Model for Graph<'p> {
     ghost use Rattle.disp_model.specs.Node.{Node, node_at};
-    ghost use Rattle.event_graph.specs.Graphs.{IsGraph};
+    ghost use Rattle.event_graph.specs.Late.{IsLateAt};
+ghost use Rattle.event_graph.specs.Graphs.{IsGraph};
 
     ghost Value = { Node };
 
     ghost view = { λ g. node_at g.problem.now g.fixings.items g.decisions.items };
 
     ghost invariant = { λ g.
-        IsGraph g.problem.now g.fixings.items g.ops.items g.decisions.items g.parts g.trail.items };
+        IsGraph g.problem.now g.fixings.items g.ops.items g.closed.items g.decisions.items g.parts
+        g.trail.items };
 }
 
 impl<'p> Graph<'p> {
@@ -60,11 +68,14 @@ impl<'p> Graph<'p> {
             return Err(ExtendNo::Memory);
         };
         let ops = operations(alloc, problem)?;
-        let parts = parts_of(alloc, problem, fixings, &ops)?;
+        let windows = windows(alloc, problem, fixings)?;
+        let closed = closed(alloc, problem, fixings, &ops, &windows)?;
+        let parts = parts_of(alloc, problem, fixings, &ops, &windows)?;
         Ok(Graph {
             problem,
             fixings: kept,
             ops,
+            closed,
             decisions: Vec::new(alloc),
             parts,
             trail: Vec::new(alloc),
@@ -85,7 +96,7 @@ impl<'p> Graph<'p> {
         ensures lowers { AreLowersOf self.now result.now.lowers }
         ensures no_cycle { HasCycle self.now → ⊥ }
     {
-        &self.parts.paths
+        self.parts.paths.paths()
     }
 
     /// The allowed routes of a train. Each train has one.
@@ -95,6 +106,17 @@ impl<'p> Graph<'p> {
         ensures one { HasRoute self.now train }
     {
         &self.parts.each[train as usize].routes
+    }
+
+    /// An operation that is late: its longest walk is longer than the time until which it may start.
+    /// `None` where there is none. It takes no memory.
+    pub fn late(&self) -> Option<Op>
+        ensures { MatchOption result (¬ HasLate self.now) (IsLateAt self.now) }
+    {
+        match self.parts.paths.late() {
+            Some(number) => Some(self.ops[number as usize]),
+            None => first_forced(self.problem, &self.parts.each, &self.closed),
+        }
     }
 
     /// Adds a decision. Fails where a train would have no allowed route, or else the arcs would have

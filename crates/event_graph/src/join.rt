@@ -5,8 +5,9 @@ ghost use Rattle.event_graph.specs.Joined.{MayJoin, IsNamedOr, IsJoined};
 use crate::faults::ExtendNo;
 use crate::paths::add_all;
 use disp_model::{List, Memory, Op};
-use incremental_paths::{Arc, Paths};
+use incremental_paths::Arc;
 use std::alloc::Global;
+use timed_paths::TimedPaths;
 
 /// The operations of these numbers.
 fn named(alloc: Global, ops: &[Op], numbers: &[u32]) -> Result<List<Op>, Memory>
@@ -34,12 +35,13 @@ fn closing(alloc: Global, ops: &[Op], numbers: &[u32]) -> ExtendNo
 /// Adds arcs behind the others, or none where they close a cycle.
 pub(crate) fn join(
     alloc: Global,
-    paths: &mut Paths,
+    paths: &mut TimedPaths,
     ops: &[Op],
     arcs: &[Arc],
 ) -> Result<(), ExtendNo>
     requires { (node : Node) × MayJoin node ops.now paths.old arcs.now }
     ensures lowers { paths.new.lowers ≡ paths.old.lowers }
+    ensures uppers { paths.new.uppers ≡ paths.old.uppers }
     ensures ok { OnOk result (paths.new.arcs ≡ paths.old.arcs ++ arcs.now) }
     ensures err { OnErr result (paths.new.arcs ≡ paths.old.arcs) }
     ensures joined { (node : Node) → MayJoin node ops.now paths.old arcs.now

@@ -14,6 +14,8 @@ mod decide_train;
 mod faults;
 mod graph;
 mod join;
+mod late;
+mod opening;
 mod orders;
 mod parts;
 mod paths;

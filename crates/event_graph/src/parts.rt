@@ -4,9 +4,8 @@ ghost use Rattle.event_graph.specs.Kept.{state_of};
 
 use crate::changes::Change;
 use crate::orders::Orders;
-use crate::paths::withdraw;
 use event_arcs::{Own, Placed};
-use incremental_paths::Paths;
+use timed_paths::TimedPaths;
 
 /// What is kept of a node that decisions change.
 #[derive(Drop)]
@@ -16,20 +15,21 @@ pub(crate) struct Parts {
     /// The routes of each train, and the number of its first operation.
     pub each: Vec<Placed>,
     pub orders: Orders,
-    pub paths: Paths,
+    pub paths: TimedPaths,
 }
 
 /// Puts back what a change has replaced.
 pub(crate) fn restore(parts: &mut Parts, change: Change)
     requires { MayRestore change (state_of parts.old) }
     ensures lowers { parts.new.paths.lowers ≡ parts.old.paths.lowers }
+    ensures uppers { parts.new.paths.uppers ≡ parts.old.paths.uppers }
     ensures size { parts.new.orders.size ≡ parts.old.orders.size }
     ensures state { state_of parts.new ≡ restored change (state_of parts.old) }
 {
     match change {
         Change::Nothing => {}
         Change::Order { arcs } => {
-            withdraw(&mut parts.paths, arcs);
+            parts.paths.withdraw(arcs);
             parts.orders.pop();
         }
         Change::Train {
@@ -38,7 +38,7 @@ pub(crate) fn restore(parts: &mut Parts, change: Change)
             placed,
             arcs,
         } => {
-            withdraw(&mut parts.paths, arcs);
+            parts.paths.withdraw(arcs);
             parts.owns[train] = own;
             parts.each[train] = placed;
         }

@@ -1,5 +1,5 @@
 // Two trains on one block: orders added, refused and taken back.
-ghost use Rattle.std.specs.Prelude.{◌≡◌, [], ◌∷◌, None, IfOk};
+ghost use Rattle.std.specs.Prelude.{◌≡◌, [], ◌∷◌, Some, None, IfOk};
 
 use crate::{ExtendNo, Graph};
 use disp_model::{Decision, List, Listing, Memory, Op, Operation, Problem, Text, Train};
@@ -8,15 +8,21 @@ use std::alloc::Global;
 use std::process::Abort;
 use std::test::Fail;
 
-/// An operation that lasts so long, holds resources, and goes on so.
-fn lasting(alloc: Global, min: u32, listings: &[Listing], next: &[u32]) -> Result<Operation, Memory>
+/// An operation that may start until a time, lasts so long, holds resources, and goes on so.
+fn lasting(
+    alloc: Global,
+    upper: Option<u32>,
+    min: u32,
+    listings: &[Listing],
+    next: &[u32],
+) -> Result<Operation, Memory>
     ensures { IfOk result
         (λ o. o
-        ≡ record { lower = 0; upper = None; min = min; listings = listings.now; next = next.now }) }
+        ≡ record { lower = 0; upper = upper; min = min; listings = listings.now; next = next.now }) }
 {
     Ok(Operation {
         lower: 0,
-        upper: None,
+        upper,
         min,
         listings: List::from_vec(Vec::from_slice(alloc, listings)?),
         next: List::from_vec(Vec::from_slice(alloc, next)?),
@@ -29,12 +35,12 @@ fn name(alloc: Global, text: &str) -> Result<Text, Memory>
     Ok(Text::from_string(String::from_str(alloc, text)?))
 }
 
-/// A train that holds the resource for so long, then reaches its exit.
+/// A train that holds the resource for so long from 3 at the latest, then reaches its exit.
 fn holding(alloc: Global, min: u32) -> Result<Train, Memory>
     ensures { IfOk result
         (λ t. t ≡ record {
           lower = 0;
-          upper = None;
+          upper = Some 3;
           min = min;
           listings =
               record { resource = 0; release = 0 } ∷ [];
@@ -46,8 +52,8 @@ fn holding(alloc: Global, min: u32) -> Result<Train, Memory>
         resource: 0,
         release: 0,
     };
-    let first = lasting(alloc, min, &[listing], &[1])?;
-    let exit = lasting(alloc, 0, &[], &[])?;
+    let first = lasting(alloc, Some(3), min, &[listing], &[1])?;
+    let exit = lasting(alloc, None, 0, &[], &[])?;
     Ok(List::from_vec(vec![in alloc; first, exit]?))
 }
 
@@ -152,9 +158,12 @@ fn orders_are_added_and_refused(rt: HostRuntime) -> Result<(), Fail> {
 fn the_last_order_is_taken_back(rt: HostRuntime) -> Result<(), Fail> {
     let problem = two_trains(rt.alloc())?;
     let mut graph = root(rt.alloc(), &problem)?;
+    assert_eq!(rt; graph.late(), None);
     extend(&rt, &mut graph, order(0, 1));
+    assert_eq!(rt; graph.late(), Some(op(1, 0)));
     assert!(&rt; graph.decisions().len() > 0);
     graph.undo();
+    assert_eq!(rt; graph.late(), None);
     extend(&rt, &mut graph, order(1, 0));
     check_arcs(&rt, rt.alloc(), &graph, "0-1:10 2-3:4 2-0:4 3-0:0 ")?;
     Ok(())
