@@ -70,9 +70,9 @@ fn two_trains(alloc: Global) -> Result<Problem, Memory> {
 
 /// One train: from 0 to 1 or 2, of the durations 5 and 3, and from both to 3.
 fn forked(alloc: Global) -> Result<Problem, Memory> {
-    let entry = lasting(alloc, 0, &[], &[1, 2])?;
-    let one = lasting(alloc, 5, &[], &[3])?;
-    let other = lasting(alloc, 3, &[], &[3])?;
+    let entry = lasting(alloc, None, 0, &[], &[1, 2])?;
+    let one = lasting(alloc, None, 5, &[], &[3])?;
+    let other = lasting(alloc, None, 3, &[], &[3])?;
     let exit = lasting(alloc, None, 0, &[], &[])?;
     let train = List::from_vec(vec![in alloc; entry, one, other, exit]?);
     Ok(Problem {
