@@ -15,12 +15,13 @@ use Rattle.disp_laws.proofs.LongestArcs.{longest_arc as longest_between}
 use Rattle.incremental_paths.specs.declared.arc.Arc.{Arc}
 use Rattle.incremental_paths.specs.Walks.{IsJoined, longest_arc, Follows, steps_length}
 use Rattle.incremental_paths.proofs.Members.{joining, longest_le}
-use Rattle.event_arcs.specs.Listed.{IsArcOf, IsOpOf}
+use Rattle.event_arcs.specs.Listed.{IsArcOf}
+use Rattle.event_windows.specs.Operations.{HasOperation}
 
-pub forced_is_op : (node : Node) (o : Op) → IsForced node o → IsOpOf node.problem o
+pub forced_is_op : (node : Node) (o : Op) → IsForced node o → HasOperation node.problem o
 forced_is_op node o forced = record { train = forced.train; op = forced_within node o forced }
 
-pub same_by_number : (problem : Problem) (o p : Op) → IsOpOf problem o → IsOpOf problem p → number_of problem o ≡ number_of problem p → o ≡ p
+pub same_by_number : (problem : Problem) (o p : Op) → HasOperation problem o → HasOperation problem p → number_of problem o ≡ number_of problem p → o ≡ p
 same_by_number problem o p one other same = numbers_apart problem o p one.train one.op other.train other.op same
 
 pub same_forced : (node : Node) (o p : Op) → IsForced node o → IsForced node p → number_of node.problem o ≡ number_of node.problem p → o ≡ p

@@ -4,11 +4,11 @@ use Rattle.disp_model.specs.declared.train.Op.{Op}
 use Rattle.disp_model.specs.declared.problem.Problem.{Problem}
 use Rattle.disp_model.specs.WellFormed.{operation_count}
 use Rattle.disp_model.specs.Numbers.{number_of}
-use Rattle.disp_model.specs.Valid.{train_at}
 use Rattle.disp_model.specs.Node.{Node}
 use Rattle.disp_model.specs.Routes.{IsForced}
 use Rattle.disp_model.specs.Arcs.{IsTrainArc, IsArc}
 use Rattle.disp_model.specs.Walks.{lower_of}
+use Rattle.event_windows.specs.Operations.{HasOperation}
 use Rattle.incremental_paths.specs.declared.arc.Arc.{Arc}
 use Rattle.incremental_paths.specs.Walks.{Follows, last_from, steps_length}
 
@@ -36,15 +36,10 @@ pub record AreArcsOf (node : Node) (arcs : List Arc) : Type 0 where
   pub sound : All (IsArcOf node) arcs
   pub complete : (u v : Op) (arc_length : ℕ) → IsArc node u v arc_length → LeadsOver arcs (number_of node.problem u) (number_of node.problem v) arc_length
 
--- an operation of the problem
-pub record IsOpOf (problem : Problem) (o : Op) : Type 0 where
-  pub train : o.train < length problem.trains
-  pub op : o.op < length (train_at problem o.train)
-
 -- from when each operation may start, in the order of their numbers
 pub record AreLowersOf (node : Node) (lowers : List ℕ) : Type 0 where
   pub long : length lowers ≡ operation_count node.problem.trains
-  pub at : (o : Op) → IsOpOf node.problem o → slice_index lowers (number_of node.problem o) ≡ lower_of node.problem node.fixings o
+  pub at : (o : Op) → HasOperation node.problem o → slice_index lowers (number_of node.problem o) ≡ lower_of node.problem node.fixings o
 
 -- some listed arc begins at the number
 abbrev pub IsLeft : List Arc → ℕ → Type 0

@@ -7,7 +7,7 @@ ghost use Rattle.disp_model.specs.Valid.{train_at};
 ghost use Rattle.disp_model.specs.Node.{Node, node_at};
 ghost use Rattle.disp_model.specs.Routes.{IsForced};
 ghost use Rattle.disp_model.specs.Arcs.{shared_listings};
-ghost use Rattle.event_arcs.specs.Listed.{IsOpOf};
+ghost use Rattle.event_windows.specs.Operations.{HasOperation};
 ghost use Rattle.event_arcs.specs.Placed.{IsPlaced, ArePlaced};
 ghost use Rattle.event_arcs.specs.Ordering.{IsShared, IsNextNumber, IsNoOrder, IsOrdered, arcs_of_order, AddsOrder, AddsOrders};
 
@@ -61,7 +61,7 @@ fn shared_release(listings: &[Listing], others: &[Listing]) -> Option<u32>
 
 /// The operation of a name.
 fn operation<'a>(problem: &'a Problem, op: Op) -> &'a Operation
-    requires { IsOpOf problem.now op }
+    requires { HasOperation problem.now op }
     ensures { slice_get (train_at problem.now op.train) op.op ≡ Some result.now }
 {
     &problem.trains.as_slice()[op.train as usize].as_slice()[op.op as usize]

@@ -13,7 +13,8 @@ use Rattle.incremental_paths.specs.declared.arc.Arc.{Arc}
 use Rattle.timed_paths.specs.Timed.{Timed}
 use Rattle.event_arcs.specs.declared.owns.Own.{Own}
 use Rattle.event_arcs.specs.declared.placed.Placed.{Placed}
-use Rattle.event_arcs.specs.Listed.{IsOpOf, AreArcsOf}
+use Rattle.event_arcs.specs.Listed.{AreArcsOf}
+use Rattle.event_windows.specs.Operations.{HasOperation}
 use Rattle.event_arcs.specs.Ordering.{AddsOrder}
 use Rattle.event_arcs.specs.Owned.{AreByTrain}
 use Rattle.event_arcs.specs.Placed.{IsPlaced, ArePlaced}
@@ -97,12 +98,12 @@ one_more node a b pairs are = record {
     same : (c d : Op) → First a b ≡ First c d → pair_of node.problem a b ≡ pair_of node.problem c d
     same c d is = ap (λ (e : Decision). pair_of node.problem (first_of e) (second_of e)) is
 
-pub none_more : (node : Node) (a b : Op) (pairs : List Pair) → (IsOpOf node.problem a → IsOpOf node.problem b → ⊥) → AreOrdersOf node pairs → AreOrdersOf (with_decision node (First a b)) pairs
+pub none_more : (node : Node) (a b : Op) (pairs : List Pair) → (HasOperation node.problem a → HasOperation node.problem b → ⊥) → AreOrdersOf node pairs → AreOrdersOf (with_decision node (First a b)) pairs
 none_more node a b pairs none are = record {
   decided = All-weaker (IsDecidedAt node) (IsDecidedAt (with_decision node (First a b))) (λ pair there. Contains-append_left node.decisions (First a b ∷ []) (First pair.first pair.second) there) pairs are.decided;
   listed = λ c d there one other. elim (Contains-push_cases node.decisions (First a b) (First c d) there) [
     | inl early ↦ are.listed c d early one other
-    | inr is ↦ absurd (none (subst (IsOpOf node.problem) (sym (ap first_of is)) one) (subst (IsOpOf node.problem) (sym (ap second_of is)) other))
+    | inr is ↦ absurd (none (subst (HasOperation node.problem) (sym (ap first_of is)) one) (subst (HasOperation node.problem) (sym (ap second_of is)) other))
   ];
 }
   where
@@ -149,7 +150,7 @@ order_decides node a b owns each pairs arcs pair new_pairs new_arcs count state 
       ∙ ap (λ (l : List Arc). record { owns = owns; each = each; pairs = pairs; arcs = l }) back;
 }
 
-pub nothing_decides : (node : Node) (a b : Op) (state : State) → IsStateAt node state → (IsOpOf node.problem a → IsOpOf node.problem b → ⊥) → Decides (with_decision node (First a b)) Nothing state state
+pub nothing_decides : (node : Node) (a b : Op) (state : State) → IsStateAt node state → (HasOperation node.problem a → HasOperation node.problem b → ⊥) → Decides (with_decision node (First a b)) Nothing state state
 nothing_decides node a b state is none = record {
   at = record {
     owns_long = is.owns_long;
@@ -167,7 +168,7 @@ nothing_decides node a b state is none = record {
     next = with_decision node (First a b)
 
     apart : (c d : Op) → First a b ≡ First c d → IsForced next c → IsForced next d → ⊥
-    apart c d same one other = none (subst (IsOpOf node.problem) (sym (ap first_of same)) (forced_is_op next c one)) (subst (IsOpOf node.problem) (sym (ap second_of same)) (forced_is_op next d other))
+    apart c d same one other = none (subst (HasOperation node.problem) (sym (ap first_of same)) (forced_is_op next c one)) (subst (HasOperation node.problem) (sym (ap second_of same)) (forced_is_op next d other))
       where
         first_of : Decision → Op
         first_of (First c d) = c

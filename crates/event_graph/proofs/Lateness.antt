@@ -17,14 +17,12 @@ use Rattle.incremental_paths.specs.declared.arc.Arc.{Arc}
 use Rattle.incremental_paths.specs.Walks.{IsWalkTo, Follows, last_from, walk_length, IsLongest as IsLongestTo}
 use Rattle.incremental_paths.proofs.Members.{joining}
 use Rattle.timed_paths.specs.Above.{IsAbove}
-use Rattle.event_arcs.specs.Listed.{IsArcOf, IsOpOf, AreArcsOf, AreLowersOf}
+use Rattle.event_arcs.specs.Listed.{IsArcOf, AreArcsOf, AreLowersOf}
 use Rattle.event_arcs.proofs.Numbering.{forced_is_op, same_by_number}
 use Rattle.event_arcs.proofs.Lengths.{same_longest}
-use Rattle.event_windows.specs.Operations.{HasOperation}
+use Rattle.event_windows.specs.Operations.{HasOperation, AreOperationsOf}
 use Rattle.event_windows.specs.Windows.{window_by}
-use Rattle.event_graph.specs.Joined.{AreOpsOf}
 use Rattle.event_graph.specs.Late.{until_from, open_until, AreUppersOf, IsClosed, AreClosedOf, IsLateAt}
-use Rattle.event_graph.proofs.Windowed.{has_operation}
 
 -- ---- windows
 
@@ -71,7 +69,7 @@ from_lower node o total forced longest = longest.none_longer (o ∷ []) (lower_o
 
 module _ (node : Node) (arcs : List Arc) (lowers : List ℕ) (uppers : List (Option ℕ)) (arcs_are : AreArcsOf node arcs) (lowers_are : AreLowersOf node lowers) (uppers_are : AreUppersOf node.problem node.fixings uppers) (no_cycle : HasCycle node → ⊥) where
   -- where a number is reached later than from when its operation may start, the operation is forced
-  entered : (o : Op) (nodes : List ℕ) → IsOpOf node.problem o → IsWalkTo lowers arcs (number_of node.problem o) nodes → lower_of node.problem node.fixings o < walk_length lowers arcs nodes → IsForced node o
+  entered : (o : Op) (nodes : List ℕ) → HasOperation node.problem o → IsWalkTo lowers arcs (number_of node.problem o) nodes → lower_of node.problem node.fixings o < walk_length lowers arcs nodes → IsForced node o
   entered o [] there walk late = absurd walk
   entered o (n ∷ []) there walk late = absurd (omega (arith, late, ap (λ (k : ℕ). get_or lowers k 0) walk.2, lowers_are.at o there))
   entered o (n ∷ m ∷ rest) there walk late = last n m rest walk.1 walk.2
@@ -83,13 +81,13 @@ module _ (node : Node) (arcs : List Arc) (lowers : List ℕ) (uppers : List (Opt
           subst (IsForced node) (same_by_number node.problem arc.v o (forced_is_op node arc.v arc.joins.to_forced) there (sym arc.to_is ∙ listed.3 ∙ is)) arc.joins.to_forced
       last u v (w ∷ later) follows is = last v w later follows.1 is
 
-  pub late_of_above : (ops : List Op) (number : ℕ) (o : Op) → AreOpsOf node.problem ops → IsAbove lowers arcs uppers number → slice_get ops number ≡ Some o → IsLateAt node o
+  pub late_of_above : (ops : List Op) (number : ℕ) (o : Op) → AreOperationsOf node.problem ops → IsAbove lowers arcs uppers number → slice_get ops number ≡ Some o → IsLateAt node o
   late_of_above ops number o ops_are above at = from (each_number node.problem number (omega (arith, slice_get_within uppers number (Some above.upper) above.upper_is, uppers_are.long)))
     where
       from : (p : Op) × (p.train < length node.problem.trains) × (p.op < length (train_at node.problem p.train)) × (number_of node.problem p ≡ number) → IsLateAt node o
       from (p, train, op, is) =
-          let there : IsOpOf node.problem p = record { train = train; op = op } in
-          let same : p ≡ o = same_Some p o (sym (ops_are.at p there) ∙ ap (λ (k : ℕ). slice_get ops k) is ∙ at) in
+          let there : HasOperation node.problem p = record { train = train; op = op } in
+          let same : p ≡ o = same_Some p o (sym (ops_are.listed p there) ∙ ap (λ (k : ℕ). slice_get ops k) is ∙ at) in
           let until : open_until (window_by node.problem node.fixings p) ≡ Some above.upper =
           same_Some (open_until (window_by node.problem node.fixings p)) (Some above.upper) (sym (uppers_are.at p there) ∙ ap (λ (k : ℕ). slice_get uppers k) is ∙ above.upper_is) in
           let window = until_is (lower_of node.problem node.fixings p) (upper_of node.problem node.fixings p) above.upper until in
@@ -108,7 +106,7 @@ module _ (node : Node) (arcs : List Arc) (lowers : List ℕ) (uppers : List (Opt
       let forced = longest_forced node o late.total late.longest in
       let there = forced_is_op node o forced in
       elim (cases_lt late.upper (lower_of node.problem node.fixings o)) [
-        | inl below ↦ inr (closed_are.found o (has_operation node.problem o there) (record { upper = late.upper; upper_is = late.upper_is; below = below }), forced)
+        | inl below ↦ inr (closed_are.found o there (record { upper = late.upper; upper_is = late.upper_is; below = below }), forced)
         | inr later ↦ inl (record {
           upper = late.upper;
           upper_is = uppers_are.at o there ∙ ap Some (until_given (lower_of node.problem node.fixings o) (upper_of node.problem node.fixings o) late.upper late.upper_is later);

@@ -16,13 +16,14 @@ use Rattle.incremental_paths.specs.declared.arc.Arc.{Arc}
 use Rattle.incremental_paths.specs.Walks.{WalksAreShort, IsCycle as IsCycleOf, HasCycle as HasCycleOf}
 use Rattle.incremental_paths.specs.Network.{IsNode}
 use Rattle.timed_paths.specs.Timed.{Timed, network_of}
-use Rattle.event_arcs.specs.Listed.{IsOpOf, IsArcOf}
+use Rattle.event_arcs.specs.Listed.{IsArcOf}
+use Rattle.event_windows.specs.Operations.{AreOperationsOf, HasOperation}
 use Rattle.event_arcs.proofs.Numbering.{forced_is_op}
 use Rattle.event_arcs.proofs.Cycling.{cycle_of_numbers, same_cycles}
 use Rattle.event_arcs.proofs.Shortness.{short_walks}
 use Rattle.event_graph.specs.declared.faults.ExtendNo.{ExtendNo}
 use Rattle.event_graph.specs.declared.faults.ExtendNo.TheVariants.{NoRoute, Cycle, Memory}
-use Rattle.event_graph.specs.Joined.{AreOpsOf, MayJoin, IsNamedOr, IsCycleOr}
+use Rattle.event_graph.specs.Joined.{MayJoin, IsNamedOr, IsCycleOr}
 
 somes_same : (xs ys : List Op) → map Some xs ≡ map Some ys → xs ≡ ys
 somes_same [] [] e = refl
@@ -37,28 +38,28 @@ somes_same (x ∷ xs) (y ∷ ys) e =
     rest : (xs ys : List (Option Op)) (x y : Option Op) → x ∷ xs ≡ y ∷ ys → xs ≡ ys
     rest xs ys x y e = ap (λ (l : List (Option Op)). drop 1 l) e
 
-named_are : (problem : Problem) (ops found : List Op) (numbers : List ℕ) (named : List Op) → AreOpsOf problem ops → All (IsOpOf problem) found → map (number_of problem) found ≡ numbers → map Some named ≡ map (slice_get ops) numbers → named ≡ found
+named_are : (problem : Problem) (ops found : List Op) (numbers : List ℕ) (named : List Op) → AreOperationsOf problem ops → All (HasOperation problem) found → map (number_of problem) found ≡ numbers → map Some named ≡ map (slice_get ops) numbers → named ≡ found
 named_are problem ops found numbers named are there is says = somes_same named found (says ∙ ap (λ (l : List ℕ). map (slice_get ops) l) (sym is) ∙ each found there)
   where
-    each : (found : List Op) → All (IsOpOf problem) found → map (slice_get ops) (map (number_of problem) found) ≡ map Some found
+    each : (found : List Op) → All (HasOperation problem) found → map (slice_get ops) (map (number_of problem) found) ≡ map Some found
     each [] there = refl
     each (o ∷ found) there =
-        ap (λ (x : Option Op). x ∷ map (slice_get ops) (map (number_of problem) found)) (are.at o (All-head (IsOpOf problem) o found there)) ∙ ap (λ (l : List (Option Op)). Some o ∷ l) (each found (All-tail (IsOpOf problem) o found there))
+        ap (λ (x : Option Op). x ∷ map (slice_get ops) (map (number_of problem) found)) (are.listed o (All-head (HasOperation problem) o found there)) ∙ ap (λ (l : List (Option Op)). Some o ∷ l) (each found (All-tail (HasOperation problem) o found there))
 
-closed_there : (node : Node) (first u : Op) (rest : List Op) → ClosesTo node first u rest → All (IsOpOf node.problem) (u ∷ rest)
-closed_there node first u [] closes = All-cons (IsOpOf node.problem) u [] (forced_is_op node u closes.1.from_forced) (All-nil (IsOpOf node.problem))
-closed_there node first u (v ∷ rest) closes = All-cons (IsOpOf node.problem) u (v ∷ rest) (forced_is_op node u closes.0.1.from_forced) (closed_there node first v rest closes.1)
+closed_there : (node : Node) (first u : Op) (rest : List Op) → ClosesTo node first u rest → All (HasOperation node.problem) (u ∷ rest)
+closed_there node first u [] closes = All-cons (HasOperation node.problem) u [] (forced_is_op node u closes.1.from_forced) (All-nil (HasOperation node.problem))
+closed_there node first u (v ∷ rest) closes = All-cons (HasOperation node.problem) u (v ∷ rest) (forced_is_op node u closes.0.1.from_forced) (closed_there node first v rest closes.1)
 
-cycle_there : (node : Node) (ops : List Op) → IsCycle node ops → All (IsOpOf node.problem) ops
+cycle_there : (node : Node) (ops : List Op) → IsCycle node ops → All (HasOperation node.problem) ops
 cycle_there node [] cycle = absurd cycle
 cycle_there node (u ∷ []) cycle = absurd cycle
 cycle_there node (u ∷ v ∷ rest) cycle = closed_there node u u (v ∷ rest) cycle
 
-numbers_below : (problem : Problem) (ops : List Op) → All (IsOpOf problem) ops → All (λ n. n < operation_count problem.trains) (map (number_of problem) ops)
+numbers_below : (problem : Problem) (ops : List Op) → All (HasOperation problem) ops → All (λ n. n < operation_count problem.trains) (map (number_of problem) ops)
 numbers_below problem [] there = All-nil (λ n. n < operation_count problem.trains)
 numbers_below problem (o ∷ ops) there =
-    let here = All-head (IsOpOf problem) o ops there in
-    All-cons (λ n. n < operation_count problem.trains) (number_of problem o) (map (number_of problem) ops) (below_count problem o here.train here.op) (numbers_below problem ops (All-tail (IsOpOf problem) o ops there))
+    let here = All-head (HasOperation problem) o ops there in
+    All-cons (λ n. n < operation_count problem.trains) (number_of problem o) (map (number_of problem) ops) (below_count problem o here.train here.op) (numbers_below problem ops (All-tail (HasOperation problem) o ops there))
 
 -- the numbers of a cycle that the arcs close are those of operations
 pub numbers_named : (node : Node) (ops : List Op) (paths : Timed) (arcs : List Arc) (numbers : List ℕ) → MayJoin node ops paths arcs → IsCycleOf (paths.arcs ++ arcs) numbers → All (λ n. n < length ops) numbers

@@ -8,10 +8,11 @@ use Rattle.disp_model.specs.Walks.{HasCycle}
 use Rattle.incremental_paths.specs.declared.arc.Arc.{Arc}
 use Rattle.timed_paths.specs.Timed.{Timed}
 use Rattle.event_arcs.specs.Listed.{AreArcsOf, AreLowersOf}
-use Rattle.event_graph.specs.Joined.{AreOpsOf, IsOfEdition, MayJoin}
+use Rattle.event_graph.specs.Joined.{IsOfEdition, MayJoin}
+use Rattle.event_windows.specs.Operations.{AreOperationsOf}
 use Rattle.event_graph.specs.Roots.{ArePathsOf}
 
-pub may_join_first : (node : Node) (ops : List Op) (paths : Timed) (arcs : List Arc) → paths.arcs ≡ [] → AreOpsOf node.problem ops → IsOfEdition node → AreLowersOf node paths.lowers → AreArcsOf node arcs → MayJoin node ops paths arcs
+pub may_join_first : (node : Node) (ops : List Op) (paths : Timed) (arcs : List Arc) → paths.arcs ≡ [] → AreOperationsOf node.problem ops → IsOfEdition node → AreLowersOf node paths.lowers → AreArcsOf node arcs → MayJoin node ops paths arcs
 may_join_first node ops paths arcs none ops_are edition lowers_are arcs_are = record { ops_are = ops_are; lowers_are = lowers_are; edition = edition; arcs_are = subst (λ (l : List Arc). AreArcsOf node (l ++ arcs)) (sym none) arcs_are }
 
 pub paths_are : (node : Node) (paths new : Timed) (arcs : List Arc) → paths.arcs ≡ [] → new.lowers ≡ paths.lowers → new.arcs ≡ paths.arcs ++ arcs → AreLowersOf node paths.lowers → AreArcsOf node arcs → (HasCycle node → ⊥) → ArePathsOf node new

@@ -14,32 +14,25 @@ use Rattle.disp_model.specs.WellFormed.{operation_count}
 use Rattle.disp_model.specs.Numbers.{number_of}
 use Rattle.disp_model.specs.Node.{node_at}
 use Rattle.disp_model.specs.Walks.{lower_of}
-use Rattle.event_arcs.specs.Listed.{IsOpOf, AreLowersOf}
+use Rattle.event_arcs.specs.Listed.{AreLowersOf}
 use Rattle.event_windows.specs.declared.starts.Window.{Window}
 use Rattle.event_windows.specs.Operations.{HasOperation, AreOperationsOf}
 use Rattle.event_windows.specs.Windows.{window_by, AreWindowsOf}
 use Rattle.event_windows.proofs.Numbering.{below, apart}
 use Rattle.event_graph.specs.Late.{open_until, AreUppersOf, IsClosed, AreClosedTo, AreClosedOf}
 
--- an operation of the problem, in the words of either crate
-pub has_operation : (problem : Problem) (o : Op) → IsOpOf problem o → HasOperation problem o
-has_operation problem o there = record { train = there.train; operation = there.op }
-
-pub is_op : (problem : Problem) (o : Op) → HasOperation problem o → IsOpOf problem o
-is_op problem o has = record { train = has.train; op = has.operation }
-
 module _ (problem : Problem) (fixings : List Fixing) (windows : List Window) (are : AreWindowsOf problem fixings windows) where
   pub lowers_are : (lowers : List ℕ) → lowers ≡ map (λ w. w.lower) windows → AreLowersOf (node_at problem fixings []) lowers
   lowers_are lowers is = record {
     long = ap (λ (l : List ℕ). length l) is ∙ length-map windows (λ (w : Window). w.lower) ∙ are.long;
     at = λ o there. get_or_from_slice_get lowers (number_of problem o) (lower_of problem fixings o) 0
-        (ap (λ (l : List ℕ). slice_get l (number_of problem o)) is ∙ slice_get-map (λ (w : Window). w.lower) windows (number_of problem o) ∙ ap (λ (w : Option Window). option_map (λ (w : Window). w.lower) w) (are.said o (has_operation problem o there)));
+        (ap (λ (l : List ℕ). slice_get l (number_of problem o)) is ∙ slice_get-map (λ (w : Window). w.lower) windows (number_of problem o) ∙ ap (λ (w : Option Window). option_map (λ (w : Window). w.lower) w) (are.said o there));
   }
 
   pub uppers_are : (uppers : List (Option ℕ)) → uppers ≡ map open_until windows → AreUppersOf problem fixings uppers
   uppers_are uppers is = record {
     long = ap (λ (l : List (Option ℕ)). length l) is ∙ length-map windows open_until ∙ are.long;
-    at = λ o there. ap (λ (l : List (Option ℕ)). slice_get l (number_of problem o)) is ∙ slice_get-map open_until windows (number_of problem o) ∙ ap (λ (w : Option Window). option_map open_until w) (are.said o (has_operation problem o there));
+    at = λ o there. ap (λ (l : List (Option ℕ)). slice_get l (number_of problem o)) is ∙ slice_get-map open_until windows (number_of problem o) ∙ ap (λ (w : Option Window). option_map open_until w) (are.said o there);
   }
 
 -- ---- windows that are never open

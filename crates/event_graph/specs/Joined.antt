@@ -11,14 +11,10 @@ use Rattle.disp_model.specs.Walks.{IsCycle, HasCycle}
 use Rattle.disp_model.specs.Replies.{IsEdition}
 use Rattle.incremental_paths.specs.declared.arc.Arc.{Arc}
 use Rattle.timed_paths.specs.Timed.{Timed}
-use Rattle.event_arcs.specs.Listed.{IsOpOf, AreArcsOf, AreLowersOf}
+use Rattle.event_arcs.specs.Listed.{AreArcsOf, AreLowersOf}
+use Rattle.event_windows.specs.Operations.{HasOperation}
 use Rattle.event_graph.specs.declared.faults.ExtendNo.{ExtendNo}
 use Rattle.event_graph.specs.declared.faults.ExtendNo.TheVariants.{NoRoute, Cycle, Memory}
-
--- the operations of a problem, each at its number
-pub record AreOpsOf (problem : Problem) (ops : List Op) : Type 0 where
-  pub long : length ops ≡ operation_count problem.trains
-  pub at : (o : Op) → IsOpOf problem o → slice_get ops (number_of problem o) ≡ Some o
 
 -- the node's fixings are those that stand in an edition
 abbrev pub IsOfEdition : Node → Type 0
@@ -26,7 +22,7 @@ IsOfEdition node = (changes : List Change) × IsEdition node.problem changes × 
 
 -- with these arcs behind the kept ones they stand for the node
 pub record MayJoin (node : Node) (ops : List Op) (paths : Timed) (arcs : List Arc) : Type 0 where
-  pub ops_are : AreOpsOf node.problem ops
+  pub ops_are : AreOperationsOf node.problem ops
   pub lowers_are : AreLowersOf node paths.lowers
   pub edition : IsOfEdition node
   pub arcs_are : AreArcsOf node (paths.arcs ++ arcs)

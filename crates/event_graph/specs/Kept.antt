@@ -19,7 +19,8 @@ use Rattle.event_graph.specs.declared.changes.Change.{Change}
 use Rattle.event_graph.specs.declared.faults.ExtendNo.{ExtendNo}
 use Rattle.event_graph.specs.declared.faults.ExtendNo.TheVariants.{NoRoute, Cycle, Memory}
 use Rattle.event_graph.specs.States.{AreOrdersOf, State, IsStateAt, without, restored, MayRestore}
-use Rattle.event_graph.specs.Joined.{AreOpsOf, IsOfEdition, IsCycleOr}
+use Rattle.event_graph.specs.Joined.{IsOfEdition, IsCycleOr}
+use Rattle.event_windows.specs.Operations.{AreOperationsOf}
 
 abbrev pub state_of : Parts → State
 state_of parts = record { owns = parts.owns.items; each = parts.each.items; pairs = parts.orders.pairs; arcs = parts.paths.arcs }
@@ -27,7 +28,7 @@ state_of parts = record { owns = parts.owns.items; each = parts.each.items; pair
 -- a decision may be added to what is kept
 pub record MayDecide (node : Node) (ops : List Op) (parts : Parts) : Type 0 where
   pub state : IsStateAt node (state_of parts)
-  pub ops_are : AreOpsOf node.problem ops
+  pub ops_are : AreOperationsOf node.problem ops
   pub lowers_are : AreLowersOf node parts.paths.lowers
   pub edition : IsOfEdition node
   pub size : parts.orders.size ≡ operation_count node.problem.trains
@@ -52,7 +53,7 @@ AddsArcs node old new (Err why) = IsCycleOr node why
 -- the arcs of an order may be added
 pub record MayAddOrder (node : Node) (ops : List Op) (each : List Placed) (paths : Timed) (decision : Decision) : Type 0 where
   pub is_order : (a : Op) × (b : Op) × (decision ≡ First a b)
-  pub ops_are : AreOpsOf node.problem ops
+  pub ops_are : AreOperationsOf node.problem ops
   pub lowers_are : AreLowersOf node paths.lowers
   pub edition : IsOfEdition node
   pub placed : ArePlaced node each
@@ -62,7 +63,7 @@ pub record MayAddOrder (node : Node) (ops : List Op) (each : List Placed) (paths
 pub record MayAddTrain (node : Node) (decision : Decision) (ops : List Op) (each : List Placed) (orders : Ordered) (paths : Timed) (before : Placed) (t : ℕ) : Type 0 where
   pub about : train_of_decision decision ≡ Some t
   pub there : t < length node.problem.trains
-  pub ops_are : AreOpsOf node.problem ops
+  pub ops_are : AreOperationsOf node.problem ops
   pub lowers_are : AreLowersOf node paths.lowers
   pub edition : IsOfEdition node
   pub placed : ArePlaced (with_decision node decision) each

@@ -7,7 +7,6 @@ use Rattle.disp_model.specs.WellFormed.{operation_count}
 use Rattle.disp_model.specs.Numbers.{number_of}
 use Rattle.disp_model.specs.Node.{Node}
 use Rattle.disp_model.specs.Nodes.{HasLate}
-use Rattle.event_arcs.specs.Listed.{IsOpOf}
 use Rattle.event_windows.specs.declared.starts.Window.{Window}
 use Rattle.event_windows.specs.Operations.{HasOperation}
 use Rattle.event_windows.specs.Windows.{window_by}
@@ -30,7 +29,7 @@ pub record IsClosed (window : Window) : Type 0 where
 -- until when each operation may start, in the order of their numbers, where it may start at all
 pub record AreUppersOf (problem : Problem) (fixings : List Fixing) (uppers : List (Option ℕ)) : Type 0 where
   pub long : length uppers ≡ operation_count problem.trains
-  pub at : (o : Op) → IsOpOf problem o → slice_get uppers (number_of problem o) ≡ Some (open_until (window_by problem fixings o))
+  pub at : (o : Op) → HasOperation problem o → slice_get uppers (number_of problem o) ≡ Some (open_until (window_by problem fixings o))
 
 -- those of the first so many operations whose windows are never open
 pub record AreClosedTo (problem : Problem) (fixings : List Fixing) (count : ℕ) (closed : List Op) : Type 0 where

@@ -10,7 +10,8 @@ use Rattle.disp_model.specs.Routes.{IsForced}
 use Rattle.disp_model.specs.Walks.{HasCycle}
 use Rattle.disp_model.specs.Arcs.{Conflicts, IsTrainArc, GoesTo}
 use Rattle.incremental_paths.specs.declared.arc.Arc.{Arc}
-use Rattle.event_arcs.specs.Listed.{IsArcOf, IsOpOf, AreArcsOf}
+use Rattle.event_arcs.specs.Listed.{IsArcOf, AreArcsOf}
+use Rattle.event_windows.specs.Operations.{HasOperation}
 use Rattle.event_arcs.specs.Chained.{LeadsAlong}
 use Rattle.event_arcs.specs.Ordering.{LeadsAsOrdered}
 use Rattle.event_arcs.specs.Owned.{train_of_decision, AreByTrain}
@@ -30,7 +31,7 @@ pair_of problem a b = record { first = a; second = b; from = number_of problem a
 -- the orders that are decided of operations that there are
 pub record AreOrdersOf (node : Node) (pairs : List Pair) : Type 0 where
   pub decided : All (IsDecidedAt node) pairs
-  pub listed : (a b : Op) → Contains node.decisions (First a b) → IsOpOf node.problem a → IsOpOf node.problem b → Contains pairs (pair_of node.problem a b)
+  pub listed : (a b : Op) → Contains node.decisions (First a b) → HasOperation node.problem a → HasOperation node.problem b → Contains pairs (pair_of node.problem a b)
 
 -- ---- what a decision about the routes of a train adds
 

@@ -4,7 +4,7 @@ ghost use Rattle.disp_model.specs.declared.decision.Decision.{Decision as Decisi
 ghost use Rattle.disp_model.specs.declared.decision.Decision.TheVariants.{First};
 ghost use Rattle.disp_model.specs.Numbers.{number_of};
 ghost use Rattle.disp_model.specs.Node.{node_at, with_decision};
-ghost use Rattle.event_arcs.specs.Listed.{IsOpOf};
+ghost use Rattle.event_windows.specs.Operations.{HasOperation};
 ghost use Rattle.event_arcs.specs.Placed.{ArePlaced};
 ghost use Rattle.event_graph.specs.States.{pair_of};
 ghost use Rattle.event_graph.specs.Kept.{state_of, MayDecide, MayAddOrder, AddsArcs, AnswersAt};
@@ -21,7 +21,7 @@ use timed_paths::TimedPaths;
 
 /// Whether there is such an operation.
 fn is_there(problem: &Problem, op: Op) -> bool
-    ensures { IsTrue result ↔ IsOpOf problem.now op }
+    ensures { IsTrue result ↔ HasOperation problem.now op }
 {
     match problem.trains.as_slice().get(op.train as usize) {
         Some(train) => (op.op as usize) < train.len(),
@@ -33,8 +33,8 @@ fn is_there(problem: &Problem, op: Op) -> bool
 fn number_at(problem: &Problem, each: &[Placed], op: Op) -> Option<u32>
     requires { (fixings : List Fixing) × (decisions : List DecisionOf)
         × ArePlaced (node_at problem.now fixings decisions) each.now }
-    ensures { MatchOption result (IsOpOf problem.now op → ⊥)
-        (λ number. IsOpOf problem.now op × (number ≡ number_of problem.now op)) }
+    ensures { MatchOption result (HasOperation problem.now op → ⊥)
+        (λ number. HasOperation problem.now op × (number ≡ number_of problem.now op)) }
 {
     if !is_there(problem, op) {
         return None;
@@ -46,8 +46,8 @@ fn number_at(problem: &Problem, each: &[Placed], op: Op) -> Option<u32>
 fn pair_of(problem: &Problem, each: &[Placed], a: Op, b: Op) -> Option<Pair>
     requires { (fixings : List Fixing) × (decisions : List DecisionOf)
         × ArePlaced (node_at problem.now fixings decisions) each.now }
-    ensures { MatchOption result (IsOpOf problem.now a → IsOpOf problem.now b → ⊥)
-        (λ pair. IsOpOf problem.now a × IsOpOf problem.now b
+    ensures { MatchOption result (HasOperation problem.now a → HasOperation problem.now b → ⊥)
+        (λ pair. HasOperation problem.now a × HasOperation problem.now b
         × (pair ≡ pair_of problem.now a b)) }
 {
     Some(Pair {

@@ -4,7 +4,7 @@ ghost use Rattle.disp_model.specs.declared.fixing.Fixing.{Fixing};
 ghost use Rattle.disp_model.specs.declared.decision.Decision.{Decision};
 ghost use Rattle.disp_model.specs.Node.{node_at};
 ghost use Rattle.disp_model.specs.Routes.{IsForced};
-ghost use Rattle.event_arcs.specs.Listed.{IsOpOf};
+ghost use Rattle.event_windows.specs.Operations.{HasOperation};
 ghost use Rattle.event_arcs.specs.Placed.{ArePlaced};
 
 use disp_model::{Op, Problem};
@@ -12,7 +12,7 @@ use event_arcs::Placed;
 
 /// Whether its train must run the operation.
 fn is_forced(problem: &Problem, each: &[Placed], op: Op) -> bool
-    requires there { IsOpOf problem.now op }
+    requires there { HasOperation problem.now op }
     requires placed { (fixings : List Fixing) × (decisions : List Decision)
         × ArePlaced (node_at problem.now fixings decisions) each.now }
     ensures { (fixings : List Fixing) (decisions : List Decision)
@@ -24,7 +24,7 @@ fn is_forced(problem: &Problem, each: &[Placed], op: Op) -> bool
 
 /// The first of these operations that its train must run.
 pub(crate) fn first_forced(problem: &Problem, each: &[Placed], ops: &[Op]) -> Option<Op>
-    requires there { All (IsOpOf problem.now) ops.now }
+    requires there { All (HasOperation problem.now) ops.now }
     requires placed { (fixings : List Fixing) × (decisions : List Decision)
         × ArePlaced (node_at problem.now fixings decisions) each.now }
     ensures { (fixings : List Fixing) (decisions : List Decision)

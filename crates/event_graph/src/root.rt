@@ -2,7 +2,8 @@ ghost use Rattle.std.specs.Prelude.{◌≡◌, [], IfOk, IfErr};
 ghost use Rattle.disp_model.specs.Node.{node_at};
 ghost use Rattle.event_windows.specs.Windows.{AreWindowsOf};
 ghost use Rattle.event_arcs.specs.Placed.{ArePlaced};
-ghost use Rattle.event_graph.specs.Joined.{AreOpsOf, IsOfEdition, IsCycleOr};
+ghost use Rattle.event_graph.specs.Joined.{IsOfEdition, IsCycleOr};
+ghost use Rattle.event_windows.specs.Operations.{AreOperationsOf};
 ghost use Rattle.event_graph.specs.Late.{AreUppersOf};
 ghost use Rattle.event_graph.specs.Kept.{MayDecide, IsRefusedAt};
 ghost use Rattle.event_graph.specs.Roots.{ArePathsOf};
@@ -28,7 +29,7 @@ fn paths_of(
     each: &[Placed],
 ) -> Result<TimedPaths, ExtendNo>
     requires edition { IsOfEdition (node_at problem.now fixings.now []) }
-    requires ops_are { AreOpsOf problem.now ops.now }
+    requires ops_are { AreOperationsOf problem.now ops.now }
     requires windows { AreWindowsOf problem.now fixings.now windows.now }
     requires placed { ArePlaced (node_at problem.now fixings.now []) each.now }
     ensures ok { IfOk result (ArePathsOf (node_at problem.now fixings.now [])) }
@@ -51,7 +52,7 @@ pub(crate) fn parts_of(
     windows: &[Window],
 ) -> Result<Parts, ExtendNo>
     requires edition { IsOfEdition (node_at problem.now fixings.now []) }
-    requires ops_are { AreOpsOf problem.now ops.now }
+    requires ops_are { AreOperationsOf problem.now ops.now }
     requires windows { AreWindowsOf problem.now fixings.now windows.now }
     ensures ok { IfOk result (MayDecide (node_at problem.now fixings.now []) ops.now) }
     ensures uppers { IfOk result

@@ -25,10 +25,10 @@ at_pushed xs y x k before last lt = elim (cases_lt k (length xs)) [
 -- ---- the operations
 
 pub below : (problem : Problem) (o : Op) → HasOperation problem o → number_of problem o < operation_count problem.trains
-below problem o has = below_count problem o has.train has.operation
+below problem o has = below_count problem o has.train has.op
 
 pub apart : (problem : Problem) (o p : Op) → HasOperation problem o → HasOperation problem p → number_of problem o ≡ number_of problem p → o ≡ p
-apart problem o p has too same = numbers_apart problem o p has.train has.operation too.train too.operation same
+apart problem o p has too same = numbers_apart problem o p has.train has.op too.train too.op same
 
 pub lists_more : (problem : Problem) (ops new : List Op) (p : Op) → new ≡ ops ++ p ∷ [] → HasOperation problem p → number_of problem p ≡ length ops → ListsFirst problem ops → ListsFirst problem new
 lists_more problem ops new p is has at lists = rw is (λ o there lt. at_pushed ops p o (number_of problem o) (lists o there) (λ same. sym (apart problem o p there has (same ∙ sym at))) (omega (arith, lt, length_push ops p)))
@@ -39,7 +39,7 @@ lists_all problem ops long lists = record {
   listed = listed;
   numbered = λ n o e.
       let found = each_number problem n (omega (arith, slice_get_within ops n o e, long)) in
-      let has : HasOperation problem found.0 = record { train = found.1; operation = found.2 } in
+      let has : HasOperation problem found.0 = record { train = found.1; op = found.2 } in
       let same : found.0 ≡ o = same_Some found.0 o (sym (listed found.0 has) ∙ ap (λ (k : ℕ). slice_get ops k) found.3 ∙ e) in
       subst (λ (p : Op). IsAtNumber problem p n) same (record { there = has; number = found.3 });
 }

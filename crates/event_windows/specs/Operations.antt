@@ -9,7 +9,7 @@ use Rattle.disp_model.specs.Valid.{train_at}
 -- the problem has the operation
 pub record HasOperation (problem : Problem) (o : Op) : Type 0 where
   pub train : o.train < length problem.trains
-  pub operation : o.op < length (train_at problem o.train)
+  pub op : o.op < length (train_at problem o.train)
 
 -- how many operations the trains before one have
 abbrev pub operations_before : Problem → ℕ → ℕ
