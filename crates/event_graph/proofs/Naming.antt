@@ -1,7 +1,7 @@
 -- Operations by their numbers, and arcs that may be added.
 use Rattle.std.proofs.Common.{◌≡◌, ◌∙◌, ℕ, ◌+◌, ◌<◌, List, [], ◌∷◌, ◌++◌, length, map, take, drop, get_or, Option, Some, refl, sym, ap, subst, arith}
 use Rattle.std.specs.Prelude.{slice_get, All}
-use Rattle.std.proofs.lemmas.Option.{same_Some, slice_get-get_or}
+use Rattle.std.proofs.lemmas.Option.{same_Some, slice_get-get_or, slice_get_read}
 use Rattle.std.proofs.lemmas.List.{map-append, take_more}
 use Rattle.std.proofs.lemmas.List.Elements.{All-nil, All-cons, All-head, All-tail, All-weaker, All-take, All-get_or}
 use Rattle.disp_model.specs.declared.train.Op.{Op}
@@ -17,7 +17,7 @@ use Rattle.incremental_paths.specs.Walks.{WalksAreShort, IsCycle as IsCycleOf, H
 use Rattle.incremental_paths.specs.Network.{IsNode}
 use Rattle.timed_paths.specs.Timed.{Timed, network_of}
 use Rattle.event_arcs.specs.Listed.{IsArcOf}
-use Rattle.event_windows.specs.Operations.{AreOperationsOf, HasOperation}
+use Rattle.event_windows.specs.Operations.{HasOperation, AreOperationsOf, IsAtNumber}
 use Rattle.event_arcs.proofs.Numbering.{forced_is_op}
 use Rattle.event_arcs.proofs.Cycling.{cycle_of_numbers, same_cycles}
 use Rattle.event_arcs.proofs.Shortness.{short_walks}
@@ -125,3 +125,8 @@ pub cycle_or : (node : Node) (ops : List Op) (paths : Timed) (arcs : List Arc) (
 cycle_or node ops paths arcs numbers (NoRoute t) may cycle says = says
 cycle_or node ops paths arcs numbers (Cycle named) may cycle says = named_cycle node ops paths arcs numbers named may cycle says
 cycle_or node ops paths arcs numbers Memory may cycle says = tt
+
+-- ---- the operation of a number
+
+pub op_at_number : (problem : Problem) (ops : List Op) (n : ℕ) (o : Op) → AreOperationsOf problem ops → n < operation_count problem.trains → o ≡ get_or ops n o → IsAtNumber problem o n
+op_at_number problem ops n o are lt is = are.numbered n o (slice_get_read ops (length ops) n o refl (omega (arith, lt, are.long)) is)

@@ -1,10 +1,13 @@
 ghost use Rattle.std.specs.Prelude.{◌≡◌, ◌<◌, ℕ, [], IfOk, OnOk, OnErr, IfErr, MatchOption, length};
+ghost use Rattle.disp_model.specs.WellFormed.{operation_count};
+ghost use Rattle.disp_model.specs.Numbers.{number_of};
 ghost use Rattle.disp_model.specs.Node.{node_at, with_decision};
 ghost use Rattle.disp_model.specs.Routes.{HasRoute};
 ghost use Rattle.disp_model.specs.Walks.{HasCycle};
 ghost use Rattle.disp_model.specs.Nodes.{HasLate};
 ghost use Rattle.route_sets.specs.Sets.{AreRoutesOf};
 ghost use Rattle.event_arcs.specs.Listed.{AreArcsOf, AreLowersOf};
+ghost use Rattle.event_windows.specs.Operations.{HasOperation};
 ghost use Rattle.event_graph.specs.Joined.{IsOfEdition};
 ghost use Rattle.event_graph.specs.Kept.{IsRefusedAt};
 ghost use Rattle.event_graph.specs.Late.{IsLateAt};
@@ -95,8 +98,26 @@ impl<'p> Graph<'p> {
         ensures arcs { AreArcsOf self.now result.now.arcs }
         ensures lowers { AreLowersOf self.now result.now.lowers }
         ensures no_cycle { HasCycle self.now → ⊥ }
+        ensures edition { IsOfEdition self.now }
     {
         self.parts.paths.paths()
+    }
+
+    /// The number of an operation of the problem.
+    pub fn number(&self, op: Op) -> u32
+        requires { HasOperation self.now.problem op }
+        ensures { result ≡ number_of self.now.problem op }
+    {
+        self.parts.each[op.train as usize].first + op.op
+    }
+
+    /// The operation that has a number.
+    pub fn operation(&self, number: u32) -> Op
+        requires { number < operation_count self.now.problem.trains }
+        ensures there { HasOperation self.now.problem result }
+        ensures number { number_of self.now.problem result ≡ number }
+    {
+        self.ops[number as usize]
     }
 
     /// The allowed routes of a train. Each train has one.

@@ -1,0 +1,5 @@
+pub mod Arriving
+pub mod Summing
+pub mod Ending
+pub mod Walking
+pub mod Bounding

@@ -1,0 +1,20 @@
+//! What every valid plan that follows the decisions of a node costs at least.
+//!
+//! `cost` adds up what the components of forced operations cost at the lengths of their longest
+//! walks, in one look at each component. `bound` also gives a walk for each component that adds to
+//! it, which costs what the walk names and the arcs into what it passes.
+#![tactic(auto)]
+
+mod arrival;
+mod ends;
+mod shown;
+mod sum;
+mod walk;
+mod walks;
+
+pub use shown::Bound;
+pub use sum::cost;
+pub use walks::bound;
+
+#[cfg(test)]
+mod tests;
