@@ -1,18 +1,15 @@
 -- Arcs that are added to those of a node, or close a cycle.
-use Rattle.std.specs.Prelude.{◌≡◌, List, ◌++◌, Result, Ok, Err, Some, length, slice_get}
+use Rattle.std.specs.Prelude.{◌≡◌, List, ◌++◌, Result, Ok, Err}
 use Rattle.disp_model.specs.declared.train.Op.{Op}
 use Rattle.disp_model.specs.declared.fixing.Change.{Change}
-use Rattle.disp_model.specs.declared.problem.Problem.{Problem}
-use Rattle.disp_model.specs.WellFormed.{operation_count}
 use Rattle.disp_model.specs.Changes.{standing_of}
-use Rattle.disp_model.specs.Numbers.{number_of}
 use Rattle.disp_model.specs.Node.{Node}
 use Rattle.disp_model.specs.Walks.{IsCycle, HasCycle}
 use Rattle.disp_model.specs.Replies.{IsEdition}
 use Rattle.incremental_paths.specs.declared.arc.Arc.{Arc}
 use Rattle.timed_paths.specs.Timed.{Timed}
 use Rattle.event_arcs.specs.Listed.{AreArcsOf, AreLowersOf}
-use Rattle.event_windows.specs.Operations.{HasOperation}
+use Rattle.event_windows.specs.Operations.{AreOperationsOf}
 use Rattle.event_graph.specs.declared.faults.ExtendNo.{ExtendNo}
 use Rattle.event_graph.specs.declared.faults.ExtendNo.TheVariants.{NoRoute, Cycle, Memory}
 

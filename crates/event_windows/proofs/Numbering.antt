@@ -71,7 +71,7 @@ count_more problem trains i count len train is lt read long before =
 pub op_there : (problem : Problem) (trains : List (List Operation)) (t o : ℕ) (train : List Operation) → trains ≡ problem.trains → t < length problem.trains → train ≡ get_or trains t train → o < length train → HasOperation problem (record { train = t; op = o })
 op_there problem trains t o train is lt read inside = record {
   train = lt;
-  operation = subst (λ (l : List Operation). o < length l) (get_or_read problem.trains t train lt (subst (λ (l : List (List Operation)). train ≡ get_or l t train) is read) []) inside;
+  op = subst (λ (l : List Operation). o < length l) (get_or_read problem.trains t train lt (subst (λ (l : List (List Operation)). train ≡ get_or l t train) is read) []) inside;
 }
 
 pub number_is : (problem : Problem) (trains : List (List Operation)) (t o first : ℕ) (train : List Operation) → trains ≡ problem.trains → t < length trains → train ≡ get_or trains t train → o < length train → first ≡ operations_before problem t

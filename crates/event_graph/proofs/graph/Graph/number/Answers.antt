@@ -1,6 +1,4 @@
-use Rattle.std.proofs.Common.{◌≡◌, ◌∙◌, ◌+◌, ap, subst, sym, arith}
-use Rattle.disp_model.specs.declared.train.Op.{Op}
-use Rattle.disp_model.specs.declared.problem.Problem.{Problem}
+use Rattle.std.proofs.Common.{◌∙◌, ap, subst, sym, arith}
 use Rattle.disp_model.specs.Numbers.{number_of}
 use Rattle.disp_model.specs.Node.{Node, node_at}
 use Rattle.event_windows.specs.Operations.{HasOperation}

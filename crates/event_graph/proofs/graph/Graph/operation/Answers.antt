@@ -1,4 +1,4 @@
-use Rattle.std.proofs.Common.{◌≡◌, ◌<◌, ap, subst, sym, arith}
+use Rattle.std.proofs.Common.{◌≡◌, ◌<◌, subst, sym}
 use Rattle.disp_model.specs.Numbers.{number_of}
 use Rattle.disp_model.specs.WellFormed.{operation_count}
 use Rattle.disp_model.specs.Node.{Node}

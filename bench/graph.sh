@@ -1,0 +1,211 @@
+#!/usr/bin/env bash
+# Microseconds for an order added and taken back, for a decided successor added and taken back, for a node's cost,
+# and for its bound with walks, on problems of 10, 40 and 160 trains of 40 operations each over 60 blocks, in one
+# run:
+#     bench/graph.sh [TRAINS]..
+# Half of the orders of operations that meet are decided before the others are measured. The problems are made from
+# a seed. The program is proved, and built as the shipped one is, in a scratch folder that goes away. The proofs
+# take a few minutes, and less where the crates have been checked.
+set -eu
+sizes=("$@")
+if [ ${#sizes[@]} = 0 ]; then sizes=(10 40 160); fi
+. "$(dirname "$0")/scratch.sh"
+crates=(plain_values disp_model disp_laws json_claims fault_counts disp_outside incremental_paths timed_paths
+    train_graphs displib_reader train_orders route_sets event_windows event_arcs event_graph cost_bound)
+open_scratch graph_bench "$(for crate in "${crates[@]}"; do grep "^$crate[: ]" "$(dirname "$0")/../crates.txt"; done)
+graph_bench: disp_model disp_outside displib_reader event_graph cost_bound" "${crates[@]}"
+python3 - "${sizes[@]}" <<'PYTHON'
+import json, random, sys
+
+OPERATIONS, BLOCKS = 40, 60
+
+
+def operation(draw, k):
+    """On a block of the stretch that trains come to in this order; at each fifth two tracks to choose from."""
+    last = OPERATIONS - 1
+    goes_on = [] if k == last else [k + 1, k + 2] if k % 5 == 2 and k + 3 <= last else [k + 2] if k % 5 == 3 and k + 2 <= last else [k + 1]
+    block = (k * BLOCKS // OPERATIONS + draw.randrange(2)) % BLOCKS
+    listed = [] if k == last else [{"resource": "block%d" % block}]
+    return {"start_lb": draw.randrange(200) if k == 0 else 0, "min_duration": draw.randrange(1, 10), "resources": listed, "successors": goes_on}
+
+
+for trains in map(int, sys.argv[1:]):
+    draw = random.Random(trains)
+    problem = {
+        "trains": [[operation(draw, k) for k in range(OPERATIONS)] for _ in range(trains)],
+        "objective": [{"type": "op_delay", "train": t, "operation": OPERATIONS - 1, "threshold": 150, "coeff": 1} for t in range(trains)],
+    }
+    json.dump(problem, open("problem%d.json" % trains, "w"))
+PYTHON
+cat > src/main.rt <<'PROGRAM'
+//! Times the changes of a node's graph.
+#![tactic(auto)]
+
+ghost use Rattle.std.specs.Prelude.{◌≡◌};
+
+use cost_bound::{bound, cost};
+use disp_model::{Decision, Op, Operation, Problem};
+use disp_outside::{FileShelf, Shelf};
+use displib_reader::read_problem;
+use event_graph::Graph;
+use std::alloc::Global;
+use std::io;
+use std::rt::Clock;
+use std::time::{Duration, Instant};
+
+const ROUNDS: u32 = 1000;
+
+fn meet(one: &Operation, other: &Operation) -> bool {
+    one.listings
+        .as_slice()
+        .iter()
+        .any(|a| other.listings.as_slice().iter().any(|b| a.resource == b.resource))
+}
+
+/// The orders of two operations that meet, by the places in their trains and then by the trains, so
+/// that all of them can be decided.
+fn orders(alloc: Global, problem: &Problem) -> Result<Vec<Decision>, io::Error> {
+    let mut found = Vec::new(alloc);
+    for (t, one) in problem.trains.as_slice().iter().enumerate() {
+        for (s, other) in problem.trains.as_slice().iter().enumerate() {
+            if t < s {
+                add_orders(&mut found, t as u32, s as u32, one.as_slice(), other.as_slice())?;
+            }
+        }
+    }
+    Ok(found)
+}
+
+fn add_orders(found: &mut Vec<Decision>, t: u32, s: u32, one: &[Operation], other: &[Operation]) -> io::Result<()> {
+    for (p, a) in one.iter().enumerate() {
+        for (q, b) in other.iter().enumerate() {
+            if meet(a, b) {
+                let first = Op { train: t, op: p as u32 };
+                let second = Op { train: s, op: q as u32 };
+                let order = if p <= q { Decision::First { a: first, b: second } } else { Decision::First { a: second, b: first } };
+                found.push(order)?;
+            }
+        }
+    }
+    Ok(())
+}
+
+/// Each fork with its first successor.
+fn forks(alloc: Global, problem: &Problem) -> io::Result<Vec<Decision>> {
+    let mut found = Vec::new(alloc);
+    for (t, train) in problem.trains.as_slice().iter().enumerate() {
+        for (p, operation) in train.as_slice().iter().enumerate() {
+            if operation.next.as_slice().len() > 1 {
+                if let Some(next) = operation.next.as_slice().first() {
+                    found.push(Decision::Go { op: Op { train: t as u32, op: p as u32 }, next: *next })?;
+                }
+            }
+        }
+    }
+    Ok(found)
+}
+
+/// How many of these are added and taken back.
+fn try_each(graph: &mut Graph, decisions: &[Decision]) -> u32 {
+    let mut tried = 0u32;
+    for decision in decisions {
+        if try_one(graph, *decision) {
+            tried = tried.saturating_add(1);
+        }
+    }
+    tried
+}
+
+fn try_one(graph: &mut Graph, decision: Decision) -> bool {
+    match graph.extend(decision) {
+        Ok(()) => {
+            graph.undo();
+            true
+        }
+        Err(_) => false,
+    }
+}
+
+fn costs(problem: &Problem, graph: &Graph) -> u64
+    requires { graph.now.problem ≡ problem.now }
+{
+    let mut sum = 0u64;
+    for _ in 0..ROUNDS {
+        sum = sum.saturating_add(cost(problem, graph));
+    }
+    sum
+}
+
+fn bounds(alloc: Global, problem: &Problem, graph: &Graph) -> u64
+    requires { graph.now.problem ≡ problem.now }
+{
+    let mut sum = 0u64;
+    for _ in 0..ROUNDS {
+        match bound(alloc, problem, graph) {
+            Ok(found) => sum = sum.saturating_add(found.cost),
+            Err(_) => {}
+        }
+    }
+    sum
+}
+
+fn per(time: Duration, count: u32) -> f64 {
+    time.as_secs_f64() * 1e6 / f64::from(count)
+}
+
+/// Adds those that are not refused.
+fn add_each(graph: &mut Graph, decisions: &[Decision]) -> u32 {
+    let mut added = 0u32;
+    for decision in decisions {
+        if graph.extend(*decision).is_ok() {
+            added = added.saturating_add(1);
+        }
+    }
+    added
+}
+
+fn measure(rt: &(impl Clock + Print + AllocGlobal), trains: u32, bytes: &[u8]) -> io::Result<()> {
+    let alloc = rt.alloc();
+    let Ok(problem) = read_problem(alloc, bytes) else {
+        return println!(rt; "no problem");
+    };
+    let Ok(mut graph) = Graph::new(alloc, &problem, &[]) else {
+        return println!(rt; "no graph");
+    };
+    let orders = orders(alloc, &problem)?;
+    let half = orders.len() / 2;
+    let start = Instant::now(rt)?;
+    let decided = add_each(&mut graph, &orders[..half]);
+    let adding = per(start.elapsed(rt)?, decided);
+    let start = Instant::now(rt)?;
+    let tried = try_each(&mut graph, &orders[half..]);
+    let ordering = per(start.elapsed(rt)?, tried);
+    let forks = forks(alloc, &problem)?;
+    let start = Instant::now(rt)?;
+    let gone = try_each(&mut graph, &forks);
+    let going = per(start.elapsed(rt)?, gone);
+    let start = Instant::now(rt)?;
+    let first = costs(&problem, &graph);
+    let costing = per(start.elapsed(rt)?, ROUNDS);
+    let start = Instant::now(rt)?;
+    let second = bounds(alloc, &problem, &graph);
+    let bounding = per(start.elapsed(rt)?, ROUNDS);
+    println!(rt; "{trains} trains, {decided} orders added in {adding:.2} each; {tried} orders {ordering:.2}, {gone} successors {going:.2}, cost {costing:.2}, bound {bounding:.2} ({first}, {second})")
+}
+
+fn run(rt: HostRuntime, trains: u32, name: &str) -> io::Result<()> {
+    let mut shelf = FileShelf::new(rt.alloc(), rt);
+    let Ok(bytes) = shelf.fetch(rt.alloc(), name, 100000000) else {
+        return println!(&rt; "no file");
+    };
+    measure(&rt, trains, &bytes)
+}
+
+fn main(rt: HostRuntime) -> io::Result<()> {
+PROGRAM
+for trains in "${sizes[@]}"; do
+    echo "    run(rt, $trains, \"$PWD/problem$trains.json\")?;" >> src/main.rt
+done
+printf '    Ok(())\n}\n' >> src/main.rt
+mkdir -p proofs/measure
+${BENCH_RUN:-run_scratch}
