@@ -9,11 +9,12 @@ use Rattle.disp_model.specs.declared.train.Component.{Component}
 use Rattle.disp_model.specs.declared.problem.Problem.{Problem}
 use Rattle.disp_model.specs.declared.tree.ComponentWalk.{ComponentWalk}
 use Rattle.disp_model.specs.declared.tree.Leaf.TheVariants.{Costs}
+use Rattle.disp_model.specs.declared.tree.Verdict.TheVariants.{Optimal}
 use Rattle.disp_model.specs.WellFormed.{horizon, most_of}
 use Rattle.disp_model.specs.Cost.{cost_at}
 use Rattle.disp_model.specs.Node.{Node}
 use Rattle.disp_model.specs.Nodes.{component_op, AddsForced, ForcedAddUp}
-use Rattle.disp_model.specs.Trees.{WalkCosts, WalksCost, HaveDistinct, FitsOp, FitsLeaf}
+use Rattle.disp_model.specs.Trees.{WalkCosts, WalksCost, HaveDistinct, LeafHolds, FitsOp, FitsLeaf}
 use Rattle.disp_laws.proofs.Numbered.{below_count}
 use Rattle.disp_laws.proofs.LongestWalks.{adds_same}
 use Rattle.train_orders.proofs.Places.{get_push_cases}
@@ -22,7 +23,7 @@ use Rattle.cost_bound.specs.declared.arrival.Arrival.{Arrival}
 use Rattle.cost_bound.specs.declared.shown.Bound.{Bound}
 use Rattle.cost_bound.specs.Arrivals.{IsArrival}
 use Rattle.cost_bound.specs.Shortened.{NamesEnds}
-use Rattle.cost_bound.specs.Bounds.{IsLongWalk, AddsCost, IsBoundTo}
+use Rattle.cost_bound.specs.Bounds.{IsLongWalk, AddsCost, AreInOrder, IsBoundTo}
 use Rattle.cost_bound.proofs.Summing.{add_up_more, most_more}
 use Rattle.cost_bound.proofs.Walking.{walk_there}
 
@@ -35,17 +36,20 @@ costs_end node (v ∷ walks) w sum cost is costs = (is.0, is.1 + cost, is.2, cos
 below_at : (walks : List ComponentWalk) (count i : ℕ) (v : ComponentWalk) → All (λ w. w.component < count) walks → slice_get walks i ≡ Some v → v.component < count
 below_at walks count i v below at = subst (λ (w : ComponentWalk). w.component < count) (get_or_from_slice_get walks i v v at) (below i v (slice_get_within walks i v at))
 
-distinct_end : (walks : List ComponentWalk) (w : ComponentWalk) (count : ℕ) → HaveDistinct walks → All (λ v. v.component < count) walks → w.component ≡ count → HaveDistinct (walks ++ w ∷ [])
-distinct_end walks w count distinct below is i j v x lt one other same = elim (get_push_cases walks w x j other) [
+order_end : (walks : List ComponentWalk) (w : ComponentWalk) (count : ℕ) → AreInOrder walks → All (λ v. v.component < count) walks → w.component ≡ count → AreInOrder (walks ++ w ∷ [])
+order_end walks w count order below is i j v x lt one other = elim (get_push_cases walks w x j other) [
   | inl there ↦ elim (get_push_cases walks w v i one) [
-    | inl here ↦ distinct i j v x lt here there same
-    | inr last ↦ omega (arith, lt, last.0, slice_get_within walks j x there)
+    | inl here ↦ order i j v x lt here there
+    | inr last ↦ absurd (omega (arith, lt, last.0, slice_get_within walks j x there))
   ]
   | inr last ↦ elim (get_push_cases walks w v i one) [
-    | inl here ↦ let own = ap (λ (y : ComponentWalk). y.component) last.1 in omega (arith, below_at walks count i v below here, own, is, same)
-    | inr first ↦ omega (arith, lt, first.0, last.0)
+    | inl here ↦ let own = ap (λ (y : ComponentWalk). y.component) last.1 in omega (arith, below_at walks count i v below here, own, is)
+    | inr first ↦ absurd (omega (arith, lt, first.0, last.0))
   ]
 ]
+
+pub distinct_by_order : (walks : List ComponentWalk) → AreInOrder walks → HaveDistinct walks
+distinct_by_order walks order i j v w lt one other same = omega (arith, order i j v w lt one other, same)
 
 -- ---- one component more
 
@@ -65,7 +69,7 @@ bound_same node place c bound at before adds =
       adds = subst (ForcedAddUp node (take (place + 1) components)) same (add_up_more node components place c bound.cost 0 lt before.adds (at_place node place c 0 at adds));
       most = omega (arith, most_more (horizon node.problem.trains) components place c bound.cost 0 lt before.most (omega arith));
       costs = before.costs;
-      distinct = before.distinct;
+      order = before.order;
       below = All-weaker (λ w. w.component < place) (λ w. w.component < place + 1) (λ w small. omega (arith, small)) bound.walks before.below;
       each = before.each;
       long = omega (arith, before.long);
@@ -91,11 +95,14 @@ bound_more node place c bound arrival w walks at before arrives some is long sho
       adds = add_up_more node components place c bound.cost arrival.cost lt before.adds (at_place node place c arrival.cost at (inl (arrives.total, arrives.forced, arrives.longest, arrives.cost_is)));
       most = most_more (horizon node.problem.trains) components place c bound.cost arrival.cost lt before.most (most_at node place c arrival.cost at arrives.most);
       costs = costs_end node bound.walks w bound.cost arrival.cost before.costs own;
-      distinct = distinct_end bound.walks w place before.distinct before.below is;
+      order = order_end bound.walks w place before.order before.below is;
       below = All-push (λ v. v.component < place + 1) bound.walks w (All-weaker (λ v. v.component < place) (λ v. v.component < place + 1) (λ v small. omega (arith, small)) bound.walks before.below) (omega (arith, is));
       each = All-push (AddsCost node) bound.walks w before.each adding;
       long = omega (arith, before.long, length-append bound.walks (w ∷ []));
     })
+
+pub bound_reaches : (node : Node) (count : ℕ) (bound : Bound) (least : ℕ) → IsBoundTo node count bound → least ≤ bound.cost → LeafHolds node (Optimal least) (Costs bound.walks)
+bound_reaches node count bound least is enough = inr (record { distinct = distinct_by_order bound.walks is.order; sum = bound.cost; sum_is = is.costs; enough = enough })
 
 -- ---- what the walks name fits
 

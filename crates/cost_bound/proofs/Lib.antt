@@ -3,3 +3,4 @@ pub mod Summing
 pub mod Ending
 pub mod Walking
 pub mod Bounding
+pub mod Examples

@@ -3,7 +3,7 @@ ghost use Rattle.disp_model.specs.declared.tree.Leaf.TheVariants.{Costs};
 ghost use Rattle.disp_model.specs.declared.tree.Verdict.TheVariants.{Optimal};
 ghost use Rattle.disp_model.specs.Nodes.{IsForcedBound};
 ghost use Rattle.disp_model.specs.Trees.{WalksCost, HaveDistinct, LeafHolds, FitsLeaf};
-ghost use Rattle.cost_bound.specs.Bounds.{AddsCost, IsBoundTo};
+ghost use Rattle.cost_bound.specs.Bounds.{AddsCost, AreInOrder, IsBoundTo};
 
 use crate::arrival::arrival_of;
 use crate::shown::Bound;
@@ -45,6 +45,7 @@ pub fn bound(alloc: Global, problem: &Problem, graph: &Graph) -> Result<Bound, M
     requires { graph.now.problem ≡ problem.now }
     ensures cost { IfOk result (λ bound. IsForcedBound graph.now bound.cost) }
     ensures costs { IfOk result (λ bound. WalksCost graph.now bound.walks bound.cost) }
+    ensures order { IfOk result (λ bound. AreInOrder bound.walks) }
     ensures distinct { IfOk result (λ bound. HaveDistinct bound.walks) }
     ensures each { IfOk result (λ bound. All (AddsCost graph.now) bound.walks) }
     ensures leaf { IfOk result (λ bound. (least : ℕ) → least ≤ bound.cost
