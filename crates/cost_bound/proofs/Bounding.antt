@@ -109,11 +109,15 @@ bound_reaches node count bound least is enough = inr (record { distinct = distin
 fits_op : (problem : Problem) (o : Op) → HasOperation problem o → FitsOp o
 fits_op problem o op = (omega (arith, op.train, problem.well_formed.trains_fit), omega (arith, below_count problem o op.train op.op, problem.well_formed.operations_fit))
 
+-- operations of a problem have numbers that can be written
+pub ops_fit : (problem : Problem) (ops : List Op) → All (HasOperation problem) ops → All FitsOp ops
+ops_fit problem ops there = All-weaker (HasOperation problem) FitsOp (fits_op problem) ops there
+
 pub bound_fits : (node : Node) (count : ℕ) (bound : Bound) → IsBoundTo node count bound → FitsLeaf (Costs bound.walks)
 bound_fits node count bound is = (
   omega (arith, is.long, is.there, node.problem.well_formed.components_fit),
   λ k w lt. (
     omega (arith, is.below k w lt, is.there, node.problem.well_formed.components_fit),
-    let costs = (is.each k w lt).costs in All-weaker (HasOperation node.problem) FitsOp (fits_op node.problem) _ (walk_there node _ costs.total costs.is_walk),
+    let costs = (is.each k w lt).costs in ops_fit node.problem _ (walk_there node _ costs.total costs.is_walk),
   ),
 )

@@ -8,8 +8,8 @@ use Rattle.disp_model.specs.declared.train.Op.{Op}
 use Rattle.disp_model.specs.Numbers.{number_of}
 use Rattle.disp_model.specs.Node.{Node}
 use Rattle.disp_model.specs.Valid.{train_at}
-use Rattle.disp_model.specs.Nodes.{HasLate}
-use Rattle.disp_model.specs.Routes.{IsForced}
+use Rattle.disp_model.specs.Nodes.{HasLate, IsDead}
+use Rattle.disp_model.specs.Routes.{HasRoute, IsForced}
 use Rattle.disp_model.specs.Walks.{WalksOn, IsWalk, EndsIn, IsLongest, HasCycle, lower_of, upper_of}
 use Rattle.disp_laws.proofs.Numbered.{each_number}
 use Rattle.disp_laws.proofs.LongestWalks.{longest_walk, from_once}
@@ -54,7 +54,7 @@ ends_forced node u walked (v ∷ rest) total forced on o ends = later ends.0 end
     later [] e go = absurd cc
     later (x ∷ front) e go = go (front, cc e)
 
-longest_forced : (node : Node) (o : Op) (total : ℕ) → IsLongest node o total → IsForced node o
+pub longest_forced : (node : Node) (o : Op) (total : ℕ) → IsLongest node o total → IsForced node o
 longest_forced node o total longest = from longest.reached.0 longest.reached.1 longest.reached.3
   where
     from : (walk : List Op) → EndsIn walk o → IsWalk node walk total → IsForced node o
@@ -127,11 +127,17 @@ late_where_closed node closed o are has forced =
     }
 
 module _ (node : Node) (arcs : List Arc) (lowers : List ℕ) (uppers : List (Option ℕ)) (arcs_are : AreArcsOf node arcs) (lowers_are : AreLowersOf node lowers) (uppers_are : AreUppersOf node.problem node.fixings uppers) (no_cycle : HasCycle node → ⊥) where
-  -- where no number is above its upper, late is what must be run and may start at no time
-  pub none_late_or_closed : (closed : List Op) (found : Option Op) → AreClosedOf node.problem node.fixings closed → ((number : ℕ) → IsAbove lowers arcs uppers number → ⊥)
-      → MatchOption found ((o : Op) → Contains closed o → IsForced node o → ⊥) (λ o. Contains closed o × IsForced node o) → MatchOption found (HasLate node → ⊥) (IsLateAt node)
-  none_late_or_closed closed (Some o) are none is = late_where_closed node closed o are is.0 is.1
-  none_late_or_closed closed None are none is = λ late. elim (late_is_told node arcs lowers uppers arcs_are lowers_are uppers_are no_cycle closed are late) [
-    | inl above ↦ none (number_of node.problem late.operation) above
-    | inr forced ↦ is late.operation forced.0 forced.1
+  -- where each train has a route and no number is above its upper, only what must be run and may start at no time is late
+  pub none_late_or_closed : ((t : ℕ) → t < length node.problem.trains → HasRoute node t) → (closed : List Op) (found : Option Op) → AreClosedOf node.problem node.fixings closed → ((number : ℕ) → IsAbove lowers arcs uppers number → ⊥)
+      → MatchOption found ((o : Op) → Contains closed o → IsForced node o → ⊥) (λ o. Contains closed o × IsForced node o) → MatchOption found (IsDead node → ⊥) (IsLateAt node)
+  none_late_or_closed routes closed (Some o) are none is = late_where_closed node closed o are is.0 is.1
+  none_late_or_closed routes closed None are none is = λ dead. elim dead [
+    | inl without ↦ without.2 (routes without.0 without.1)
+    | inr more ↦ elim more [
+      | inl cycle ↦ no_cycle cycle
+      | inr late ↦ elim (late_is_told node arcs lowers uppers arcs_are lowers_are uppers_are no_cycle closed are late) [
+        | inl above ↦ none (number_of node.problem late.operation) above
+        | inr forced ↦ is late.operation forced.0 forced.1
+      ]
+    ]
   ]

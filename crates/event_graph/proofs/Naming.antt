@@ -50,7 +50,8 @@ closed_there : (node : Node) (first u : Op) (rest : List Op) → ClosesTo node f
 closed_there node first u [] closes = All-cons (HasOperation node.problem) u [] (forced_is_op node u closes.1.from_forced) (All-nil (HasOperation node.problem))
 closed_there node first u (v ∷ rest) closes = All-cons (HasOperation node.problem) u (v ∷ rest) (forced_is_op node u closes.0.1.from_forced) (closed_there node first v rest closes.1)
 
-cycle_there : (node : Node) (ops : List Op) → IsCycle node ops → All (HasOperation node.problem) ops
+-- a cycle names operations of the problem
+pub cycle_there : (node : Node) (ops : List Op) → IsCycle node ops → All (HasOperation node.problem) ops
 cycle_there node [] cycle = absurd cycle
 cycle_there node (u ∷ []) cycle = absurd cycle
 cycle_there node (u ∷ v ∷ rest) cycle = closed_there node u u (v ∷ rest) cycle

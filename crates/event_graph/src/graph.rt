@@ -4,7 +4,7 @@ ghost use Rattle.disp_model.specs.Numbers.{number_of};
 ghost use Rattle.disp_model.specs.Node.{node_at, with_decision};
 ghost use Rattle.disp_model.specs.Routes.{HasRoute};
 ghost use Rattle.disp_model.specs.Walks.{HasCycle};
-ghost use Rattle.disp_model.specs.Nodes.{HasLate};
+ghost use Rattle.disp_model.specs.Nodes.{IsDead};
 ghost use Rattle.route_sets.specs.Sets.{AreRoutesOf};
 ghost use Rattle.event_arcs.specs.Listed.{AreArcsOf, AreLowersOf};
 ghost use Rattle.event_windows.specs.Operations.{HasOperation};
@@ -130,9 +130,9 @@ impl<'p> Graph<'p> {
     }
 
     /// An operation that is late: its longest walk is longer than the time until which it may start.
-    /// `None` where there is none. It takes no memory.
+    /// `None` where there is none; then the node is not dead. It takes no memory.
     pub fn late(&self) -> Option<Op>
-        ensures { MatchOption result (¬ HasLate self.now) (IsLateAt self.now) }
+        ensures { MatchOption result (¬ IsDead self.now) (IsLateAt self.now) }
     {
         match self.parts.paths.late() {
             Some(number) => Some(self.ops[number as usize]),

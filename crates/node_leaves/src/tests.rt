@@ -1,0 +1,76 @@
+// A train of one operation, which may start from 5 on, but until 4 only; and no train at all.
+ghost use Rattle.std.specs.Prelude.{◌≡◌, IfOk};
+
+use crate::{NodeLeaf, child_leaf, leaf_of};
+use disp_model::{Decision, Leaf, List, Memory, Op, Operation, Problem};
+use event_graph::Graph;
+use std::alloc::Global;
+use std::process::Abort;
+use std::test::Fail;
+
+fn alone(alloc: Global) -> Result<Problem, Memory> {
+    let operation = Operation {
+        lower: 5,
+        upper: Some(4),
+        min: 0,
+        listings: List::new(alloc),
+        next: List::new(alloc),
+    };
+    let train = List::from_vec(vec![in alloc; operation]?);
+    Ok(Problem {
+        trains: List::from_vec(vec![in alloc; train]?),
+        components: List::new(alloc),
+        names: List::new(alloc),
+    })
+}
+
+fn empty(alloc: Global) -> Problem {
+    Problem {
+        trains: List::new(alloc),
+        components: List::new(alloc),
+        names: List::new(alloc),
+    }
+}
+
+fn root<'p>(alloc: Global, problem: &'p Problem) -> Result<Graph<'p>, Fail>
+    ensures { IfOk result (λ graph. graph.problem ≡ problem.now) }
+{
+    match Graph::new(alloc, problem, &[]) {
+        Ok(graph) => Ok(graph),
+        Err(_) => Err(Fail::from("no graph")),
+    }
+}
+
+/// The kind of a leaf, and its bound.
+fn shown(leaf: &NodeLeaf) -> (&'static str, u64) {
+    match leaf {
+        NodeLeaf::Open(bound) => ("open", bound.cost),
+        NodeLeaf::Dead(Leaf::NoRoute) => ("no route", 0),
+        NodeLeaf::Dead(Leaf::Cycle(_)) => ("cycle", 0),
+        NodeLeaf::Dead(Leaf::Late(_)) => ("late", 0),
+        NodeLeaf::Dead(_) => ("other", 0),
+    }
+}
+
+/// What a problem shows where nothing is decided, and where an operation is skipped.
+fn check(
+    rt: &impl Abort,
+    alloc: Global,
+    problem: &Problem,
+    wanted: &str,
+    skipped: &str,
+) -> Result<(), Fail> {
+    let mut graph = root(alloc, problem)?;
+    assert_eq!(rt; shown(&leaf_of(alloc, problem, &graph)?), (wanted, 0));
+    let decision = Decision::Skip(Op { train: 0, op: 0 });
+    let child = child_leaf(alloc, problem, &mut graph, decision)?;
+    assert_eq!(rt; shown(&child), (skipped, 0));
+    assert_eq!(rt; graph.decisions().len(), 0);
+    Ok(())
+}
+
+#[test]
+fn nodes_are_dead_or_have_bounds(rt: HostRuntime) -> Result<(), Fail> {
+    check(&rt, rt.alloc(), &alone(rt.alloc())?, "late", "no route")?;
+    check(&rt, rt.alloc(), &empty(rt.alloc()), "open", "open")
+}
