@@ -42,7 +42,7 @@ pub(crate) fn walk_to(alloc: Global, graph: &Graph, number: u32) -> Result<List<
 
 /// A walk to an operation that its train must run, as long as the longest. It names only where it
 /// enters trains and where it leaves them. Fails for memory alone.
-pub fn walk(alloc: Global, graph: &Graph, op: Op) -> Result<List<Op>, Memory>
+pub fn longest_walk(alloc: Global, graph: &Graph, op: Op) -> Result<List<Op>, Memory>
     requires { IsForced graph.now op }
     ensures walk { IfOk result (IsLongWalk graph.now op) }
     ensures short { IfOk result NamesEnds }

@@ -1,6 +1,6 @@
 -- A train of one operation is well formed, and so are no trains, for the tests.
 use Rattle.std.proofs.Common.{◌≡◌, ◌≢◌, ℕ, zero, suc, ◌<◌, List, [], ◌∷◌, Some, refl, sym, ◌∙◌, arith, rules}
-use Rattle.std.specs.Prelude.{Contains, slice_get}
+use Rattle.std.specs.Prelude.{slice_get}
 use Rattle.std.proofs.lemmas.List.Elements.{All-from_recursion}
 use Rattle.plain_values.proofs.Lists.{contains_none}
 use Rattle.disp_model.specs.declared.train.Operation.{Operation}

@@ -3,7 +3,7 @@ ghost use Rattle.disp_model.specs.Node.{with_decision};
 ghost use Rattle.node_leaves.specs.Shown.{IsLeafOf};
 
 use crate::refused::refused_leaf;
-use cost_bound::{Bound, bound, walk};
+use cost_bound::{Bound, bound, longest_walk};
 use disp_model::{Decision, Leaf, Memory, Problem};
 use event_graph::Graph;
 use std::alloc::Global;
@@ -25,7 +25,7 @@ pub fn leaf_of(alloc: Global, problem: &Problem, graph: &Graph) -> Result<NodeLe
     ensures { IfOk result (IsLeafOf graph.now) }
 {
     match graph.late() {
-        Some(op) => Ok(NodeLeaf::Dead(Leaf::Late(walk(alloc, graph, op)?))),
+        Some(op) => Ok(NodeLeaf::Dead(Leaf::Late(longest_walk(alloc, graph, op)?))),
         None => Ok(NodeLeaf::Open(bound(alloc, problem, graph)?)),
     }
 }
