@@ -44,7 +44,7 @@ pub struct Graph<'p> {
 impl<'p> Model for Graph<'p> {
     ghost use Rattle.disp_model.specs.Node.{Node, node_at};
     ghost use Rattle.event_graph.specs.Late.{IsLateAt};
-ghost use Rattle.event_graph.specs.Graphs.{IsGraph};
+    ghost use Rattle.event_graph.specs.Graphs.{IsGraph};
 
     ghost Value = { Node };
 

@@ -22,7 +22,10 @@ pub(crate) fn above_among(paths: &Paths, uppers: &[Option<u64>], nodes: &[u32]) 
     requires there { All (IsNode paths.now) nodes.now }
     ensures { TellsAmong nodes.now paths.now.lowers paths.now.arcs uppers.now result }
 {
-    nodes.iter().copied().find(|node| is_above(paths, uppers, *node))
+    nodes
+        .iter()
+        .copied()
+        .find(|node| is_above(paths, uppers, *node))
 }
 
 /// The first of `count` nodes, which are all, whose length is above its upper.
@@ -40,11 +43,7 @@ pub(crate) fn first_above(paths: &Paths, uppers: &[Option<u64>], count: u32) -> 
 }
 
 /// A node whose length is above its upper, where that was told before lengths changed.
-pub(crate) fn above_now(
-    before: Option<u32>,
-    paths: &Paths,
-    uppers: &[Option<u64>],
-) -> Option<u32>
+pub(crate) fn above_now(before: Option<u32>, paths: &Paths, uppers: &[Option<u64>]) -> Option<u32>
     requires nodes { length uppers.now ≡ length paths.now.lowers }
     ensures { (old : Network) → TellsChanged old paths.now
         → TellsAbove old.lowers old.arcs uppers.now before
