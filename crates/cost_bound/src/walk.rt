@@ -26,8 +26,8 @@ fn named(alloc: Global, graph: &Graph, numbers: &[u32]) -> Result<Vec<Op>, Memor
     Ok(ops)
 }
 
-/// A walk to the operation of a number, which is forced, as long as its longest. It names only where
-/// it enters trains and where it leaves them.
+/// A walk to the operation of a number, which is forced, as long as its longest. It names only
+/// where it enters trains and where it leaves them.
 pub(crate) fn walk_to(alloc: Global, graph: &Graph, number: u32) -> Result<List<Op>, Memory>
     requires { (o : OpOf) × IsForced graph.now o × (number ≡ number_of graph.now.problem o) }
     ensures walk { (o : OpOf) → IsForced graph.now o → number ≡ number_of graph.now.problem o

@@ -37,10 +37,10 @@ fn add(
     Ok(())
 }
 
-/// What the forced components of a node of the problem add up to, as `cost` says it, with a walk for
-/// each component that adds to it and for no other, in their order. A walk names only where it
-/// enters trains and where it leaves them; it costs time of what it passes and of the arcs into
-/// that. Fails for memory alone.
+/// What the forced components of a node of the problem add up to, as `cost` says it, with a walk
+/// for each component that adds to it and for no other, in their order. A walk names only where it
+/// enters trains and where it leaves them; it takes time linear in the operations that it passes
+/// and the arcs into them. Fails for memory alone.
 pub fn bound(alloc: Global, problem: &Problem, graph: &Graph) -> Result<Bound, Memory>
     requires { graph.now.problem ≡ problem.now }
     ensures cost { IfOk result (λ bound. IsForcedBound graph.now bound.cost) }

@@ -1,4 +1,4 @@
-use Rattle.std.proofs.Common.{◌^◌, ◌<◌, ◌∷◌, ◌++◌, [], arith}
+use Rattle.std.proofs.Common.{◌^◌, ◌<◌, ◌∷◌, [], arith}
 use Rattle.std.proofs.lemmas.List.Elements.{All-cons, All-nil}
 use Rattle.incremental_paths.specs.declared.arc.Arc.{Arc}
 use Rattle.incremental_paths.proofs.Bounds.{few_short}
