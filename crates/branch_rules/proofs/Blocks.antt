@@ -1,17 +1,12 @@
 -- Two trains on one block are well formed, and the routes of all trains are those of a node, for the tests.
-use Rattle.std.proofs.Common.{◌≡◌, ◌≢◌, ◌∙◌, ℕ, zero, suc, ◌<◌, List, [], ◌∷◌, ◌++◌, length, Some, None, refl, sym, subst, inl, inr, arith, rules}
+use Rattle.std.proofs.Common.{◌≡◌, ◌≢◌, ℕ, zero, suc, ◌<◌, List, [], ◌∷◌, Some, None, refl, arith, rules}
 use Rattle.std.specs.Prelude.{slice_get}
 use Rattle.std.proofs.lemmas.List.Elements.{All-from_recursion}
-use Rattle.std.proofs.lemmas.Option.{none-some}
 use Rattle.disp_model.specs.declared.train.Operation.{Operation}
 use Rattle.disp_model.specs.Train.{IsSuccessor, IsEntry, IsExit}
 use Rattle.disp_model.specs.WellFormed.{IsWellFormed, IsAcyclic}
-use Rattle.disp_model.specs.Node.{Node}
-use Rattle.train_orders.proofs.Places.{contains_none, get_push_cases}
-use Rattle.route_sets.specs.declared.routes.Routes.{Routes}
-use Rattle.route_sets.specs.Sets.{AreRoutesOf}
+use Rattle.train_orders.proofs.Places.{contains_none}
 use Rattle.route_sets.proofs.Forks.{acyclic, one_in, one_once}
-use Rattle.branch_rules.specs.Picks.{AreRoutesAt}
 
 -- ---- two trains on one block
 
@@ -60,14 +55,3 @@ two_made name = record {
   components_fit = omega arith;
   costs_fit = omega arith;
 }
-
--- ---- the routes of all trains
-
-pub no_routes : (node : Node) → AreRoutesAt node []
-no_routes node t own at = absurd (none-some own at)
-
-pub one_set_more : (node : Node) (count : ℕ) (routes : List Routes) (own : Routes) → length routes ≡ count → AreRoutesAt node routes → AreRoutesOf node count own → AreRoutesAt node (routes ++ own ∷ [])
-one_set_more node count routes own long are here t other at = elim (get_push_cases routes own other t at) [
-  | inl before ↦ are t other before
-  | inr last ↦ subst (AreRoutesOf node t) last.1 (subst (λ (n : ℕ). AreRoutesOf node n own) (sym (last.0 ∙ long)) here)
-]

@@ -2,3 +2,4 @@ mod Blocks
 mod Ending
 mod Looking
 mod Picking
+pub mod Shown

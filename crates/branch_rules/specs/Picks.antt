@@ -1,22 +1,10 @@
--- Nodes of the search that routes and paths show, at which a choice is picked.
-use Rattle.std.specs.Prelude.{◌≡◌, ℕ, ◌<◌, List, [], Some, slice_get, slice_index_or}
+-- What is found of the trains' routes at a node, and what is picked there.
+use Rattle.std.specs.Prelude.{ℕ, ◌<◌, List, [], Some, None, slice_index_or}
 use Rattle.disp_model.specs.Node.{Node}
-use Rattle.disp_model.specs.Nodes.{IsDead}
 use Rattle.disp_model.specs.Routes.{HasRoute, HasOneRoute}
-use Rattle.incremental_paths.specs.Network.{Network}
-use Rattle.route_sets.specs.declared.routes.Routes.{Routes}
-use Rattle.route_sets.specs.Sets.{AreRoutesOf}
-use Rattle.plan_builder.specs.Shown.{ShowsNode}
-
--- each of the sets is of the routes that are allowed to the train of its place
-abbrev pub AreRoutesAt : Node → List Routes → Type 0
-AreRoutesAt node routes = (t : ℕ) (own : Routes) → slice_get routes t ≡ Some own → AreRoutesOf node t own
-
--- a node that is not dead, with the routes of its trains, and paths over its operations
-pub record IsShown (node : Node) (routes : List Routes) (network : Network) : Type 0 where
-  pub routes_are : AreRoutesAt node routes
-  pub alive : IsDead node → ⊥
-  pub shows : ShowsNode node network
+use Rattle.disp_model.specs.Earliest.{IsEarliest, IsFixedPick}
+use Rattle.branch_rules.specs.declared.pick.Pick.{Pick}
+use Rattle.branch_rules.specs.declared.pick.Pick.TheVariants.{Choice, Plan}
 
 -- of these first trains each that has a route has one alone
 abbrev pub AreAlone : Node → ℕ → Type 0
@@ -29,3 +17,8 @@ AreTheOnly node count found = (t : ℕ) → t < count → HasOneRoute node t (sl
 -- some of these first trains has not one route alone
 abbrev pub IsSomeNotAlone : Node → ℕ → Type 0
 IsSomeNotAlone node count = (t : ℕ) × (t < count) × ((route : List ℕ) → HasOneRoute node t route → ⊥)
+
+-- what the fixed rule finds: the choice that is picked, or that none is, and the plan of earliest starts
+abbrev pub IsPickAt : Node → Pick → Type 0
+IsPickAt node (Choice choice) = IsFixedPick node (Some choice)
+IsPickAt node (Plan plan) = IsFixedPick node None × IsEarliest node plan

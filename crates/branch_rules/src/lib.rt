@@ -2,7 +2,8 @@
 //!
 //! `pick_fixed` answers the choice of the fixed rule: the fork of the first train with two routes,
 //! in one look at each operation; else the first pair of operations that clash in the earliest
-//! plan, in a look at the events that start while one holds resources. `children` lists decisions.
+//! plan, in a look at the events that start while one holds resources; else that plan, which is
+//! valid. `children` lists decisions.
 #![tactic(auto)]
 
 mod child;
@@ -12,7 +13,7 @@ mod pick;
 mod sweep;
 
 pub use child::children;
-pub use pick::pick_fixed;
+pub use pick::{Pick, pick_fixed};
 
 #[cfg(test)]
 mod tests;

@@ -1,0 +1,12 @@
+pub mod Demanding
+pub mod Placing
+pub mod Summing
+pub mod Allowing
+pub mod Knowing
+pub mod Assembling
+pub mod Stepping
+pub mod Between
+pub mod Sharing
+pub mod Lengths
+pub mod Closing
+pub mod Pricing

@@ -1,0 +1,10 @@
+use Rattle.node_facts.proofs.Summing.{onward_more, onward_all}
+use Rattle.node_facts.proofs.sums.least_onward.Goals as goal
+
+pub loop-next-preserved : goal.loop-next-preserved
+loop-next-preserved c =
+    rw c.lesser-least.ensures
+    (onward_more c.args.places.now c.args.demands.now c.args.sums.now c.args.op c.args.nexts.now c.loop-next.next-index _ c.loop-next.least c.onward.result c.loop-next-test.true c.onward.ensures c.loop-next.invariant)
+
+pub returns : goal.returns
+returns c = onward_all c.args.places.now c.args.demands.now c.args.sums.now c.args.op c.args.nexts.now c.loop-next.next-index c.loop-next.least c.loop-next-test.false c.loop-next.invariant

@@ -1,0 +1,6 @@
+pub mod Demands
+pub mod Ways
+pub mod Known
+pub mod Orders
+pub mod Windows
+pub mod Costs

@@ -1,0 +1,91 @@
+ghost use Rattle.std.specs.Prelude.{◌≡◌, ◌↔◌, IsTrue};
+ghost use Rattle.disp_model.specs.Cost.{cost_at};
+ghost use Rattle.disp_model.specs.Node.{node_at};
+ghost use Rattle.disp_model.specs.Nodes.{component_op};
+ghost use Rattle.disp_model.specs.Walks.{EndsIn};
+ghost use Rattle.node_facts.specs.Orders.{AreKnown};
+ghost use Rattle.node_facts.specs.Costs.{capped, IsWalkCost, IsCostOfAll};
+
+use crate::arcs::is_same;
+use crate::late::end_of;
+use crate::train::TrainKnowledge;
+use crate::walks::walk_length;
+use disp_model::{Component, ComponentWalk, Decision, Fixing, Op, Problem};
+
+/// What a component costs where its operation starts at a time, or the greatest number of 128 bits
+/// where it costs more.
+fn cost_of(component: &Component, time: u128) -> u128
+    ensures { result ≡ capped (cost_at component.now time) }
+{
+    let threshold = u128::from(component.threshold);
+    let late = time.saturating_sub(threshold);
+    let sum = u128::from(component.coeff).saturating_mul(late);
+    if threshold <= time {
+        sum.saturating_add(u128::from(component.increment))
+    } else {
+        sum
+    }
+}
+
+/// Whether a walk ends in the operation of a component.
+pub fn ends_in(walk: &[Op], component: &Component) -> bool
+    ensures { IsTrue result ↔ EndsIn walk.now (component_op component.now) }
+{
+    match end_of(walk) {
+        Some(end) => {
+            let op = Op {
+                train: component.train,
+                op: component.operation,
+            };
+            is_same(end, op)
+        }
+        None => false,
+    }
+}
+
+/// What the component of a walk costs at the walk's length; none where the list is no walk to the
+/// operation of its component.
+fn walk_cost(
+    problem: &Problem,
+    fixings: &[Fixing],
+    decisions: &[Decision],
+    trains: &[TrainKnowledge],
+    listed: &ComponentWalk,
+) -> Option<u128>
+    requires { AreKnown (node_at problem.now fixings.now decisions.now) trains.now }
+    ensures { IsWalkCost (node_at problem.now fixings.now decisions.now) listed.now result }
+{
+    let walk = listed.walk.as_slice();
+    let Some(component) = problem.components.as_slice().get(listed.component as usize) else {
+        return None;
+    };
+    if !ends_in(walk, component) {
+        return None;
+    }
+    match walk_length(problem, fixings, decisions, trains, walk) {
+        Some(total) => Some(cost_of(component, total)),
+        None => None,
+    }
+}
+
+/// What the components of walks cost together; none where one of the lists is no walk to the
+/// operation of its component.
+pub fn walks_cost(
+    problem: &Problem,
+    fixings: &[Fixing],
+    decisions: &[Decision],
+    trains: &[TrainKnowledge],
+    walks: &[ComponentWalk],
+) -> Option<u128>
+    requires { AreKnown (node_at problem.now fixings.now decisions.now) trains.now }
+    ensures { IsCostOfAll (node_at problem.now fixings.now decisions.now) walks.now result }
+{
+    let mut total: u128 = 0;
+    for listed in walks {
+        match walk_cost(problem, fixings, decisions, trains, listed) {
+            Some(cost) => total = total.saturating_add(cost),
+            None => return None,
+        }
+    }
+    Some(total)
+}

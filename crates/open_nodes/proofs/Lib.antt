@@ -1,0 +1,5 @@
+pub mod Places
+pub mod Paths
+pub mod Least
+pub mod Keeping
+pub mod Walking

@@ -1,0 +1,23 @@
+//! The tree of a search while it grows: which leaves are open, and which are out with a searcher.
+//!
+//! `Nodes` is seen as its places by number, what they show, and the newest edition. A leaf is known
+//! dead where what is kept for it says so, and wanted where it is not and its kept bound is below
+//! the best cost, or there is no best. `take` gives a wanted leaf out, the last one grown first,
+//! from a stack, and `give_back` takes it in again. A leaf keeps its parent and one decision, so
+//! decisions are listed only for the work that is taken.
+#![tactic(auto)]
+
+mod child;
+mod nodes;
+mod path;
+mod place;
+mod search;
+mod walk;
+mod work;
+
+pub use nodes::Nodes;
+pub use place::{Above, Errand, Kind, Place};
+pub use work::{Fragment, GiveBack, Growth, Take, Work};
+
+#[cfg(test)]
+mod tests;

@@ -1,0 +1,251 @@
+ghost use Rattle.std.specs.Prelude.{ℕ, ◌≡◌, ◌+◌, ◌≤◌, ◌↔◌, IfOk, OnErr, IsTrue, MatchOption, None, Some, if◌then◌else◌};
+ghost use Rattle.open_nodes.specs.States.{State, one_leaf, allowed_of, allowance_for, IsIn, ForOut, ComesBack, Takes, Sends, MayBeTaken, NoneTakeable, GivesBack, IsLeastBound};
+ghost use Rattle.open_nodes.specs.Preorder.{IsFirstSought, IsFirstUnmarked, preorder};
+
+use crate::path::{decisions, number_out};
+use crate::place::{Kind, Place};
+use crate::search::{count_out, first_takeable, is_ripe, least_bound, pop_takeable};
+use crate::walk::first_sought;
+use crate::work::{GiveBack, Take, Work};
+use disp_model::{Leaf, List, Memory, TreeNode};
+use std::alloc::Global;
+use std::marker::Model;
+
+/// The tree of a search: its places by number, what they show, and the newest edition.
+#[derive(Drop)]
+pub struct Nodes {
+    places: Vec<Place>,
+    kept: Vec<TreeNode>,
+    /// Leaves that may be taken, the last grown last. It is advice: a leaf may be missing, or be
+    /// no more such a leaf.
+    ready: Vec<usize>,
+    edition: u32,
+    allowed: u64,
+}
+
+impl Model for Nodes {
+    ghost use Rattle.open_nodes.specs.States.{State, AreKept};
+
+    ghost Value = { State };
+
+    ghost view = { λ n.
+        record { places = n.places.items; kept = n.kept.items; edition = n.edition } };
+
+    ghost invariant = { λ n. AreKept n.places.items n.edition n.allowed };
+}
+
+impl Nodes {
+    /// One leaf, of number 0, that shows no walks and has the kept bound 0, under edition 0.
+    ///
+    /// # Errors
+    ///
+    /// `Memory` where memory runs out.
+    pub fn new(alloc: Global) -> Result<Nodes, Memory>
+        ensures { IfOk result (λ nodes. nodes ≡ one_leaf) }
+    {
+        let mut places = Vec::new(alloc);
+        places.push(Place {
+            above: None,
+            next: None,
+            shows: 0,
+            kind: Kind::Open,
+            bound: 0,
+            out: None,
+            examined: None,
+        })?;
+        let mut kept = Vec::new(alloc);
+        kept.push(TreeNode::Leaf(Leaf::Costs(List::new(alloc))))?;
+        let mut ready = Vec::new(alloc);
+        ready.push(0)?;
+        Ok(Nodes {
+            places,
+            kept,
+            ready,
+            edition: 0,
+            allowed: 0,
+        })
+    }
+
+    /// The allowances that are out for the newest edition.
+    pub fn allowed(&self) -> u64
+        ensures { result ≡ allowed_of self.now }
+    {
+        self.allowed
+    }
+
+    /// The least kept bound of the leaves that are not known dead, none where all are.
+    pub fn bound(&self) -> Option<u64>
+        ensures { IsLeastBound self.now.places result }
+    {
+        least_bound(&self.places)
+    }
+
+    /// The first wanted leaf in preorder and its kept bound. Takes no memory.
+    pub fn wanted(&self, best: Option<u64>) -> Option<(u128, u64)>
+        ensures { IsFirstSought self.now.places best None (preorder self.now.places) result }
+    {
+        match first_sought(&self.places, best, None) {
+            Some((number, bound)) => Some((number as u128, bound)),
+            None => None,
+        }
+    }
+
+    /// The first wanted leaf in preorder that is not marked for the newest edition. Takes no
+    /// memory.
+    pub fn unexamined(&self, best: Option<u64>) -> Option<u128>
+        ensures { IsFirstUnmarked self.now best result }
+    {
+        match first_sought(&self.places, best, Some(self.edition)) {
+            Some((number, _)) => Some(number as u128),
+            None => None,
+        }
+    }
+
+    /// Takes a leaf out: one that is wanted and in, and where `free` is 0 one that is not marked as
+    /// examined under the newest edition. Its work may grow the less of `want` and `free` branches.
+    /// `seen` is the caller's place in the history, which the work keeps.
+    ///
+    /// # Errors
+    ///
+    /// `Memory` where memory runs out; then nothing has changed.
+    pub fn take(
+        &mut self,
+        alloc: Global,
+        best: Option<u64>,
+        free: u32,
+        want: u32,
+        seen: u64,
+    ) -> Result<Take, Memory>
+        requires room { free + allowed_of self.old ≤ 4294967295 }
+        ensures ok { IfOk result (λ take. Takes self.old best free want seen take self.new) }
+        ensures err { OnErr result (self.new ≡ self.old) }
+    {
+        match self.find(best, free) {
+            Some(number) => {
+                let work = self.send(alloc, number, best, seen, want.min(free))?;
+                Ok(Take::Taken(work))
+            }
+            None => Ok(self.why_none(best)),
+        }
+    }
+
+    /// The number of a leaf that may be taken.
+    fn find(&mut self, best: Option<u64>, free: u32) -> Option<usize>
+        ensures same { self.new ≡ self.old }
+        ensures found { MatchOption result (NoneTakeable self.old.edition best free self.old.places)
+            (λ n. MayBeTaken self.old best free n) }
+    {
+        let number = pop_takeable(&mut self.ready, &self.places, self.edition, best, free);
+        match number {
+            Some(number) => Some(number),
+            None => first_takeable(&self.places, self.edition, best, free),
+        }
+    }
+
+    /// What is answered where no leaf may be taken.
+    fn why_none(&self, best: Option<u64>) -> Take
+        ensures { (free want seen : ℕ) → NoneTakeable self.now.edition best free self.now.places
+            → Takes self.now best free want seen result self.now }
+    {
+        if is_ripe(&self.places, best) {
+            return Take::Ripe;
+        }
+        let out = count_out(&self.places);
+        if out > 0 {
+            Take::AllOut(out)
+        } else {
+            Take::Dry
+        }
+    }
+
+    /// Sends the leaf of a number out.
+    fn send(
+        &mut self,
+        alloc: Global,
+        number: usize,
+        best: Option<u64>,
+        seen: u64,
+        allowance: u32,
+    ) -> Result<Work, Memory>
+        requires room { allowance + allowed_of self.old ≤ 4294967295 }
+        requires inside { IsIn self.old.places number }
+        ensures ok { IfOk result (λ work. (work.node ≡ number)
+            × Sends self.old number best seen allowance work self.new) }
+        ensures err { OnErr result (self.new ≡ self.old) }
+    {
+        let decisions = decisions(alloc, &self.places, number)?;
+        let place = self.places[number];
+        let work = Work {
+            node: number as u128,
+            bound: place.bound,
+            edition: self.edition,
+            decisions,
+            best,
+            seen,
+            allowance,
+        };
+        let out = Some(work.errand());
+        self.places[number] = Place { out, ..place };
+        self.allowed += u64::from(allowance);
+        Ok(work)
+    }
+
+    /// Gives a work back: its leaf is in again, and marked for the work's edition where it was
+    /// examined. Takes no memory.
+    pub fn give_back(&mut self, work: Work, examined: bool) -> GiveBack
+        ensures { GivesBack self.old work examined result self.new }
+    {
+        match number_out(&self.places, &work) {
+            Some(number) => {
+                self.come_back(number, &work, examined);
+                GiveBack::Back
+            }
+            None => GiveBack::Gone(work.node),
+        }
+    }
+
+    /// Takes the leaf of a work in again.
+    fn come_back(&mut self, number: usize, work: &Work, examined: bool)
+        requires number { number ≡ work.now.node }
+        requires out { ForOut self.old.places work.now }
+        ensures { ComesBack self.old work.now examined self.new }
+    {
+        let place = self.places[number];
+        let examined = mark(place, work.edition, examined);
+        self.places[number] = Place {
+            out: None,
+            examined,
+            ..place
+        };
+        self.allowed -= allowance_in(place, self.edition);
+        keep_ready(&mut self.ready, number);
+    }
+}
+
+/// The edition for which a leaf is marked that comes back.
+fn mark(place: Place, edition: u32, examined: bool) -> Option<u32>
+    ensures { result ≡ (if examined then Some edition else place.examined) }
+{
+    if examined {
+        Some(edition)
+    } else {
+        place.examined
+    }
+}
+
+/// The allowance of a place that is out for an edition, else 0.
+fn allowance_in(place: Place, edition: u32) -> u64
+    ensures { result ≡ allowance_for edition place.out }
+{
+    match place.out {
+        Some(errand) if errand.edition == edition => u64::from(errand.allowance),
+        _ => 0,
+    }
+}
+
+/// Puts a leaf on the stack where there is room.
+fn keep_ready(ready: &mut Vec<usize>, number: usize) {
+    if ready.len() < ready.capacity() {
+        ready.push(number).is_ok();
+    }
+}
