@@ -3,3 +3,8 @@ pub mod Paths
 pub mod Least
 pub mod Keeping
 pub mod Walking
+pub mod Grafting
+pub mod Growing
+pub mod Showing
+pub mod Falling
+pub mod Accepting

@@ -1,2 +1,5 @@
 pub mod States
 pub mod Preorder
+pub mod Grafts
+pub mod Shown
+pub mod Filled

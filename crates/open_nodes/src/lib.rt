@@ -3,15 +3,18 @@
 //! `Nodes` is seen as its places by number, what they show, and the newest edition. A leaf is known
 //! dead where what is kept for it says so, and wanted where it is not and its kept bound is below
 //! the best cost, or there is no best. `take` gives a wanted leaf out, the last one grown first,
-//! from a stack, and `give_back` takes it in again. A leaf keeps its parent and one decision, so
-//! decisions are listed only for the work that is taken.
+//! from a stack, `give_back` takes it in again, and `grow` puts a fragment in its place. A leaf
+//! keeps its parent and one decision, so decisions are listed only for the work that is taken.
 #![tactic(auto)]
 
 mod child;
+mod graft;
+pub mod laws;
 mod nodes;
 mod path;
 mod place;
 mod search;
+mod shown;
 mod walk;
 mod work;
 

@@ -1,15 +1,22 @@
-ghost use Rattle.std.specs.Prelude.{ℕ, ◌≡◌, ◌+◌, ◌≤◌, ◌↔◌, IfOk, OnErr, IsTrue, MatchOption, None, Some, if◌then◌else◌};
+ghost use Rattle.std.specs.Prelude.{ℕ, ◌≡◌, ◌+◌, ◌-◌, ◌≤◌, ◌↔◌, ◌<◌, ◌++◌, IfOk, IfErr, OnOk, OnErr, length, slice_get, IsTrue, MatchOption, None, Some, if◌then◌else◌};
 ghost use Rattle.open_nodes.specs.States.{State, one_leaf, allowed_of, allowance_for, IsIn, ForOut, ComesBack, Takes, Sends, MayBeTaken, NoneTakeable, GivesBack, IsLeastBound};
+ghost use Rattle.open_nodes.specs.Grafts.{FillPlaces, GrowsBy, IsGrafted, grown_at, placed, AllStand};
+ghost use Rattle.open_nodes.specs.declared.place.Place.{Place};
+ghost use Rattle.open_nodes.specs.declared.place.Kind.TheVariants.{Branch};
+ghost use Rattle.open_nodes.specs.Shown.{tree_of, leaf_of, fallen, fallen_at, with_edition};
 ghost use Rattle.open_nodes.specs.Preorder.{IsFirstSought, IsFirstUnmarked, preorder};
 
+use crate::graft::{Grafted, graft, put};
 use crate::path::{decisions, number_out};
 use crate::place::{Kind, Place};
 use crate::search::{count_out, first_takeable, is_ripe, least_bound, pop_takeable};
+use crate::shown::{all_shown, index_of, leaf_at};
 use crate::walk::first_sought;
-use crate::work::{GiveBack, Take, Work};
-use disp_model::{Leaf, List, Memory, TreeNode};
+use crate::work::{Fragment, GiveBack, Growth, Take, Work};
+use disp_model::{Leaf, List, Memory, Problem, Tree, TreeNode};
 use std::alloc::Global;
 use std::marker::Model;
+use std::ops::Range;
 
 /// The tree of a search: its places by number, what they show, and the newest edition.
 #[derive(Drop)]
@@ -99,6 +106,26 @@ impl Nodes {
             Some((number, _)) => Some(number as u128),
             None => None,
         }
+    }
+
+    /// The tree in preorder.
+    ///
+    /// # Errors
+    ///
+    /// `Memory` where memory runs out.
+    pub fn tree(&self, alloc: Global) -> Result<Tree, Memory>
+        ensures { IfOk result (λ tree. tree ≡ tree_of self.now) }
+    {
+        all_shown(alloc, &self.places, &self.kept)
+    }
+
+    /// What is kept for the leaf of a number, none where no leaf has it.
+    pub fn leaf(&self, node: u128) -> Option<&Leaf>
+        ensures { MatchOption result (leaf_of self.now node ≡ None)
+            (λ leaf. leaf_of self.now node ≡ Some leaf.now) }
+    {
+        let number = index_of(node, self.places.len())?;
+        leaf_at(&self.places, &self.kept, number)
     }
 
     /// Takes a leaf out: one that is wanted and in, and where `free` is 0 one that is not marked as
@@ -204,6 +231,128 @@ impl Nodes {
         }
     }
 
+    /// Puts a fragment in the place of its leaf: the leaf becomes the fragment's subtree, and the
+    /// children of each branch have the next unused numbers, in the order of the subtree. Gives the
+    /// splits. `problem` is the search's.
+    ///
+    /// # Errors
+    ///
+    /// The fragment and `Memory` where memory runs out; then nothing has changed.
+    pub fn grow(
+        &mut self,
+        alloc: Global,
+        problem: &Problem,
+        fragment: Fragment,
+    ) -> Result<Growth, (Fragment, Memory)>
+        requires { FillPlaces problem.now 1 fragment.subtree fragment.bounds }
+        ensures ok { IfOk result (λ growth.
+            GrowsBy problem.now self.old fragment growth self.new) }
+        ensures back { IfErr result (λ no. no.0 ≡ fragment) }
+        ensures err { OnErr result (self.new ≡ self.old) }
+    {
+        let Some(number) = number_out(&self.places, &fragment.work) else {
+            return Ok(Growth::Gone(fragment.work.node));
+        };
+        let made = match self.made(alloc, problem, number, &fragment) {
+            Ok(made) => made,
+            Err(memory) => return Err((fragment, memory)),
+        };
+        let Grafted { grown, splits } = made;
+        let Fragment {
+            work,
+            subtree,
+            bounds,
+        } = fragment;
+        match self.put(number, &grown, subtree) {
+            Ok(()) => Ok(Growth::Grown(splits)),
+            Err(subtree) => Err((
+                Fragment {
+                    work,
+                    subtree,
+                    bounds,
+                },
+                Memory,
+            )),
+        }
+    }
+
+    /// What the leaf of a number makes of a fragment.
+    fn made(
+        &self,
+        alloc: Global,
+        problem: &Problem,
+        number: usize,
+        fragment: &Fragment,
+    ) -> Result<Grafted, Memory>
+        requires { number < length self.now.places }
+        ensures { IfOk result (λ made. (place : Place) → slice_get self.now.places number ≡ Some place
+            → IsGrafted (grown_at problem.now self.now number place fragment.now.subtree
+            fragment.now.bounds) made.grown.items made.splits) }
+    {
+        graft(
+            alloc,
+            problem,
+            self.places.len() - 1,
+            self.kept.len(),
+            number,
+            self.places[number],
+            fragment.subtree.as_slice(),
+            fragment.bounds.as_slice(),
+        )
+    }
+
+    /// Puts what the leaf of a number has become, with the nodes that show it.
+    fn put(
+        &mut self,
+        number: usize,
+        grown: &[Place],
+        subtree: List<TreeNode>,
+    ) -> Result<(), List<TreeNode>>
+        requires inside { number < length self.old.places }
+        requires stand { (place : Place) → slice_get self.old.places number ≡ Some place
+            → AllStand (length self.old.places - 1) place.above grown.now }
+        requires some { 0 < length grown.now }
+        ensures ok { OnOk result (self.new ≡ record {
+          places = placed self.old.places number grown.now;
+          kept = self.old.kept ++ subtree;
+          edition = self.old.edition;
+        }) }
+        ensures back { IfErr result (λ nodes. nodes ≡ subtree) }
+        ensures err { OnErr result (self.new ≡ self.old) }
+    {
+        let place = self.places[number];
+        let first = self.places.len();
+        put(&mut self.places, &mut self.kept, number, grown, subtree)?;
+        self.allowed -= allowance_in(place, self.edition);
+        keep_grown(&mut self.ready, number, first..self.places.len());
+        Ok(())
+    }
+
+    /// Sets the newest edition, which is above the newest so far. The leaves stay as they are.
+    pub fn rebase(&mut self, edition: u32)
+        requires { self.old.edition < edition }
+        ensures { self.new ≡ with_edition self.old edition }
+    {
+        self.edition = edition;
+        self.allowed = 0;
+    }
+
+    /// Makes the leaf of a number fall back: it shows the empty list of walks, has the bound 0 and
+    /// is not marked. Where no leaf has the number nothing changes. Takes no memory.
+    pub fn reset(&mut self, node: u128)
+        ensures { self.new ≡ fallen_at self.old node }
+    {
+        let Some(number) = index_of(node, self.places.len()) else {
+            return;
+        };
+        let place = self.places[number];
+        if is_branch(place) {
+            return;
+        }
+        self.places[number] = fallen(place);
+        keep_ready(&mut self.ready, number);
+    }
+
     /// Takes the leaf of a work in again.
     fn come_back(&mut self, number: usize, work: &Work, examined: bool)
         requires number { number ≡ work.now.node }
@@ -219,6 +368,26 @@ impl Nodes {
         };
         self.allowed -= allowance_in(place, self.edition);
         keep_ready(&mut self.ready, number);
+    }
+}
+
+/// Whether a place is a branch.
+fn is_branch(place: Place) -> bool
+    ensures { IsTrue result ↔ (place.kind ≡ Branch) }
+{
+    place.kind == Kind::Branch
+}
+
+/// A leaf as it falls back.
+fn fallen(place: Place) -> Place
+    ensures { result ≡ fallen place }
+{
+    Place {
+        shows: 0,
+        kind: Kind::Open,
+        bound: 0,
+        examined: None,
+        ..place
     }
 }
 
@@ -247,5 +416,13 @@ fn allowance_in(place: Place, edition: u32) -> u64
 fn keep_ready(ready: &mut Vec<usize>, number: usize) {
     if ready.len() < ready.capacity() {
         ready.push(number).is_ok();
+    }
+}
+
+/// Puts a leaf that has grown and its new places on the stack, as far as there is memory.
+fn keep_grown(ready: &mut Vec<usize>, number: usize, fresh: Range<usize>) {
+    ready.push(number).is_ok();
+    for leaf in fresh {
+        ready.push(leaf).is_ok();
     }
 }

@@ -1,0 +1,323 @@
+ghost use Rattle.std.specs.Prelude.{◌≡◌, ◌+◌, ◌-◌, ◌<◌, ◌++◌, [], IfOk, IfErr, OnOk, OnErr, length, slice_get, Some};
+ghost use Rattle.disp_model.specs.Trees.{children_of};
+ghost use Rattle.open_nodes.specs.Grafts.{kind_of, leaf_at, children_at, new_place, next_given, first_or_zero, behind_first, branched, fills_at, fills, IsGraft, IsGrafted, grafted, ungrown, placed};
+
+use crate::child::child;
+use crate::place::{Above, Kind, Place};
+use disp_model::{Choice, Decision, Leaf, List, Memory, Problem, Split, TreeNode};
+use std::alloc::Global;
+
+/// Whether a leaf is known dead.
+fn kind_of(leaf: &Leaf) -> Kind
+    ensures { result ≡ kind_of leaf.now }
+{
+    match leaf {
+        Leaf::NoRoute | Leaf::Cycle(_) | Leaf::Late(_) => Kind::Dead,
+        Leaf::Costs(_) | Leaf::Shares { .. } => Kind::Open,
+    }
+}
+
+/// The first bound, 0 where there is none.
+fn first_or_zero(bounds: &[u64]) -> u64
+    ensures { result ≡ first_or_zero bounds.now }
+{
+    match bounds {
+        [] => 0,
+        [bound, ..] => *bound,
+    }
+}
+
+/// The bounds behind the first.
+fn behind_first<'a>(bounds: &'a [u64]) -> &'a [u64]
+    ensures { result.now ≡ behind_first bounds.now }
+{
+    match bounds {
+        [] => &[],
+        [_, rest @ ..] => rest,
+    }
+}
+
+/// What follows a child: the place of this number where there is another child, else what was behind
+/// the branch.
+fn next_given(another: Option<Decision>, number: usize, behind: Option<usize>) -> Option<usize>
+    ensures { result ≡ next_given another number behind }
+{
+    match another {
+        Some(_) => Some(number),
+        None => behind,
+    }
+}
+
+/// The place of a new leaf.
+fn new_place(parent: usize, decision: Decision, next: Option<usize>) -> Place
+    ensures { result ≡ new_place parent decision next }
+{
+    Place {
+        above: Some(Above { parent, decision }),
+        next,
+        shows: 0,
+        kind: Kind::Open,
+        bound: 0,
+        out: None,
+        examined: None,
+    }
+}
+
+/// The places of the children of a branch, numbered from a number on. The last is followed by what
+/// was behind the branch.
+fn children_at(
+    alloc: Global,
+    problem: &Problem,
+    choice: Choice,
+    parent: usize,
+    first: usize,
+    behind: Option<usize>,
+) -> Result<Vec<Place>, Memory>
+    ensures { IfOk result (λ places. places.items
+        ≡ children_at parent behind first (children_of problem.now choice)) }
+{
+    let mut places = Vec::new(alloc);
+    let mut number = first;
+    for k in 0..usize::MAX {
+        let Some(decision) = child(problem, choice, k) else {
+            return Ok(places);
+        };
+        let Some(after) = number.checked_add(1) else {
+            return Err(Memory);
+        };
+        let next = next_given(child(problem, choice, k + 1), after, behind);
+        places.push(new_place(parent, decision, next))?;
+        number = after;
+    }
+    Err(Memory)
+}
+
+/// Makes a new place a branch, with new leaves for its children, and gives the number of the first.
+fn branch_out(
+    alloc: Global,
+    problem: &Problem,
+    last: usize,
+    grown: &mut Vec<Place>,
+    number: usize,
+    place: Place,
+    shows: usize,
+    choice: Choice,
+) -> Result<usize, Memory>
+    requires { number - last < length grown.old.items }
+    ensures { IfOk result (λ first. (first ≡ last + length grown.old.items) × (grown.new.items
+        ≡ branched problem.now last shows number place choice grown.old.items)) }
+{
+    let Some(first) = last.checked_add(grown.len()) else {
+        return Err(Memory);
+    };
+    let mut children = children_at(alloc, problem, choice, number, first, place.next)?;
+    grown.append(&mut children)?;
+    grown[number.saturating_sub(last)] = Place {
+        next: Some(first),
+        shows,
+        kind: Kind::Branch,
+        bound: 0,
+        out: None,
+        examined: None,
+        ..place
+    };
+    Ok(first)
+}
+
+/// A place as it becomes a leaf that is in.
+fn leaf_at(place: Place, shows: usize, leaf: &Leaf, bound: u64) -> Place
+    ensures { result ≡ leaf_at place shows leaf.now bound }
+{
+    Place {
+        shows,
+        kind: kind_of(leaf),
+        bound,
+        out: None,
+        examined: None,
+        ..place
+    }
+}
+
+/// The next place that is filled, and the bounds that are left.
+#[derive(Clone, Copy)]
+struct Step<'a> {
+    at: Option<usize>,
+    left: &'a [u64],
+}
+
+/// Fills the place of a number with a node.
+fn fill_at<'a>(
+    alloc: Global,
+    problem: &Problem,
+    last: usize,
+    shows: usize,
+    number: usize,
+    place: Place,
+    node: &TreeNode,
+    left: &'a [u64],
+    grown: &mut Vec<Place>,
+    splits: &mut List<Split>,
+) -> Result<Step<'a>, Memory>
+    requires { number - last < length grown.old.items }
+    ensures { IfOk result (λ step. IsGraft (fills_at problem.now last shows number place node.now
+        (record {
+          grown = grown.old.items;
+          at = Some number;
+          bounds = left.now;
+          splits = splits.old;
+        })) grown.new.items step.at step.left.now splits.new) }
+{
+    match node {
+        TreeNode::Branch { choice, .. } => {
+            splits.push(Split {
+                node: number as u128,
+                choice: *choice,
+            })?;
+            let first = branch_out(alloc, problem, last, grown, number, place, shows, *choice)?;
+            Ok(Step {
+                at: Some(first),
+                left,
+            })
+        }
+        TreeNode::Leaf(leaf) => {
+            grown[number.saturating_sub(last)] = leaf_at(place, shows, leaf, first_or_zero(left));
+            Ok(Step {
+                at: place.next,
+                left: behind_first(left),
+            })
+        }
+    }
+}
+
+/// The place of an index, if there is one.
+fn place_at(places: &[Place], index: usize) -> Option<Place>
+    ensures { result ≡ slice_get places.now index }
+{
+    places.get(index).copied()
+}
+
+/// Fills the next place with a node, if there is one.
+fn fill<'a>(
+    alloc: Global,
+    problem: &Problem,
+    last: usize,
+    shows: usize,
+    at: Option<usize>,
+    node: &TreeNode,
+    left: &'a [u64],
+    grown: &mut Vec<Place>,
+    splits: &mut List<Split>,
+) -> Result<Step<'a>, Memory>
+    ensures { IfOk result (λ step. IsGraft (fills problem.now last shows at node.now (record {
+      grown = grown.old.items;
+      at = at;
+      bounds = left.now;
+      splits = splits.old;
+    }))
+        grown.new.items step.at step.left.now splits.new) }
+{
+    let Some(number) = at else {
+        return Ok(Step { at, left });
+    };
+    let Some(place) = place_at(grown, number.saturating_sub(last)) else {
+        return Ok(Step { at, left });
+    };
+    fill_at(
+        alloc, problem, last, shows, number, place, node, left, grown, splits,
+    )
+}
+
+/// What a leaf becomes with the new places behind it, and the splits.
+#[derive(Drop)]
+pub struct Grafted {
+    pub grown: Vec<Place>,
+    pub splits: List<Split>,
+}
+
+/// Grows the nodes of a fragment from a leaf of a number, in preorder. `last` is the greatest number
+/// there is, and `shows` how many nodes are kept.
+pub fn graft(
+    alloc: Global,
+    problem: &Problem,
+    last: usize,
+    shows: usize,
+    number: usize,
+    place: Place,
+    subtree: &[TreeNode],
+    bounds: &[u64],
+) -> Result<Grafted, Memory>
+    requires { shows + length subtree.now < 18446744073709551616 }
+    ensures { IfOk result (λ made. IsGrafted (grafted problem.now last shows subtree.now
+        (ungrown place number bounds.now)) made.grown.items made.splits) }
+{
+    let mut at = Some(number);
+    let mut left = bounds;
+    let mut splits = List::new(alloc);
+    let mut grown = Vec::new(alloc);
+    grown.push(Place { out: None, ..place })?;
+    for (k, node) in subtree.iter().enumerate() {
+        let shown = shows + k;
+        let step = fill(
+            alloc,
+            problem,
+            last,
+            shown,
+            at,
+            node,
+            left,
+            &mut grown,
+            &mut splits,
+        )?;
+        at = step.at;
+        left = step.left;
+    }
+    Ok(Grafted { grown, splits })
+}
+
+/// Puts what a leaf has become into the places, and the nodes that show it to those that are kept.
+/// Where memory runs out nothing has changed, and the nodes are given back.
+pub fn put(
+    places: &mut Vec<Place>,
+    kept: &mut Vec<TreeNode>,
+    number: usize,
+    grown: &[Place],
+    subtree: List<TreeNode>,
+) -> Result<(), List<TreeNode>>
+    requires { number < length places.old.items }
+    ensures places { OnOk result (places.new.items ≡ placed places.old.items number grown.now) }
+    ensures kept { OnOk result (kept.new.items ≡ kept.old.items ++ subtree) }
+    ensures back { IfErr result (λ nodes. nodes ≡ subtree) }
+    ensures same_places { OnErr result (places.new.items ≡ places.old.items) }
+    ensures same_kept { OnErr result (kept.new.items ≡ kept.old.items) }
+{
+    let [root, fresh @ ..] = grown else {
+        return keep(kept, subtree);
+    };
+    let first = places.len();
+    if places.extend_from_slice(fresh).is_err() {
+        return Err(subtree);
+    }
+    match keep(kept, subtree) {
+        Ok(()) => {
+            places[number] = *root;
+            Ok(())
+        }
+        Err(nodes) => {
+            places.truncate(first);
+            Err(nodes)
+        }
+    }
+}
+
+/// Keeps nodes, or gives them back where memory runs out.
+fn keep(kept: &mut Vec<TreeNode>, subtree: List<TreeNode>) -> Result<(), List<TreeNode>>
+    ensures kept { OnOk result (kept.new.items ≡ kept.old.items ++ subtree) }
+    ensures back { IfErr result (λ nodes. nodes ≡ subtree) }
+    ensures same { OnErr result (kept.new.items ≡ kept.old.items) }
+{
+    let mut nodes = subtree.into_vec();
+    match kept.append(&mut nodes) {
+        Ok(()) => Ok(()),
+        Err(_) => Err(List::from_vec(nodes)),
+    }
+}
