@@ -41,7 +41,7 @@ cat > src/main.rt <<'PROGRAM'
 //! Times the changes of a node's graph.
 #![tactic(auto)]
 
-ghost use Rattle.std.specs.Prelude.{◌≡◌};
+ghost use Rattle.std.specs.Prelude.{◌≡◌, IfSome};
 
 use cost_bound::{bound, cost};
 use disp_model::{Decision, Op, Operation, Problem};
@@ -77,15 +77,23 @@ fn orders(alloc: Global, problem: &Problem) -> Result<Vec<Decision>, io::Error> 
 }
 
 fn add_orders(found: &mut Vec<Decision>, t: u32, s: u32, one: &[Operation], other: &[Operation]) -> io::Result<()> {
-    for (p, a) in one.iter().enumerate() {
-        for (q, b) in other.iter().enumerate() {
-            if meet(a, b) {
-                let first = Op { train: t, op: p as u32 };
-                let second = Op { train: s, op: q as u32 };
-                let order = if p <= q { Decision::First { a: first, b: second } } else { Decision::First { a: second, b: first } };
-                found.push(order)?;
-            }
+    let mut p = 0u32;
+    for a in one {
+        add_orders_of(found, Op { train: t, op: p }, s, a, other)?;
+        p = p.saturating_add(1);
+    }
+    Ok(())
+}
+
+fn add_orders_of(found: &mut Vec<Decision>, first: Op, s: u32, a: &Operation, other: &[Operation]) -> io::Result<()> {
+    let mut q = 0u32;
+    for b in other {
+        if meet(a, b) {
+            let second = Op { train: s, op: q };
+            let order = if first.op <= q { Decision::First { a: first, b: second } } else { Decision::First { a: second, b: first } };
+            found.push(order)?;
         }
+        q = q.saturating_add(1);
     }
     Ok(())
 }
@@ -106,7 +114,9 @@ fn forks(alloc: Global, problem: &Problem) -> io::Result<Vec<Decision>> {
 }
 
 /// How many of these are added and taken back.
-fn try_each(graph: &mut Graph, decisions: &[Decision]) -> u32 {
+fn try_each(graph: &mut Graph, decisions: &[Decision]) -> u32
+    ensures { graph.new.problem ≡ graph.old.problem }
+{
     let mut tried = 0u32;
     for decision in decisions {
         if try_one(graph, *decision) {
@@ -116,7 +126,9 @@ fn try_each(graph: &mut Graph, decisions: &[Decision]) -> u32 {
     tried
 }
 
-fn try_one(graph: &mut Graph, decision: Decision) -> bool {
+fn try_one(graph: &mut Graph, decision: Decision) -> bool
+    ensures { graph.new.problem ≡ graph.old.problem }
+{
     match graph.extend(decision) {
         Ok(()) => {
             graph.undo();
@@ -154,7 +166,9 @@ fn per(time: Duration, count: u32) -> f64 {
 }
 
 /// Adds those that are not refused.
-fn add_each(graph: &mut Graph, decisions: &[Decision]) -> u32 {
+fn add_each(graph: &mut Graph, decisions: &[Decision]) -> u32
+    ensures { graph.new.problem ≡ graph.old.problem }
+{
     let mut added = 0u32;
     for decision in decisions {
         if graph.extend(*decision).is_ok() {
@@ -164,33 +178,62 @@ fn add_each(graph: &mut Graph, decisions: &[Decision]) -> u32 {
     added
 }
 
-fn measure(rt: &(impl Clock + Print + AllocGlobal), trains: u32, bytes: &[u8]) -> io::Result<()> {
-    let alloc = rt.alloc();
-    let Ok(problem) = read_problem(alloc, bytes) else {
-        return println!(rt; "no problem");
-    };
-    let Ok(mut graph) = Graph::new(alloc, &problem, &[]) else {
-        return println!(rt; "no graph");
-    };
-    let orders = orders(alloc, &problem)?;
+fn order_times(rt: &(impl Clock + Print + AllocGlobal), problem: &Problem, graph: &mut Graph) -> io::Result<()>
+    ensures { graph.new.problem ≡ graph.old.problem }
+{
+    let orders = orders(rt.alloc(), problem)?;
     let half = orders.len() / 2;
     let start = Instant::now(rt)?;
-    let decided = add_each(&mut graph, &orders[..half]);
+    let decided = add_each(graph, &orders[..half]);
     let adding = per(start.elapsed(rt)?, decided);
     let start = Instant::now(rt)?;
-    let tried = try_each(&mut graph, &orders[half..]);
+    let tried = try_each(graph, &orders[half..]);
     let ordering = per(start.elapsed(rt)?, tried);
-    let forks = forks(alloc, &problem)?;
+    println!(rt; "    {decided} orders added in {adding:.2} each; {tried} added and taken back in {ordering:.2}")
+}
+
+fn route_times(rt: &(impl Clock + Print + AllocGlobal), problem: &Problem, graph: &mut Graph) -> io::Result<()>
+    ensures { graph.new.problem ≡ graph.old.problem }
+{
+    let forks = forks(rt.alloc(), problem)?;
     let start = Instant::now(rt)?;
-    let gone = try_each(&mut graph, &forks);
+    let gone = try_each(graph, &forks);
     let going = per(start.elapsed(rt)?, gone);
+    println!(rt; "    {gone} successors decided and taken back in {going:.2}")
+}
+
+fn cost_times(rt: &(impl Clock + Print + AllocGlobal), problem: &Problem, graph: &Graph) -> io::Result<()>
+    requires { graph.now.problem ≡ problem.now }
+{
     let start = Instant::now(rt)?;
-    let first = costs(&problem, &graph);
+    let first = costs(problem, graph);
     let costing = per(start.elapsed(rt)?, ROUNDS);
     let start = Instant::now(rt)?;
-    let second = bounds(alloc, &problem, &graph);
+    let second = bounds(rt.alloc(), problem, graph);
     let bounding = per(start.elapsed(rt)?, ROUNDS);
-    println!(rt; "{trains} trains, {decided} orders added in {adding:.2} each; {tried} orders {ordering:.2}, {gone} successors {going:.2}, cost {costing:.2}, bound {bounding:.2} ({first}, {second})")
+    println!(rt; "    cost in {costing:.2}, bound in {bounding:.2} ({first}, {second})")
+}
+
+fn root<'p>(alloc: Global, problem: &'p Problem) -> Option<Graph<'p>>
+    ensures { IfSome result (λ graph. graph.problem ≡ problem.now) }
+{
+    match Graph::new(alloc, problem, &[]) {
+        Ok(graph) => Some(graph),
+        Err(_) => None,
+    }
+}
+
+fn measure(rt: &(impl Clock + Print + AllocGlobal), trains: u32, bytes: &[u8]) -> io::Result<()> {
+    let Ok(problem) = read_problem(rt.alloc(), bytes) else {
+        return println!(rt; "no problem");
+    };
+    let Some(mut graph) = root(rt.alloc(), &problem) else {
+        return println!(rt; "no graph");
+    };
+    println!(rt; "{trains} trains, microseconds")?;
+    order_times(rt, &problem, &mut graph)?;
+    route_times(rt, &problem, &mut graph)?;
+    cost_times(rt, &problem, &graph)
 }
 
 fn run(rt: HostRuntime, trains: u32, name: &str) -> io::Result<()> {
@@ -207,5 +250,21 @@ for trains in "${sizes[@]}"; do
     echo "    run(rt, $trains, \"$PWD/problem$trains.json\")?;" >> src/main.rt
 done
 printf '    Ok(())\n}\n' >> src/main.rt
-mkdir -p proofs/measure
+mkdir -p proofs/{try_each,add_each,root}
+for call in try_each add_each; do
+    cat > proofs/$call/Invariants.antt <<PROOF
+use Rattle.std.proofs.Common.{◌≡◌}
+use Rattle.graph_bench.proofs.$call.Given as goal
+
+abbrev pub invariant-loop-decision : goal.invariant-loop-decision
+invariant-loop-decision l = l.graph.problem ≡ l.initial.graph.problem
+PROOF
+done
+cat > proofs/root/Answers.antt <<'PROOF'
+use Rattle.event_graph.proofs.Rooting.{of_no_changes}
+use Rattle.graph_bench.proofs.root.Goals as goal
+
+pub new-requires : goal.new-requires
+new-requires c = record { edition = of_no_changes c.args.problem.now }
+PROOF
 ${BENCH_RUN:-run_scratch}

@@ -23,7 +23,7 @@ use Rattle.open_nodes.specs.Filled.{Leads, Spot, spots_for, AreFilled, IsTree, A
 use Rattle.open_nodes.proofs.Paths.{decisions_up, up_is, up_more}
 
 -- the links give the numbers in preorder
-order_is : (places : List Place) (at : Option ℕ) (numbers : List ℕ) (fuel : ℕ) → Leads (slice_get places) at numbers None → length numbers ≤ fuel → order at fuel places ≡ numbers
+pub order_is : (places : List Place) (at : Option ℕ) (numbers : List ℕ) (fuel : ℕ) → Leads (slice_get places) at numbers None → length numbers ≤ fuel → order at fuel places ≡ numbers
 order_is places at [] fuel leads le = ap (λ (a : Option ℕ). order a fuel places) leads
 order_is places at (n ∷ numbers) zero leads le = absurd (omega (arith, le))
 order_is places at (n ∷ numbers) (suc fuel) leads le =
@@ -119,6 +119,6 @@ pub tree_accepted : (problem : Problem) (fixings : List Fixing) (state : State) 
     → NoneWanted best state.places → Accepts problem fixings (verdict_for best) (tree_of state)
 tree_accepted problem fixings state best tree hold none =
     subst (λ (ns : List ℕ). Fills (verdict_for best) (root_of problem fixings ∷ []) (all_shown state.places state.kept ns))
-    (sym (order_is state.places (Some 0) tree.numbers (length state.places) tree.leads tree.few))
+    (sym (order_is state.places (Some 0) tree.numbers (length state.places) tree.leads (omega (arith, tree.count))))
     (filled_fills problem fixings state.places state.kept tree.parents best hold (none_at best state.places none)
     (record { number = 0; above = None } ∷ []) tree.numbers tree.filled)

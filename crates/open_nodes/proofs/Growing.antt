@@ -120,7 +120,7 @@ made_some problem last shows n place tree bounds = grafted_some last place.above
 
 -- ---- what is kept beside the places
 
-above_there : (o : Option Place) (a : Above) → above_of o ≡ Some a → (p : Place) × (o ≡ Some p) × (p.above ≡ Some a)
+pub above_there : (o : Option Place) (a : Above) → above_of o ≡ Some a → (p : Place) × (o ≡ Some p) × (p.above ≡ Some a)
 above_there None a e = absurd (no_some a e)
 above_there (Some p) a e = (p, refl, e)
 

@@ -12,7 +12,7 @@ use Rattle.disp_model.specs.declared.decision.Decision.{Decision}
 use Rattle.open_nodes.proofs.Places.{get_set_same, get_set_other}
 
 module _ (places : List Place) (edition allowed n : ℕ) (p q : Place) (there : slice_get places n ≡ Some p) where
-  same_above : p.above ≡ q.above → (m : ℕ) → above_at (set places n q) m ≡ above_at places m
+  pub same_above : p.above ≡ q.above → (m : ℕ) → above_at (set places n q) m ≡ above_at places m
   same_above e m = elim (cases_eq m n) [
     | inl same ↦ subst (λ (k : ℕ). above_at (set places n q) k ≡ above_at places k) (sym same)
         (ap above_of (get_set_same places n q p there) ∙ sym e ∙ sym (ap above_of there))

@@ -7,4 +7,11 @@ pub mod Grafting
 pub mod Growing
 pub mod Showing
 pub mod Falling
+pub mod Filling
 pub mod Accepting
+pub mod Joining
+pub mod Planting
+pub mod TheFirst
+pub mod Touching
+pub mod Holding
+pub mod HoldingOn

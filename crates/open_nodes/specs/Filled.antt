@@ -1,11 +1,12 @@
 -- How the places of a tree stand in preorder: each is linked to the next, and the nodes that they show fill them.
-use Rattle.std.specs.Prelude.{◌≡◌, ◌⊎◌, ℕ, ◌+◌, ◌≤◌, List, [], ◌∷◌, ◌++◌, Option, Some, None, length, slice_get}
+use Rattle.std.specs.Prelude.{◌≡◌, ◌≢◌, ◌⊎◌, ℕ, ◌+◌, ◌≤◌, List, [], ◌∷◌, ◌++◌, Option, Some, None, length, slice_get}
 use Rattle.disp_model.specs.declared.decision.Decision.{Decision}
 use Rattle.disp_model.specs.declared.decision.Choice.{Choice}
 use Rattle.disp_model.specs.declared.problem.Problem.{Problem}
 use Rattle.disp_model.specs.declared.tree.TreeNode.{TreeNode}
 use Rattle.disp_model.specs.declared.tree.TreeNode.TheVariants.{Branch, Leaf}
 use Rattle.disp_model.specs.declared.tree.Leaf.{Leaf as TreeLeaf}
+use Rattle.disp_model.specs.declared.tree.Leaf.TheVariants.{Costs}
 use Rattle.disp_model.specs.Trees.{children_of, IsChoice, LeafHolds}
 use Rattle.disp_model.specs.declared.fixing.Fixing.{Fixing}
 use Rattle.disp_model.specs.declared.tree.Verdict.TheVariants.{Optimal, Infeasible}
@@ -14,6 +15,7 @@ use Rattle.disp_model.specs.Node.{node_at}
 use Rattle.open_nodes.specs.States.{State, decisions_of, HaveSmallerParents}
 use Rattle.open_nodes.specs.declared.place.Place.{Place}
 use Rattle.open_nodes.specs.declared.place.Above.{Above}
+use Rattle.open_nodes.specs.declared.place.Errand.{Errand}
 use Rattle.open_nodes.specs.declared.place.Kind.TheVariants.{Branch as Branched}
 use Rattle.open_nodes.specs.Preorder.{link_of}
 use Rattle.open_nodes.specs.Grafts.{kind_of}
@@ -64,13 +66,16 @@ AreFilled problem look kept (spot ∷ spots) (n ∷ numbers) = (place : Place) �
     ⊎ ((choice : Choice) × (first : ℕ) × ShowsBranch problem kept place choice first
     × AreFilled problem look kept (spots_for n first (children_of problem choice) ++ spots) numbers))
 
--- the places are a tree over the problem: the links lead from the root through places that fill its spot
+-- the places are a tree over the problem: the links lead from the root through all of them, they fill its spot, only
+-- leaves are out, and what is kept first is the empty list of walks
 pub record IsTree (problem : Problem) (state : State) : Type 0 where
   pub numbers : List ℕ
   pub leads : Leads (slice_get state.places) (Some 0) numbers None
   pub filled : AreFilled problem (slice_get state.places) state.kept (record { number = 0; above = None } ∷ []) numbers
-  pub few : length numbers ≤ length state.places
+  pub count : length numbers ≡ length state.places
   pub parents : HaveSmallerParents state.places
+  pub leaves : (n : ℕ) (place : Place) (errand : Errand) → slice_get state.places n ≡ Some place → place.out ≡ Some errand → place.kind ≢ Branched
+  pub empty : slice_get state.kept 0 ≡ Some (Leaf (Costs []))
 
 -- each leaf holds for its kept bound at its node
 abbrev pub AllHold : Problem → List Fixing → List Place → List TreeNode → Type 0
@@ -81,3 +86,14 @@ AllHold problem fixings places kept = (n : ℕ) (place : Place) (leaf : TreeLeaf
 abbrev pub verdict_for : Option ℕ → Verdict
 verdict_for None = Infeasible
 verdict_for (Some cost) = Optimal cost
+
+-- each branch of these nodes has a choice of the problem
+abbrev pub HaveChoices : Problem → List TreeNode → Type 0
+HaveChoices problem [] = Unit {0}
+HaveChoices problem (Leaf leaf ∷ tree) = HaveChoices problem tree
+HaveChoices problem (Branch choice children ∷ tree) = IsChoice problem choice × HaveChoices problem tree
+
+-- the leaf of a number, and those of numbers from one on, hold for their kept bounds at their nodes
+abbrev pub NewHold : Problem → List Fixing → ℕ → ℕ → List Place → List TreeNode → Type 0
+NewHold problem fixings from number places kept = (n : ℕ) (place : Place) (leaf : TreeLeaf) → (n ≡ number) ⊎ (from ≤ n) → slice_get places n ≡ Some place
+    → slice_get kept place.shows ≡ Some (Leaf leaf) → LeafHolds (node_at problem fixings (decisions_of places n)) (Optimal place.bound) leaf

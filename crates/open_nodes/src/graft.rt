@@ -37,8 +37,8 @@ fn behind_first<'a>(bounds: &'a [u64]) -> &'a [u64]
     }
 }
 
-/// What follows a child: the place of this number where there is another child, else what was behind
-/// the branch.
+/// What follows a child: the place of this number where there is another child, else what was
+/// behind the branch.
 fn next_given(another: Option<Decision>, number: usize, behind: Option<usize>) -> Option<usize>
     ensures { result ≡ next_given another number behind }
 {
@@ -234,8 +234,8 @@ pub struct Grafted {
     pub splits: List<Split>,
 }
 
-/// Grows the nodes of a fragment from a leaf of a number, in preorder. `last` is the greatest number
-/// there is, and `shows` how many nodes are kept.
+/// Grows the nodes of a fragment from a leaf of a number, in preorder. `last` is the greatest
+/// number there is, and `shows` how many nodes are kept.
 pub fn graft(
     alloc: Global,
     problem: &Problem,

@@ -285,7 +285,8 @@ impl Nodes {
         fragment: &Fragment,
     ) -> Result<Grafted, Memory>
         requires { number < length self.now.places }
-        ensures { IfOk result (λ made. (place : Place) → slice_get self.now.places number ≡ Some place
+        ensures { IfOk result (λ made. (place : Place)
+            → slice_get self.now.places number ≡ Some place
             → IsGrafted (grown_at problem.now self.now number place fragment.now.subtree
             fragment.now.bounds) made.grown.items made.splits) }
     {
