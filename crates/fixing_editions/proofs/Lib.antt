@@ -1,4 +1,4 @@
-mod Accepting
+pub mod Accepting
 mod Keeping
 mod Owning
 mod SmallProblems

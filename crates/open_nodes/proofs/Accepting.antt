@@ -70,11 +70,11 @@ unwanted_holds node place None (Shares walks trains) is not holds = absurd (not 
 unwanted_holds node place (Some c) (Shares walks trains) is not holds = lower_holds node place.bound c (Shares walks trains) (reached place.bound c (λ lt. not (is, lt))) holds
 
 module _ (problem : Problem) (fixings : List Fixing) (places : List Place) (kept : List TreeNode) (small : HaveSmallerParents places) where
-  abbrev nodes_for : List Spot → List Node
+  abbrev pub nodes_for : List Spot → List Node
   nodes_for [] = []
   nodes_for (s ∷ spots) = node_at problem fixings (decisions_up s.above places) ∷ nodes_for spots
 
-  children_nodes : (n number : ℕ) (node : Node) (spots : List Spot) (cs : List Decision) → node ≡ node_at problem fixings (decisions_up (above_at places n) places)
+  pub children_nodes : (n number : ℕ) (node : Node) (spots : List Spot) (cs : List Decision) → node ≡ node_at problem fixings (decisions_up (above_at places n) places)
       → nodes_for (spots_for n number cs ++ spots) ≡ map (with_decision node) cs ++ nodes_for spots
   children_nodes n number node spots [] e = refl
   children_nodes n number node spots (d ∷ cs) e =

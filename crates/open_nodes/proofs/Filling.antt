@@ -69,7 +69,7 @@ get_joint [] x rest = refl
 get_joint (y ∷ xs) x rest = get_joint xs x rest
 
 module _ (last : ℕ) where
-  wait_same : (i : ℕ) (grown after : List Place) (behind : Option ℕ) (spots : List Spot) → SameBut i grown after → IsApart last i spots
+  pub wait_same : (i : ℕ) (grown after : List Place) (behind : Option ℕ) (spots : List Spot) → SameBut i grown after → IsApart last i spots
       → AllWait last grown behind spots → AllWait last after behind spots
   wait_same i grown after behind [] same apart wait = tt
   wait_same i grown after behind (s ∷ spots) same apart wait = (
@@ -104,11 +104,11 @@ module _ (last : ℕ) where
   -- ---- the children of a branch
 
   module _ (parent : ℕ) (spots : List Spot) where
-    apart_children : (i number : ℕ) (cs : List Decision) → i < number - last → IsApart last i spots → IsApart last i (spots_for parent number cs ++ spots)
+    pub apart_children : (i number : ℕ) (cs : List Decision) → i < number - last → IsApart last i spots → IsApart last i (spots_for parent number cs ++ spots)
     apart_children i number [] lt apart = apart
     apart_children i number (d ∷ cs) lt apart = (λ e. omega (arith, lt, e), apart_children i (number + 1) cs (omega (arith, lt)) apart)
 
-    children_apart : (grown : List Place) (behind : Option ℕ) (number : ℕ) (cs : List Decision) → 0 < length grown → AllWait last grown behind spots → length grown ≤ number - last
+    pub children_apart : (grown : List Place) (behind : Option ℕ) (number : ℕ) (cs : List Decision) → 0 < length grown → AllWait last grown behind spots → length grown ≤ number - last
         → AreApart last spots → AreApart last (spots_for parent number cs ++ spots)
     children_apart grown behind number [] some wait le apart = apart
     children_apart grown behind number (d ∷ cs) some wait le apart = (
@@ -116,7 +116,7 @@ module _ (last : ℕ) where
       children_apart grown behind (number + 1) cs some wait (omega (arith, le)) apart,
     )
 
-    children_own : (own number : ℕ) (cs : List Decision) → last < number → SpotsOwn last own spots → SpotsOwn last own (spots_for parent number cs ++ spots)
+    pub children_own : (own number : ℕ) (cs : List Decision) → last < number → SpotsOwn last own spots → SpotsOwn last own (spots_for parent number cs ++ spots)
     children_own own number [] lt are = are
     children_own own number (d ∷ cs) lt are = (inr lt, children_own own (number + 1) cs (omega (arith, lt)) are)
 
@@ -124,7 +124,7 @@ module _ (last : ℕ) where
     first_spot behind number [] = refl
     first_spot behind number (d ∷ cs) = refl
 
-    children_wait : (behind : Option ℕ) (cs : List Decision) (number : ℕ) (before : List Place) → number ≡ last + length before → AllWait last before behind spots
+    pub children_wait : (behind : Option ℕ) (cs : List Decision) (number : ℕ) (before : List Place) → number ≡ last + length before → AllWait last before behind spots
         → AllWait last (before ++ children_at parent (next_spot behind spots) number cs) behind (spots_for parent number cs ++ spots)
     children_wait behind [] number before e wait = wait_more before [] behind spots wait
     children_wait behind (d ∷ cs) number before e wait =
@@ -144,19 +144,19 @@ module _ (last : ℕ) where
           subst (λ (l : List Place). AllWait last l behind (spots_for parent (number + 1) cs ++ spots)) (append_assoc before (child ∷ []) rest) all,
         )
 
-    length_spots : (number : ℕ) (cs : List Decision) → length (spots_for parent number cs ++ spots) ≡ length cs + length spots
+    pub length_spots : (number : ℕ) (cs : List Decision) → length (spots_for parent number cs ++ spots) ≡ length cs + length spots
     length_spots number [] = omega arith
     length_spots number (d ∷ cs) = omega (arith, length_spots (number + 1) cs)
 
-    spot_there : (behind : Option ℕ) (number : ℕ) (cs : List Decision) → 0 < length cs → next_spot behind (spots_for parent number cs ++ spots) ≡ Some number
+    pub spot_there : (behind : Option ℕ) (number : ℕ) (cs : List Decision) → 0 < length cs → next_spot behind (spots_for parent number cs ++ spots) ≡ Some number
     spot_there behind number [] some = absurd (omega (arith, some))
     spot_there behind number (d ∷ cs) some = refl
 
-length_children : (parent : ℕ) (behind : Option ℕ) (number : ℕ) (cs : List Decision) → length (children_at parent behind number cs) ≡ length cs
+pub length_children : (parent : ℕ) (behind : Option ℕ) (number : ℕ) (cs : List Decision) → length (children_at parent behind number cs) ≡ length cs
 length_children parent behind number [] = refl
 length_children parent behind number (d ∷ cs) = omega (arith, length_children parent behind (number + 1) cs)
 
-some_children : (problem : Problem) (choice : Choice) → IsChoice problem choice → 0 < length (children_of problem choice)
+pub some_children : (problem : Problem) (choice : Choice) → IsChoice problem choice → 0 < length (children_of problem choice)
 some_children problem (Route o) is = omega (arith, is, length-map (next_of (train_at problem o.train) o.op) (λ (s : ℕ). Go o s))
 some_children problem (Order a b) is = omega arith
 some_children problem (Run o) is = omega arith

@@ -33,12 +33,12 @@ get_behind [] ys j i e = let same : j ≡ i = omega (arith, e) in ap (λ (k : �
 get_behind (x ∷ xs) ys zero i e = absurd (omega (arith, e))
 get_behind (x ∷ xs) ys (suc j) i e = get_behind xs ys j i (omega (arith, e))
 
-numbers_own : (last n : ℕ) (xs : List ℕ) → NumbersOwn last n xs → (q : ℕ) → IsIn q xs → IsOwn last n q
+pub numbers_own : (last n : ℕ) (xs : List ℕ) → NumbersOwn last n xs → (q : ℕ) → IsIn q xs → IsOwn last n q
 numbers_own last n [] own q h = absurd h
 numbers_own last n (x ∷ xs) own q (inl e) = subst (λ (k : ℕ). IsOwn last n k) e own.0
 numbers_own last n (x ∷ xs) own q (inr h) = numbers_own last n xs own.1 q h
 
-keeps_from : (before rest : List TreeNode) → KeepsFrom (before ++ rest) (length before) rest
+pub keeps_from : (before rest : List TreeNode) → KeepsFrom (before ++ rest) (length before) rest
 keeps_from before [] = tt
 keeps_from before (node ∷ rest) =
     let long : length (before ++ node ∷ []) ≡ length before + 1 = length-append before (node ∷ []) in
@@ -59,7 +59,7 @@ module _ (problem : Problem) (places : List Place) (kept more : List TreeNode) (
   pub other_same : (q : ℕ) → q ≢ n → q < length places → slice_get after q ≡ slice_get places q
   other_same q ne lt = get_set_other (places ++ fresh) n q root ne ∙ get_front places fresh q lt
 
-  own_same : (q : ℕ) → IsOwn (length places - 1) n q → slice_get after q ≡ slice_get (root ∷ fresh) (q - (length places - 1))
+  pub own_same : (q : ℕ) → IsOwn (length places - 1) n q → slice_get after q ≡ slice_get (root ∷ fresh) (q - (length places - 1))
   own_same q (inl e) =
       let within : n < length places = slice_get_within places n x there in
       let first : q - (length places - 1) ≡ 0 = omega (arith, within, e) in
@@ -69,6 +69,13 @@ module _ (problem : Problem) (places : List Place) (kept more : List TreeNode) (
       let later : q - (length places - 1) ≡ suc (q - length places) = omega (arith, within, lt) in
       get_set_other (places ++ fresh) n q root (λ e. omega (arith, within, lt, e)) ∙ get_behind places fresh q (q - length places) (omega (arith, within, lt))
       ∙ sym (ap (λ (k : ℕ). slice_get (root ∷ fresh) k) later)
+
+  -- the places of before are below the same ones
+  pub above_same : root.above ≡ x.above → (k : ℕ) → k < length places → above_at after k ≡ above_at places k
+  above_same up k lt = elim (cases_eq k n) [
+    | inl e ↦ ap (λ (j : ℕ). above_at after j) e ∙ ap above_of root_there ∙ up ∙ sym (ap above_of there) ∙ sym (ap (λ (j : ℕ). above_at places j) e)
+    | inr ne ↦ ap above_of (other_same k ne lt)
+  ]
 
   module _ (not_branch : x.kind ≢ Branched) (sub : List ℕ) (leads_sub : Leads (slice_get after) (Some n) sub x.next)
       (filled_sub : AreFilled problem (slice_get after) more (record { number = n; above = x.above } ∷ []) sub) where

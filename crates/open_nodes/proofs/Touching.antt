@@ -89,12 +89,12 @@ module _ (problem : Problem) (state : State) (tree : IsTree problem state) (n : 
         empty = tree.empty;
       }
 
-abbrev is_branched : Kind → Type 0
+abbrev pub is_branched : Kind → Type 0
 is_branched Branched = Unit {0}
 is_branched Dead = ⊥
 is_branched Open = ⊥
 
-open_no_branch : (k : Kind) → k ≡ Open → k ≢ Branched
+pub open_no_branch : (k : Kind) → k ≡ Open → k ≢ Branched
 open_no_branch k e b = subst is_branched (sym b ∙ e) tt
 
 same_shown : (problem : Problem) (kept : List TreeNode) (p q : Place) → p.above ≡ q.above → p.next ≡ q.next → p.shows ≡ q.shows → p.kind ≡ q.kind → IsLike problem kept p q

@@ -1,5 +1,5 @@
-ghost use Rattle.std.specs.Prelude.{ℕ, ◌≡◌, ◌+◌, ◌-◌, ◌≤◌, ◌↔◌, ◌<◌, ◌++◌, IfOk, IfErr, OnOk, OnErr, length, slice_get, IsTrue, MatchOption, None, Some, if◌then◌else◌};
-ghost use Rattle.open_nodes.specs.States.{State, one_leaf, allowed_of, allowance_for, IsIn, ForOut, ComesBack, Takes, Sends, MayBeTaken, NoneTakeable, GivesBack, IsLeastBound};
+ghost use Rattle.std.specs.Prelude.{ℕ, ◌≡◌, ◌+◌, ◌-◌, ◌≤◌, ◌↔◌, ◌<◌, ◌++◌, IfOk, IfErr, OnOk, OnErr, length, slice_get, IsTrue, MatchOption, None, Some, option_map, if◌then◌else◌};
+ghost use Rattle.open_nodes.specs.States.{State, one_leaf, allowed_of, allowance_for, decisions_of, IsIn, ForOut, ComesBack, Takes, Sends, MayBeTaken, NoneTakeable, GivesBack, IsLeastBound};
 ghost use Rattle.open_nodes.specs.Grafts.{FillPlaces, GrowsBy, IsGrafted, grown_at, placed, AllStand};
 ghost use Rattle.open_nodes.specs.declared.place.Place.{Place};
 ghost use Rattle.open_nodes.specs.declared.place.Kind.TheVariants.{Branch};
@@ -13,7 +13,7 @@ use crate::search::{count_out, first_takeable, is_ripe, least_bound, pop_takeabl
 use crate::shown::{all_shown, index_of, leaf_at};
 use crate::walk::first_sought;
 use crate::work::{Fragment, GiveBack, Growth, Take, Work};
-use disp_model::{Leaf, List, Memory, Problem, Tree, TreeNode};
+use disp_model::{Decision, Leaf, List, Memory, Problem, Tree, TreeNode};
 use std::alloc::Global;
 use std::marker::Model;
 use std::ops::Range;
@@ -126,6 +126,33 @@ impl Nodes {
     {
         let number = index_of(node, self.places.len())?;
         leaf_at(&self.places, &self.kept, number)
+    }
+
+    /// How many numbers places have so far: each below it is one's.
+    pub fn count(&self) -> usize
+        ensures { result ≡ length self.now.places }
+    {
+        self.places.len()
+    }
+
+    /// The kept bound of a leaf, 0 for a branch.
+    pub fn kept_bound(&self, node: u128) -> Option<u64>
+        ensures { result ≡ option_map (λ place. place.bound) (slice_get self.now.places node) }
+    {
+        let number = index_of(node, self.places.len())?;
+        Some(self.places[number].bound)
+    }
+
+    /// The decisions above a place.
+    ///
+    /// # Errors
+    ///
+    /// `Memory` where memory runs out.
+    pub fn decisions(&self, alloc: Global, node: u128) -> Result<List<Decision>, Memory>
+        requires { node < length self.now.places }
+        ensures { IfOk result (λ decisions. decisions ≡ decisions_of self.now.places node) }
+    {
+        decisions(alloc, &self.places, node as usize)
     }
 
     /// Takes a leaf out: one that is wanted and in, and where `free` is 0 one that is not marked as

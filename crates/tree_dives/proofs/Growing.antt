@@ -1,0 +1,134 @@
+-- What grows at several places, one after the other.
+use Rattle.std.proofs.Common.{◌≡◌, ◌∙◌, ℕ, ◌+◌, ◌<◌, List, [], ◌∷◌, ◌++◌, length, map, take, get_or, reverse, Option, refl, sym, ap, subst, arith}
+use Rattle.std.proofs.lemmas.List.{append_assoc, append-nil, map-append, reverse-append, reverse-reverse, take_more, take-take}
+use Rattle.disp_model.specs.declared.decision.Decision.{Decision}
+use Rattle.disp_model.specs.declared.decision.Choice.{Choice}
+use Rattle.disp_model.specs.declared.tree.Leaf.{Leaf as TreeLeaf}
+use Rattle.disp_model.specs.declared.tree.Leaf.TheVariants.{NoRoute, Cycle, Late, Costs, Shares}
+use Rattle.disp_model.specs.declared.tree.TreeNode.{TreeNode}
+use Rattle.disp_model.specs.declared.tree.TreeNode.TheVariants.{Branch, Leaf}
+use Rattle.disp_model.specs.declared.tree.Verdict.TheVariants.{Optimal}
+use Rattle.disp_model.specs.Node.{Node, with_decision}
+use Rattle.disp_model.specs.Trees.{children_of}
+use Rattle.node_leaves.specs.declared.leaf.NodeLeaf.{NodeLeaf}
+use Rattle.node_leaves.specs.declared.leaf.NodeLeaf.TheVariants.{Dead, Open}
+use Rattle.node_leaves.specs.Shown.{IsLeafOf}
+use Rattle.tree_dives.specs.Halves.{Sides, Completes, IsComplete, IsBelowNode}
+use Rattle.disp_model.specs.declared.settings.Rule.TheVariants.{Fixed}
+use Rattle.tree_growth.specs.Grown.{Helps, Counts, KeepsBound, Grows, branches}
+use Rattle.tree_dives.specs.Leaves.{leaf_in, bound_in}
+
+-- whatever a leaf lists counts for nothing
+counts_none : (leaf : TreeLeaf) → Counts Fixed leaf 0
+counts_none NoRoute = tt
+counts_none (Cycle nodes) = tt
+counts_none (Late walk) = tt
+counts_none (Costs walks) = tt
+counts_none (Shares walks trains) = refl
+
+pub keeps : (node : Node) (shown : NodeLeaf) → IsLeafOf node shown → KeepsBound Fixed node (leaf_in shown) (bound_in shown)
+keeps node (Dead leaf) is = record { holds = is.holds (Optimal 0); counts = counts_none leaf; fits = is.fits }
+keeps node (Open bound) is = record { holds = is.holds bound.cost (omega arith); counts = tt; fits = is.fits }
+
+-- side by side
+pub side_by_side : (best : Option ℕ) (places more : List Node) (tree tree_more : List TreeNode) (bounds bounds_more : List ℕ) → Grows Fixed best places tree bounds → Grows Fixed best more tree_more bounds_more → Grows Fixed best (places ++ more) (tree ++ tree_more) (bounds ++ bounds_more)
+side_by_side best [] more [] tree_more [] bounds_more one other = other
+side_by_side best [] more [] tree_more (bound ∷ bounds) bounds_more one other = absurd one
+side_by_side best [] more (top ∷ tree) tree_more bounds bounds_more one other = absurd one
+side_by_side best (node ∷ places) more [] tree_more bounds bounds_more one other = absurd one
+side_by_side best (node ∷ places) more (Leaf leaf ∷ tree) tree_more [] bounds_more one other = absurd one
+side_by_side best (node ∷ places) more (Leaf leaf ∷ tree) tree_more (bound ∷ bounds) bounds_more one other = (one.0, side_by_side best places more tree tree_more bounds bounds_more one.1 other)
+side_by_side best (node ∷ places) more (Branch choice children ∷ tree) tree_more bounds bounds_more one other =
+    let below = map (with_decision node) (children_of node.problem choice) in
+    (one.0, one.1, subst (λ (l : List Node). Grows Fixed best l (tree ++ tree_more) (bounds ++ bounds_more)) (append_assoc below places more) (side_by_side best (below ++ places) more tree tree_more bounds bounds_more one.2 other))
+
+-- one leaf
+pub leaf_alone : (best : Option ℕ) (node : Node) (leaf : TreeLeaf) (bound : ℕ) → KeepsBound Fixed node leaf bound → Grows Fixed best (node ∷ []) (Leaf leaf ∷ []) (bound ∷ [])
+leaf_alone best node leaf bound keeps = (keeps, tt)
+
+-- one leaf more
+pub leaf_more : (best : Option ℕ) (node : Node) (decisions : List Decision) (i : ℕ) (d : Decision) (shown : NodeLeaf) (tree : List TreeNode) (bounds : List ℕ) → i < length decisions → IsLeafOf (with_decision node (get_or decisions i d)) shown
+    → Grows Fixed best (map (with_decision node) (take i decisions)) tree bounds → Grows Fixed best (map (with_decision node) (take (i + 1) decisions)) (tree ++ Leaf (leaf_in shown) ∷ []) (bounds ++ bound_in shown ∷ [])
+leaf_more best node decisions i d shown tree bounds lt is grows =
+    let here = with_decision node (get_or decisions i d) in
+    let places : map (with_decision node) (take i decisions) ++ here ∷ [] ≡ map (with_decision node) (take (i + 1) decisions) =
+    sym (ap (map (with_decision node)) (take_more decisions i d lt) ∙ map-append (with_decision node) (take i decisions) (get_or decisions i d ∷ [])) in
+    subst (λ (l : List Node). Grows Fixed best l (tree ++ Leaf (leaf_in shown) ∷ []) (bounds ++ bound_in shown ∷ [])) places
+    (side_by_side best (map (with_decision node) (take i decisions)) (here ∷ []) tree (Leaf (leaf_in shown) ∷ []) bounds (bound_in shown ∷ []) grows (leaf_alone best here (leaf_in shown) (bound_in shown) (keeps here shown is)))
+
+-- a branch, with what grows at its children
+pub branch_alone : (best : Option ℕ) (node : Node) (choice : Choice) (children : ℕ) (tree : List TreeNode) (bounds : List ℕ) → Helps Fixed best node choice → children ≡ length (children_of node.problem choice)
+    → Grows Fixed best (map (with_decision node) (children_of node.problem choice)) tree bounds → Grows Fixed best (node ∷ []) (Branch choice children ∷ tree) bounds
+branch_alone best node choice children tree bounds helps count below = (helps, count, subst (λ (l : List Node). Grows Fixed best l tree bounds) (sym (append-nil (map (with_decision node) (children_of node.problem choice)))) below)
+
+-- ---- the place that is left
+
+-- below a node that is below another
+pub below_below : (root middle here : Node) → IsBelowNode root middle → IsBelowNode middle here → IsBelowNode root here
+below_below root middle here one other = record {
+  problem = other.problem ∙ one.problem;
+  fixings = other.fixings ∙ one.fixings;
+  deeper = omega (arith, one.deeper, other.deeper);
+  first = sym (take-take (length root.decisions) (length middle.decisions) here.decisions one.deeper) ∙ ap (take (length root.decisions)) other.first ∙ one.first;
+}
+
+-- nothing stands beside the first place
+pub completes_first : (best : Option ℕ) (root : Node) → Completes best root root (record { before = []; before_bounds = []; behind = []; behind_bounds = [] })
+completes_first best root tree bounds grows = subst (λ (t : List TreeNode). Grows Fixed best (root ∷ []) t (bounds ++ [])) (sym (append-nil tree)) (subst (Grows Fixed best (root ∷ []) tree) (sym (append-nil bounds)) grows)
+
+module _ {X : Type 0} where
+  -- what stands beside a place, with what was there
+  beside : (before left tree right behind : List X) (x : X) → before ++ (x ∷ (left ++ tree ++ right)) ++ reverse behind ≡ ((before ++ x ∷ []) ++ left) ++ tree ++ reverse (behind ++ reverse right)
+  beside before left tree right behind x = ap (λ (l : List X). l ++ reverse behind) (inner before) ∙ append_assoc (((before ++ x ∷ []) ++ left) ++ tree) right (reverse behind) ∙ ap (λ (l : List X). ((before ++ x ∷ []) ++ left) ++ tree ++ l) (sym (reverse-append behind (reverse right) ∙ ap (λ (l : List X). l ++ reverse behind) (reverse-reverse right)))
+    where
+      inner : (before : List X) → before ++ x ∷ (left ++ tree ++ right) ≡ ((before ++ x ∷ []) ++ left) ++ tree ++ right
+      inner before = sym (append_assoc before (x ∷ []) (left ++ tree ++ right)) ∙ sym (append_assoc (before ++ x ∷ []) (left ++ tree) right) ∙ ap (λ (l : List X). l ++ right) (sym (append_assoc (before ++ x ∷ []) left tree))
+
+  -- the same of bounds, to which a branch adds nothing
+  beside_bounds : (before left tree right behind : List X) → before ++ (left ++ tree ++ right) ++ reverse behind ≡ (before ++ left) ++ tree ++ reverse (behind ++ reverse right)
+  beside_bounds before left tree right behind = ap (λ (l : List X). l ++ reverse behind) (inner before) ∙ append_assoc ((before ++ left) ++ tree) right (reverse behind) ∙ ap (λ (l : List X). (before ++ left) ++ tree ++ l) (sym (reverse-append behind (reverse right) ∙ ap (λ (l : List X). l ++ reverse behind) (reverse-reverse right)))
+    where
+      inner : (before : List X) → before ++ (left ++ tree ++ right) ≡ (before ++ left) ++ tree ++ right
+      inner before = sym (append_assoc before (left ++ tree) right) ∙ ap (λ (l : List X). l ++ right) (sym (append_assoc before left tree))
+
+module _ (best : Option ℕ) (root here : Node) (old : Sides) (choice : Choice) (children : ℕ) (helps : Helps Fixed best here choice) (count : children ≡ length (children_of here.problem choice)) (complete : Completes best root here old) where
+  -- what grows at all children of a branch fills the place
+  pub branch_fills : (tree : List TreeNode) (bounds : List ℕ) → Grows Fixed best (map (with_decision here) (children_of here.problem choice)) tree bounds
+      → Grows Fixed best (root ∷ []) (old.before ++ (Branch choice children ∷ tree) ++ reverse old.behind) (old.before_bounds ++ bounds ++ reverse old.behind_bounds)
+  branch_fills tree bounds grows = complete (Branch choice children ∷ tree) bounds (branch_alone best here choice children tree bounds helps count grows)
+
+  -- leaves beside one child leave its place to be filled
+  pub goes_to_child : (first last : List Decision) (decision : Decision) (left right : List TreeNode) (left_bounds right_bounds : List ℕ) → children_of here.problem choice ≡ first ++ decision ∷ last
+      → Grows Fixed best (map (with_decision here) first) left left_bounds → Grows Fixed best (map (with_decision here) last) right right_bounds
+      → Completes best root (with_decision here decision) (record { before = (old.before ++ Branch choice children ∷ []) ++ left; before_bounds = old.before_bounds ++ left_bounds; behind = old.behind ++ reverse right; behind_bounds = old.behind_bounds ++ reverse right_bounds })
+  goes_to_child first last decision left right left_bounds right_bounds parts one other tree bounds grows =
+      let all = side_by_side best (map (with_decision here) first ++ with_decision here decision ∷ []) (map (with_decision here) last) (left ++ tree) right (left_bounds ++ bounds) right_bounds
+      (side_by_side best (map (with_decision here) first) (with_decision here decision ∷ []) left tree left_bounds bounds one grows) other in
+      let places : (map (with_decision here) first ++ with_decision here decision ∷ []) ++ map (with_decision here) last ≡ map (with_decision here) (children_of here.problem choice) =
+      append_assoc (map (with_decision here) first) (with_decision here decision ∷ []) (map (with_decision here) last) ∙ sym (ap (map (with_decision here)) parts ∙ map-append (with_decision here) first (decision ∷ last)) in
+      let filled = branch_fills (left ++ tree ++ right) (left_bounds ++ bounds ++ right_bounds) (subst (λ (l : List Node). Grows Fixed best l (left ++ tree ++ right) (left_bounds ++ bounds ++ right_bounds)) places all) in
+      subst (λ (t : List TreeNode). Grows Fixed best (root ∷ []) t (((old.before_bounds ++ left_bounds) ++ bounds) ++ reverse (old.behind_bounds ++ reverse right_bounds))) (beside old.before left tree right old.behind (Branch choice children))
+      (subst (λ (b : List ℕ). Grows Fixed best (root ∷ []) (old.before ++ (Branch choice children ∷ (left ++ tree ++ right)) ++ reverse old.behind) b) (beside_bounds old.before_bounds left_bounds bounds right_bounds old.behind_bounds) filled)
+
+-- ---- how many branches
+
+pub branches_append : (one other : List TreeNode) → branches (one ++ other) ≡ branches one + branches other
+branches_append [] other = omega arith
+branches_append (Branch choice children ∷ one) other = let later = branches_append one other in omega (arith, later)
+branches_append (Leaf leaf ∷ one) other = branches_append one other
+
+pub branches_leaf : (tree : List TreeNode) (leaf : TreeLeaf) → branches (tree ++ Leaf leaf ∷ []) ≡ branches tree
+branches_leaf tree leaf = omega (arith, branches_append tree (Leaf leaf ∷ []))
+
+pub branches_back : (tree : List TreeNode) → branches (reverse tree) ≡ branches tree
+branches_back [] = refl
+branches_back (Branch choice children ∷ tree) = let later = branches_back tree in ap branches (reverse-append (Branch choice children ∷ []) tree) ∙ branches_append (reverse tree) (Branch choice children ∷ []) ∙ omega (arith, later)
+branches_back (Leaf leaf ∷ tree) = let later = branches_back tree in ap branches (reverse-append (Leaf leaf ∷ []) tree) ∙ branches_append (reverse tree) (Leaf leaf ∷ []) ∙ omega (arith, later)
+
+module _ (best : Option ℕ) (root here : Node) (old : Sides) (choice : Choice) (children : ℕ) (helps : Helps Fixed best here choice) (count : children ≡ length (children_of here.problem choice)) (complete : Completes best root here old) where
+  -- leaves at all children leave no place
+  pub leaves_at_all : (left : List TreeNode) (left_bounds : List ℕ) → Grows Fixed best (map (with_decision here) (children_of here.problem choice)) left left_bounds
+      → IsComplete best root (record { before = (old.before ++ Branch choice children ∷ []) ++ left; before_bounds = old.before_bounds ++ left_bounds; behind = old.behind; behind_bounds = old.behind_bounds })
+  leaves_at_all left left_bounds grows =
+      subst (λ (t : List TreeNode). Grows Fixed best (root ∷ []) (t ++ reverse old.behind) ((old.before_bounds ++ left_bounds) ++ reverse old.behind_bounds)) (sym (append_assoc old.before (Branch choice children ∷ []) left))
+      (branch_fills best root here old choice children helps count complete left left_bounds grows)

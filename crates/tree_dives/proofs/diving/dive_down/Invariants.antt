@@ -1,0 +1,13 @@
+use Rattle.std.proofs.Common.{◌≡◌, []}
+use Rattle.tree_dives.specs.Halves.{Completes, IsBelowNode}
+use Rattle.tree_dives.specs.Downs.{sides_of, branches_in}
+use Rattle.tree_dives.proofs.diving.dive_down.Given as goal
+
+abbrev pub invariant-loop : goal.invariant-loop
+invariant-loop l = record {
+  problem : l.graph.problem ≡ l.problem;
+  below : IsBelowNode l.initial.graph l.graph;
+  completes : Completes l.best l.initial.graph l.graph (sides_of l.halves);
+  count : branches_in (sides_of l.halves) ≡ l.counter;
+  first : l.counter ≡ 0 → (l.graph ≡ l.initial.graph) × (sides_of l.halves ≡ record { before = []; before_bounds = []; behind = []; behind_bounds = [] });
+}

@@ -1,0 +1,87 @@
+use Rattle.std.proofs.Common.{◌≡◌, ◌∙◌, List, [], ◌∷◌, ◌++◌, length, map, drop, refl, ap, subst, sym, arith}
+use Rattle.std.proofs.lemmas.List.{take-append-drop, append-nil, length-append, take-append-le, take_all, nil_from_length}
+use Rattle.disp_model.specs.declared.decision.Decision.{Decision}
+use Rattle.disp_model.specs.declared.problem.Problem.{Problem}
+use Rattle.disp_model.specs.Node.{Node, with_decision}
+use Rattle.disp_model.specs.Trees.{children_of}
+use Rattle.node_leaves.specs.Shown.{IsLeafOf}
+use Rattle.disp_model.specs.declared.settings.Rule.TheVariants.{Fixed}
+use Rattle.tree_growth.specs.Grown.{Grows}
+use Rattle.tree_dives.specs.Leaves.{leaf_in, bound_in}
+use Rattle.tree_dives.specs.Halves.{IsBelowNode}
+use Rattle.tree_dives.specs.Downs.{sides_of}
+use Rattle.tree_growth.proofs.Children.{children_few}
+use Rattle.tree_dives.proofs.Growing.{keeps}
+use Rattle.tree_dives.proofs.Downs.{all_leaves, one_followed, none_followed}
+use Rattle.tree_dives.proofs.down.go_down.Goals as goal
+use Rattle.tree_dives.proofs.down.go_down.Goals.{After-split_at}
+
+pub overflow_cast-len : goal.overflow_cast-len
+overflow_cast-len c = let few = children_few c.args.problem.now c.args.choice in omega (arith, c.len.ensures, ap (λ (l : List Decision). length l) c.in_ok-children.ensures, few)
+
+-- the children before the one that is followed, and the others
+parted : (c : After-split_at) → children_of c.args.graph.now.problem c.args.choice ≡ c.split_at.result.0.now ++ c.split_at.result.1.now
+parted c =
+    let all : children_of c.args.graph.now.problem c.args.choice ≡ c.as_slice-2.result.now = ap (λ (p : Problem). children_of p c.args.choice) c.requires ∙ sym (c.as_slice-2.ensures ∙ c.in_ok-children.ensures) in
+    all ∙ sym (take-append-drop c.preferred-place.result c.as_slice-2.result.now) ∙ ap (λ (l : List Decision). l ++ drop c.preferred-place.result c.as_slice-2.result.now) (sym c.split_at.ensures.front) ∙ ap (λ (l : List Decision). c.split_at.result.0.now ++ l) (sym c.split_at.ensures.back)
+
+counted : (c : After-split_at) → c.len.result ≡ length (children_of c.args.graph.now.problem c.args.choice)
+counted c = c.len.ensures ∙ ap (λ (l : List Decision). length l) c.in_ok-children.ensures ∙ ap (λ (p : Problem). length (children_of p c.args.choice)) (sym c.requires)
+
+pub returns-in_default-clause-down : goal.returns-in_default-clause-down
+returns-in_default-clause-down c =
+    let d = (goal.at.returns-in_default-clause-down c).After-split_at in
+    let node = c.args.graph.now in
+    let all : children_of node.problem c.args.choice ≡ c.split_at.result.0.now = parted d ∙ ap (λ (l : List Decision). c.split_at.result.0.now ++ l) (nil_from_length c.split_at.result.1.now c.in_default.ensures.cases) ∙ append-nil c.split_at.result.0.now in
+    rw (c.in_ok-append.ensures.nodes, c.in_ok-append.ensures.bounds, c.in_ok-push_branch.ensures.nodes, c.in_ok-push_branch.ensures.bounds)
+    (all_leaves c.args.choice node node (sides_of c.args.halves.now) c.len.result (counted d) c.in_ok-left.left.nodes.items c.in_ok-left.left.bounds.items
+    (λ best. subst (λ (ds : List Decision). Grows Fixed best (map (with_decision node) ds) c.in_ok-left.left.nodes.items c.in_ok-left.left.bounds.items) (sym all)
+    (subst (λ (n : Node). Grows Fixed best (map (with_decision n) c.split_at.result.0.now) c.in_ok-left.left.nodes.items c.in_ok-left.left.bounds.items) c.preferred-place.ensures.same (c.in_ok-left.ensures.grows best)))
+    c.in_ok-left.ensures.leaves)
+
+pub returns-then-branch-clause-down : goal.returns-then-branch-clause-down
+returns-then-branch-clause-down c =
+    let d = (goal.at.returns-then-branch-clause-down c).After-split_at in
+    let node = c.args.graph.now in
+    let kept : c.leaves_of.new.graph ≡ node = c.in_ok-left.ensures.same ∙ c.preferred-place.ensures.same in
+    let there : c.leaves_of-2.new.graph ≡ node = c.in_ok-right.ensures.same ∙ kept in
+    let below : c.follow.new.graph ≡ with_decision node c.in-Some.followed.now = c.in_ok-follow.ensures.yes c.if-branch.true ∙ ap (λ (n : Node). with_decision n c.in-Some.followed.now) there in
+    rw (c.in_ok-append.ensures.nodes, c.in_ok-append.ensures.bounds, c.in_ok-push_branch.ensures.nodes, c.in_ok-push_branch.ensures.bounds, c.in_ok-append_back.ensures.nodes, c.in_ok-append_back.ensures.bounds)
+    (one_followed c.args.choice node c.follow.new.graph (sides_of c.args.halves.now) c.len.result (counted d) c.split_at.result.0.now c.in-Some.last.now c.in-Some.followed.now c.in_ok-left.left.nodes.items c.in_ok-right.right.nodes.items c.in_ok-left.left.bounds.items c.in_ok-right.right.bounds.items
+    below (parted d ∙ ap (λ (l : List Decision). c.split_at.result.0.now ++ l) c.in-Some.ensures.cases.0)
+    (λ best. subst (λ (n : Node). Grows Fixed best (map (with_decision n) c.split_at.result.0.now) c.in_ok-left.left.nodes.items c.in_ok-left.left.bounds.items) c.preferred-place.ensures.same (c.in_ok-left.ensures.grows best))
+    (λ best. subst (λ (n : Node). Grows Fixed best (map (with_decision n) c.in-Some.last.now) c.in_ok-right.right.nodes.items c.in_ok-right.right.bounds.items) kept (c.in_ok-right.ensures.grows best))
+    c.in_ok-left.ensures.leaves c.in_ok-right.ensures.leaves)
+
+deeper_by_one : (here below : Node) (d : Decision) → below ≡ with_decision here d → IsBelowNode here below
+deeper_by_one here below d is = rw is (record {
+  problem = refl;
+  fixings = refl;
+  deeper = omega (arith, length-append here.decisions (d ∷ []));
+  first = take-append-le (length here.decisions) here.decisions (d ∷ []) (omega arith) ∙ take_all (length here.decisions) here.decisions (omega arith);
+})
+
+pub returns-then-branch-clause-below : goal.returns-then-branch-clause-below
+returns-then-branch-clause-below c =
+    let there : c.leaves_of-2.new.graph ≡ c.args.graph.now = c.in_ok-right.ensures.same ∙ c.in_ok-left.ensures.same ∙ c.preferred-place.ensures.same in
+    deeper_by_one c.args.graph.now c.follow.new.graph c.in-Some.followed.now (c.in_ok-follow.ensures.yes c.if-branch.true ∙ ap (λ (n : Node). with_decision n c.in-Some.followed.now) there)
+
+pub returns-in_err-append_back-clause-below : goal.returns-in_err-append_back-clause-below
+returns-in_err-append_back-clause-below c =
+    let there : c.leaves_of-2.new.graph ≡ c.args.graph.now = c.in_ok-right.ensures.same ∙ c.in_ok-left.ensures.same ∙ c.preferred-place.ensures.same in
+    deeper_by_one c.args.graph.now c.follow.new.graph c.in-Some.followed.now (c.in_ok-follow.ensures.yes c.if-branch.true ∙ ap (λ (n : Node). with_decision n c.in-Some.followed.now) there)
+
+pub returns-clause-down : goal.returns-clause-down
+returns-clause-down c =
+    let d = (goal.at.returns-clause-down c).After-split_at in
+    let node = c.args.graph.now in
+    let kept : c.leaves_of.new.graph ≡ node = c.in_ok-left.ensures.same ∙ c.preferred-place.ensures.same in
+    let there : c.leaves_of-2.new.graph ≡ node = c.in_ok-right.ensures.same ∙ kept in
+    let still : c.follow.new.graph ≡ node = c.in_ok-follow.ensures.no c.if-branch.false ∙ there in
+    rw (c.in_ok-append-2.ensures.nodes, c.in_ok-append-2.ensures.bounds, c.in_ok-push_leaf.ensures.nodes, c.in_ok-push_leaf.ensures.bounds, c.in_ok-append.ensures.nodes, c.in_ok-append.ensures.bounds, c.in_ok-push_branch.ensures.nodes, c.in_ok-push_branch.ensures.bounds)
+    (none_followed c.args.choice node node (sides_of c.args.halves.now) c.len.result (counted d) c.split_at.result.0.now c.in-Some.last.now c.in-Some.followed.now c.in_ok-left.left.nodes.items c.in_ok-right.right.nodes.items (leaf_in c.in_ok-leaf.leaf) (bound_in c.in_ok-leaf.leaf) c.in_ok-left.left.bounds.items c.in_ok-right.right.bounds.items
+    (parted d ∙ ap (λ (l : List Decision). c.split_at.result.0.now ++ l) c.in-Some.ensures.cases.0)
+    (λ best. subst (λ (n : Node). Grows Fixed best (map (with_decision n) c.split_at.result.0.now) c.in_ok-left.left.nodes.items c.in_ok-left.left.bounds.items) c.preferred-place.ensures.same (c.in_ok-left.ensures.grows best))
+    (keeps (with_decision node c.in-Some.followed.now) c.in_ok-leaf.leaf (subst (λ (n : Node). IsLeafOf (with_decision n c.in-Some.followed.now) c.in_ok-leaf.leaf) still c.in_ok-leaf.ensures.leaf))
+    (λ best. subst (λ (n : Node). Grows Fixed best (map (with_decision n) c.in-Some.last.now) c.in_ok-right.right.nodes.items c.in_ok-right.right.bounds.items) kept (c.in_ok-right.ensures.grows best))
+    c.in_ok-left.ensures.leaves c.in_ok-right.ensures.leaves)

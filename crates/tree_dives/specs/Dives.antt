@@ -1,0 +1,38 @@
+-- What a dive from a node gives.
+use Rattle.std.specs.Prelude.{◌≡◌, ℕ, ◌≤◌, List, [], ◌∷◌, Contains, Option}
+use Rattle.disp_model.specs.declared.plan.Event.{Event}
+use Rattle.disp_model.specs.declared.decision.Choice.{Choice}
+use Rattle.disp_model.specs.declared.tree.TreeNode.{TreeNode}
+use Rattle.disp_model.specs.Node.{Node}
+use Rattle.disp_model.specs.Valid.{IsValid}
+use Rattle.disp_model.specs.Cost.{cost_of}
+use Rattle.disp_model.specs.declared.settings.Rule.TheVariants.{Fixed}
+use Rattle.open_nodes.specs.States.{IsBelow}
+use Rattle.tree_growth.specs.Grown.{Grows, Helps, branches}
+use Rattle.tree_dives.specs.Stages.{IsClosedAt}
+use Rattle.tree_dives.specs.declared.given.Dive.{Dive}
+use Rattle.tree_dives.specs.declared.stage.End.{End}
+use Rattle.tree_dives.specs.declared.stage.End.TheVariants.{Closed, Plan, Open}
+
+-- the plan is valid, and costs what is kept for a leaf, less than the best
+pub record EndsInPlan (root : Node) (best : Option ℕ) (bounds : List ℕ) (plan : List Event) : Type 0 where
+  pub valid : IsValid root.problem root.fixings plan
+  pub costs : Contains bounds (cost_of root.problem.components plan)
+  pub better : IsBelow (cost_of root.problem.components plan) best
+
+-- the node stays a leaf with its bound, and a choice is picked there
+pub record StaysOpen (root : Node) (best : Option ℕ) (bounds : List ℕ) : Type 0 where
+  pub choice : Choice
+  pub helps : Helps Fixed best root choice
+  pub bounds_are : bounds ≡ helps.bound ∷ []
+
+abbrev pub IsEndOf : Node → Option ℕ → ℕ → List TreeNode → List ℕ → End → Type 0
+IsEndOf root best allowance nodes bounds Closed = branches nodes ≡ 0 → IsClosedAt best root
+IsEndOf root best allowance nodes bounds (Plan plan) = EndsInPlan root best bounds plan
+IsEndOf root best allowance nodes bounds Open = (branches nodes ≡ allowance) × (allowance ≡ 0 → StaysOpen root best bounds)
+
+-- a subtree for the place of the node, with at most so many branches, and how it ended
+pub record IsDive (root : Node) (best : Option ℕ) (allowance : ℕ) (dive : Dive) : Type 0 where
+  pub grows : Grows Fixed best (root ∷ []) dive.nodes dive.bounds
+  pub few : branches dive.nodes ≤ allowance
+  pub ends : IsEndOf root best allowance dive.nodes dive.bounds dive.end

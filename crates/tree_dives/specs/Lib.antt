@@ -1,0 +1,6 @@
+pub mod Leaves
+pub mod Stages
+pub mod Halves
+pub mod Dives
+pub mod Downs
+pub mod Wholes

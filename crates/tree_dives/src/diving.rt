@@ -1,0 +1,104 @@
+ghost use Rattle.std.specs.Prelude.{◌≡◌, IfOk};
+ghost use Rattle.node_leaves.specs.declared.leaf.NodeLeaf.{NodeLeaf as NodeLeafOf};
+ghost use Rattle.node_leaves.specs.Shown.{IsLeafOf};
+ghost use Rattle.tree_dives.specs.Dives.{IsDive};
+ghost use Rattle.tree_dives.specs.Wholes.{IsWhole, with_leaf};
+ghost use Rattle.tree_dives.specs.Downs.{sides_of};
+ghost use Rattle.tree_dives.specs.Halves.{IsBelowNode};
+
+use crate::down::{Halves, go_down};
+use crate::given::Dive;
+use crate::grown::{append_back, nothing, push_leaf};
+use crate::rewind::rewind;
+use crate::stage::{End, Stage, stage_of};
+use disp_model::{List, Memory, Problem};
+use event_graph::Graph;
+use node_leaves::leaf_of;
+use std::alloc::Global;
+
+/// The subtree, where no place is left to be filled.
+fn whole(halves: Halves, end: End) -> Result<Dive, Memory>
+    ensures { IfOk result (IsWhole (sides_of halves) end) }
+{
+    let Halves { mut before, behind } = halves;
+    append_back(&mut before, behind)?;
+    Ok(Dive {
+        nodes: List::from_vec(before.nodes),
+        bounds: List::from_vec(before.bounds),
+        end,
+    })
+}
+
+/// The subtree, where the node of the graph becomes a leaf.
+fn ended(
+    alloc: Global,
+    problem: &Problem,
+    graph: &Graph,
+    mut halves: Halves,
+    end: End,
+) -> Result<Dive, Memory>
+    requires { graph.now.problem ≡ problem.now }
+    ensures { IfOk result (λ dive. (shown : NodeLeafOf) × IsLeafOf graph.now shown
+        × IsWhole (with_leaf (sides_of halves) shown) end dive) }
+{
+    let leaf = leaf_of(alloc, problem, graph)?;
+    push_leaf(&mut halves.before, leaf)?;
+    whole(halves, end)
+}
+
+/// Goes down from the node of a graph, and leaves it at the last node.
+fn dive_down(
+    alloc: Global,
+    problem: &Problem,
+    graph: &mut Graph,
+    best: Option<u64>,
+    allowance: u32,
+) -> Result<Dive, Memory>
+    requires { graph.old.problem ≡ problem.now }
+    ensures below { IsBelowNode graph.old graph.new }
+    ensures dive { IfOk result (IsDive graph.old best allowance) }
+{
+    let mut halves = Halves {
+        before: nothing(alloc),
+        behind: nothing(alloc),
+    };
+    for _ in 0..allowance {
+        match stage_of(alloc, problem, graph, best)? {
+            Stage::Branch(choice) => {
+                if !go_down(alloc, problem, graph, &mut halves, choice)? {
+                    return whole(halves, End::Closed);
+                }
+            }
+            Stage::End(end) => return ended(alloc, problem, graph, halves, end),
+        }
+    }
+    match stage_of(alloc, problem, graph, best)? {
+        Stage::Branch(_) => ended(alloc, problem, graph, halves, End::Open),
+        Stage::End(end) => ended(alloc, problem, graph, halves, end),
+    }
+}
+
+/// Branches at the node of a graph, follows one child and branches there, and so on, at most so
+/// often. The child that costs least is followed; the others become leaves. It ends earlier at a
+/// node that is dead, or whose bound is not below the best cost, or where nothing is picked. The
+/// graph is as before.
+///
+/// # Errors
+///
+/// `Memory` where memory runs out.
+pub fn dive(
+    alloc: Global,
+    problem: &Problem,
+    graph: &mut Graph,
+    best: Option<u64>,
+    allowance: u32,
+) -> Result<Dive, Memory>
+    requires { graph.old.problem ≡ problem.now }
+    ensures same { graph.new ≡ graph.old }
+    ensures dive { IfOk result (IsDive graph.old best allowance) }
+{
+    let depth = graph.decisions().len();
+    let dive = dive_down(alloc, problem, graph, best, allowance);
+    rewind(graph, depth);
+    dive
+}

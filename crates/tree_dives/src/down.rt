@@ -1,0 +1,69 @@
+ghost use Rattle.std.specs.Prelude.{◌≡◌, true, false, IfOk, OnErr};
+ghost use Rattle.disp_model.specs.Node.{with_decision};
+ghost use Rattle.tree_dives.specs.Halves.{IsBelowNode};
+ghost use Rattle.tree_dives.specs.Downs.{sides_of, GoesDown};
+
+use crate::grown::{Grown, append, append_back, push_branch, push_leaf};
+use crate::leaves::leaves_of;
+use crate::prefer::preferred;
+use branch_rules::children;
+use disp_model::{Choice, Decision, Memory, Problem};
+use event_graph::{ExtendNo, Graph};
+use node_leaves::child_leaf;
+use std::alloc::Global;
+
+/// A subtree of which one place is still to be filled: its nodes before that place, and those
+/// behind it, the last one first.
+#[derive(Drop)]
+pub(crate) struct Halves {
+    pub before: Grown,
+    pub behind: Grown,
+}
+
+/// Adds a decision, and says whether it is not refused.
+fn follow(graph: &mut Graph, decision: Decision) -> Result<bool, Memory>
+    ensures yes { IfOk result
+        (λ is. is ≡ true → graph.new ≡ with_decision graph.old decision) }
+    ensures no { IfOk result (λ is. is ≡ false → graph.new ≡ graph.old) }
+    ensures err { OnErr result (graph.new ≡ graph.old) }
+{
+    match graph.extend(decision) {
+        Ok(()) => Ok(true),
+        Err(ExtendNo::Memory) => Err(Memory),
+        Err(_) => Ok(false),
+    }
+}
+
+/// Branches at the node of a graph, and goes down to the child that is preferred. The others become
+/// leaves. Says whether a place is left to be filled, which is that child's.
+pub(crate) fn go_down(
+    alloc: Global,
+    problem: &Problem,
+    graph: &mut Graph,
+    halves: &mut Halves,
+    choice: Choice,
+) -> Result<bool, Memory>
+    requires { graph.old.problem ≡ problem.now }
+    ensures below { IsBelowNode graph.old graph.new }
+    ensures down { IfOk result (GoesDown choice graph.old (sides_of halves.old) graph.new
+        (sides_of halves.new)) }
+{
+    let children = children(alloc, problem, choice)?;
+    push_branch(&mut halves.before, choice, children.len() as u32)?;
+    let place = preferred(problem, graph, children.as_slice());
+    let (first, rest) = children.as_slice().split_at(place);
+    let left = leaves_of(alloc, problem, graph, first)?;
+    append(&mut halves.before, left)?;
+    let Some((followed, last)) = rest.split_first() else {
+        return Ok(false);
+    };
+    let right = leaves_of(alloc, problem, graph, last)?;
+    if follow(graph, *followed)? {
+        append_back(&mut halves.behind, right)?;
+        return Ok(true);
+    }
+    let leaf = child_leaf(alloc, problem, graph, *followed)?;
+    push_leaf(&mut halves.before, leaf)?;
+    append(&mut halves.before, right)?;
+    Ok(false)
+}

@@ -1,0 +1,23 @@
+//! What a leaf of the tree grows into, from its node down.
+//!
+//! `dive` branches at the node of a graph, follows one child and branches there, and so on, until
+//! its allowance is spent, the child is dead or costs too much, or nothing is picked there, so that
+//! the earliest plan is valid. The other children become leaves with their bounds. The graph is as
+//! before then.
+#![tactic(auto)]
+
+mod diving;
+mod down;
+mod given;
+mod grown;
+mod leaves;
+mod prefer;
+mod rewind;
+mod stage;
+
+pub use diving::dive;
+pub use given::Dive;
+pub use stage::End;
+
+#[cfg(test)]
+mod tests;

@@ -1,0 +1,13 @@
+pub mod Children
+pub mod Filling
+pub mod Stepping
+pub mod Growing
+pub mod Holding
+pub mod Helping
+pub mod Staying
+pub mod Leaving
+pub mod Walked
+pub mod Totals
+pub mod TrainCosts
+pub mod Listed
+pub mod Low
