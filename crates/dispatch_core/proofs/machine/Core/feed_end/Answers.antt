@@ -1,0 +1,11 @@
+use Rattle.std.proofs.Common.{set, true}
+use Rattle.dispatch_core.specs.States.{Core}
+use Rattle.dispatch_core.proofs.Keeping.{flagged_whole}
+use Rattle.dispatch_core.proofs.machine.Core.feed_end.Goals as goal
+
+pub invariant_of-self : goal.invariant_of-self
+invariant_of-self c =
+    let s = c.self.inside in
+    let core : Core =
+    record { problem = s.editions.problem; settings = s.settings; history = s.history.items; nodes = s.nodes; ended = s.ended.items; left = s.left.items } in
+    flagged_whole core s.editions s.best s.mark s.spent s.last c.self.invariant (set s.ended.items c.args.feed true) s.left.items

@@ -1,0 +1,8 @@
+pub mod States
+pub mod Replies
+pub mod Asked
+pub mod Kept
+pub mod Pending
+pub mod Remaining
+pub mod Falling
+pub mod Judging

@@ -1,0 +1,6 @@
+pub mod Rules
+pub mod Checks
+pub mod Places
+pub mod Bounds
+pub mod TrainCosts
+pub mod Descents

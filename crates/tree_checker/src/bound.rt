@@ -1,0 +1,32 @@
+ghost use Rattle.std.specs.Prelude.{IfOk};
+ghost use Rattle.disp_model.specs.Node.{node_at};
+ghost use Rattle.node_facts.specs.Orders.{AreKnown};
+ghost use Rattle.tree_checker.specs.Bounds.{IsBoundOfAll};
+
+use crate::shares::shares_cost;
+use disp_model::{ComponentWalk, Decision, Fixing, Memory, Problem, TrainWalks};
+use node_facts::{TrainKnowledge, walks_cost};
+use std::alloc::Global;
+
+/// What walks and listed trains cost together; none where one of them shows no cost.
+pub(crate) fn bound_of(
+    alloc: Global,
+    problem: &Problem,
+    fixings: &[Fixing],
+    decisions: &[Decision],
+    trains: &[TrainKnowledge],
+    walks: &[ComponentWalk],
+    listed: &[TrainWalks],
+) -> Result<Option<u128>, Memory>
+    requires { AreKnown (node_at problem.now fixings.now decisions.now) trains.now }
+    ensures { IfOk result
+        (IsBoundOfAll (node_at problem.now fixings.now decisions.now) walks.now listed.now) }
+{
+    let Some(sum) = walks_cost(problem, fixings, decisions, trains, walks) else {
+        return Ok(None);
+    };
+    match shares_cost(alloc, problem, fixings, decisions, trains, listed)? {
+        Some(shares) => Ok(Some(sum.saturating_add(shares))),
+        None => Ok(None),
+    }
+}

@@ -1,0 +1,103 @@
+ghost use Rattle.std.specs.Prelude.{IfOk, OnOk, length, reverse};
+ghost use Rattle.disp_model.specs.Node.{node_at};
+ghost use Rattle.node_facts.specs.Orders.{AreKnown};
+ghost use Rattle.tree_checker.specs.Places.{IsNested, IsStep};
+ghost use Rattle.tree_checker.specs.Checks.{IsChecked};
+
+use crate::children::decisions_below;
+use crate::descent::descend;
+use crate::judging::judge;
+use crate::places::{Place, open};
+use crate::why::{Checked, Why};
+use disp_model::{Decision, Fixing, Memory, Problem, TreeNode, Verdict};
+use node_facts::{TrainKnowledge, known_of};
+use std::alloc::Global;
+
+/// Puts a node of the tree into the next place, and its children before those that are left; says
+/// why it does not hold there, if it does not.
+fn step(
+    alloc: Global,
+    problem: &Problem,
+    fixings: &[Fixing],
+    verdict: Verdict,
+    path: &mut Vec<Decision>,
+    trains: &mut Vec<TrainKnowledge>,
+    places: &mut Vec<Place>,
+    top: &TreeNode,
+) -> Result<Option<Why>, Memory>
+    requires nested { IsNested (length path.old.items) (reverse places.old.items) }
+    requires known { AreKnown (node_at problem.now fixings.now path.old.items) trains.old.items }
+    ensures steps { IfOk result (IsStep problem.now fixings.now verdict top.now
+        path.old.items path.new.items places.old.items places.new.items) }
+    ensures known { OnOk result
+        (AreKnown (node_at problem.now fixings.now path.new.items) trains.new.items) }
+{
+    let Some(place) = places.pop() else {
+        return Ok(Some(Why::BadChoice));
+    };
+    descend(alloc, problem, fixings, path, trains, place)?;
+    if let Some(why) = judge(
+        alloc,
+        problem,
+        fixings,
+        path.as_slice(),
+        trains.as_slice(),
+        verdict,
+        top,
+    )? {
+        return Ok(Some(why));
+    }
+    let below = decisions_below(alloc, problem, top)?;
+    open(places, path.len(), &below)?;
+    Ok(None)
+}
+
+/// Checks a tree by the definitions alone: accepted exactly where its nodes, in preorder, fill the
+/// place at which nothing is decided, each leaf holds in its place, and each branch has a choice
+/// that it may have and a child for each of its decisions. Then no valid plan costs less than the
+/// verdict, or none is valid. Else the answer names the first node, counted from 0, that does not
+/// hold, and the first rule that it breaks; a node without a place, and the end of the tree where
+/// a place is left, are of a wrong choice or number of children.
+///
+/// # Errors
+///
+/// `Memory` where memory runs out.
+pub fn check(
+    alloc: Global,
+    problem: &Problem,
+    fixings: &[Fixing],
+    verdict: Verdict,
+    tree: &[TreeNode],
+) -> Result<Checked, Memory>
+    ensures { IfOk result (IsChecked problem.now fixings.now verdict tree.now) }
+{
+    let mut path = Vec::new(alloc);
+    let mut trains = known_of(alloc, problem, fixings, path.as_slice())?;
+    let mut places = Vec::new(alloc);
+    places.push(Place {
+        depth: 0,
+        decision: None,
+    })?;
+    for (node, top) in tree.iter().enumerate() {
+        if let Some(why) = step(
+            alloc,
+            problem,
+            fixings,
+            verdict,
+            &mut path,
+            &mut trains,
+            &mut places,
+            top,
+        )? {
+            return Ok(Checked::Refused { node, why });
+        }
+    }
+    if places.is_empty() {
+        Ok(Checked::Accepted)
+    } else {
+        Ok(Checked::Refused {
+            node: tree.len(),
+            why: Why::BadChoice,
+        })
+    }
+}

@@ -1,0 +1,213 @@
+ghost use Rattle.std.specs.Prelude.{◌≡◌, ◌↔◌, ◌+◌, ◌<◌, ◌==◌, ℕ, IfOk, Some, length, if◌then◌else◌, slice_index};
+ghost use Rattle.disp_model.specs.Cost.{cost_at};
+ghost use Rattle.train_orders.specs.Orders.{IsOrder};
+ghost use Rattle.node_facts.specs.Costs.{capped};
+ghost use Rattle.node_facts.specs.Ways.{IsLeastOf, IsOnward, GoesOnward};
+ghost use Rattle.tree_checker.specs.TrainCosts.{asked, reach_by, price_of, ArePrices, IsCostBy, AreCosts};
+
+use crate::entering::{base_at, kept_at, lesser, reach_at};
+use crate::steps::may_go;
+use disp_model::{Component, Decision, Fixing, Memory, Operation, Problem};
+use std::alloc::Global;
+
+/// What a component costs where its operation starts at a time, or the greatest number of 128 bits
+/// where it costs more.
+fn cost_of(component: &Component, time: u128) -> u128
+    ensures { result ≡ capped (cost_at component.now time) }
+{
+    let threshold = u128::from(component.threshold);
+    let late = time.saturating_sub(threshold);
+    let sum = u128::from(component.coeff).saturating_mul(late);
+    if threshold <= time {
+        sum.saturating_add(u128::from(component.increment))
+    } else {
+        sum
+    }
+}
+
+/// Adds a cost at an operation, if there is such a one.
+fn add_at(prices: &mut Vec<u128>, op: u32, cost: u128)
+    ensures long { length prices.new.items ≡ length prices.old.items }
+    ensures added { (o : ℕ) → o < length prices.old.items → slice_index prices.new.items o
+        ≡ (if op == o then capped (slice_index prices.old.items o + cost)
+        else slice_index prices.old.items o) }
+{
+    let at = op as usize;
+    if at < prices.len() {
+        let more = prices[at].saturating_add(cost);
+        prices[at] = more;
+    }
+}
+
+/// Adds what a component of a train costs at its operation's reach; one of another costs nothing.
+fn add_price(
+    prices: &mut Vec<u128>,
+    train: u32,
+    entered: &[Option<u128>],
+    bases: &[u128],
+    component: &Component,
+)
+    ensures long { length prices.new.items ≡ length prices.old.items }
+    ensures added { (o : ℕ) → o < length prices.old.items → slice_index prices.new.items o
+        ≡ (if component.now.train == train
+        then (if component.now.operation == o
+        then capped (slice_index prices.old.items o
+        + cost_at component.now (reach_by entered.now bases.now o))
+        else slice_index prices.old.items o)
+        else slice_index prices.old.items o) }
+{
+    if component.train == train {
+        let reach = reach_at(entered, bases, component.operation);
+        add_at(prices, component.operation, cost_of(component, reach));
+    }
+}
+
+/// What the components of each operation of a train cost together at its reach.
+fn prices_of(
+    alloc: Global,
+    components: &[Component],
+    operations: &[Operation],
+    train: u32,
+    entered: &[Option<u128>],
+    bases: &[u128],
+) -> Result<Vec<u128>, Memory>
+    ensures { IfOk result (λ prices. ArePrices operations.now
+        (price_of components.now train (reach_by entered.now bases.now)) prices.items) }
+{
+    let mut prices = vec![in alloc; 0; operations.len()]?;
+    for component in components {
+        add_price(&mut prices, train, entered, bases, component);
+    }
+    Ok(prices)
+}
+
+/// What is left to pay from one of those operations on to which a route may go on.
+fn onward(
+    places: &[usize],
+    train: u32,
+    fixings: &[Fixing],
+    decisions: &[Decision],
+    costs: &[Option<u128>],
+    op: u32,
+    next: u32,
+) -> Option<u128>
+    ensures { (n : ℕ) → (result ≡ Some n) ↔ IsOnward places.now
+        (asked train fixings.now decisions.now) costs.now op next n }
+{
+    if may_go(places, train, fixings, decisions, op, Some(next)) {
+        kept_at(costs, next)
+    } else {
+        None
+    }
+}
+
+/// What is left to pay at least behind an operation, over those to which a route may go on.
+fn least_onward(
+    places: &[usize],
+    train: u32,
+    fixings: &[Fixing],
+    decisions: &[Decision],
+    costs: &[Option<u128>],
+    op: u32,
+    nexts: &[u32],
+) -> Option<u128>
+    ensures { IsLeastOf (GoesOnward places.now (asked train fixings.now decisions.now)
+        costs.now op nexts.now) result }
+{
+    let mut least = None;
+    for next in nexts {
+        let other = onward(places, train, fixings, decisions, costs, op, *next);
+        least = lesser(least, other);
+    }
+    least
+}
+
+/// What is left to pay at least from an operation on.
+fn cost_from(
+    operation: &Operation,
+    places: &[usize],
+    train: u32,
+    fixings: &[Fixing],
+    decisions: &[Decision],
+    costs: &[Option<u128>],
+    op: u32,
+    price: u128,
+) -> Option<u128>
+    ensures { IsCostBy operation.now places.now (asked train fixings.now decisions.now)
+        costs.now op price result }
+{
+    let nexts = operation.next.as_slice();
+    if nexts.len() == 0 {
+        return if may_go(places, train, fixings, decisions, op, None) {
+            Some(price)
+        } else {
+            None
+        };
+    }
+    match least_onward(places, train, fixings, decisions, costs, op, nexts) {
+        Some(behind) => Some(price.saturating_add(behind)),
+        None => None,
+    }
+}
+
+/// What is left to pay at least from each operation of a train on, by an order of the operations
+/// from the exit back.
+fn costs_of(
+    alloc: Global,
+    operations: &[Operation],
+    order: &[u32],
+    places: &[usize],
+    prices: &[u128],
+    train: u32,
+    fixings: &[Fixing],
+    decisions: &[Decision],
+) -> Result<Vec<Option<u128>>, Memory>
+    requires order { IsOrder operations.now order.now }
+    ensures { IfOk result (λ costs. (price : ℕ → ℕ) → ArePrices operations.now price prices.now
+        → AreCosts operations.now places.now (asked train fixings.now decisions.now) price
+        costs.items) }
+{
+    let mut costs = vec![in alloc; None; operations.len()]?;
+    for number in order {
+        let at = *number as usize;
+        let price = base_at(prices, *number);
+        let cost = cost_from(
+            &operations[at],
+            places,
+            train,
+            fixings,
+            decisions,
+            &costs,
+            *number,
+            price,
+        );
+        costs[at] = cost;
+    }
+    Ok(costs)
+}
+
+/// What is left to pay at least from each operation of a train on, by when operations are entered.
+pub(crate) fn costs_over(
+    alloc: Global,
+    components: &[Component],
+    operations: &[Operation],
+    order: &[u32],
+    places: &[usize],
+    entered: &[Option<u128>],
+    bases: &[u128],
+    train: u32,
+    fixings: &[Fixing],
+    decisions: &[Decision],
+) -> Result<Vec<Option<u128>>, Memory>
+    requires { IsOrder operations.now order.now }
+    ensures { IfOk result (λ costs. AreCosts operations.now places.now
+        (asked train fixings.now decisions.now)
+        (price_of components.now train (reach_by entered.now bases.now)) costs.items) }
+{
+    let prices = prices_of(alloc, components, operations, train, entered, bases)?;
+    let prices = prices.as_slice();
+    let costs = costs_of(
+        alloc, operations, order, places, prices, train, fixings, decisions,
+    )?;
+    Ok(costs)
+}

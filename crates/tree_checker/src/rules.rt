@@ -1,0 +1,99 @@
+ghost use Rattle.std.specs.Prelude.{◌≡◌, ◌↔◌, List, IsTrue};
+ghost use Rattle.disp_model.specs.declared.fixing.Fixing.{Fixing};
+ghost use Rattle.disp_model.specs.Node.{node_at};
+ghost use Rattle.disp_model.specs.Shares.{AreOfOthers};
+ghost use Rattle.node_facts.specs.Orders.{AreKnown};
+ghost use Rattle.tree_checker.specs.declared.lists.ListRule.TheVariants.{Joined};
+ghost use Rattle.tree_checker.specs.Rules.{rule_at, AreRight, IsClosed, EndOnTrain, Keeps};
+
+use crate::distinct::{have_distinct, have_distinct_trains};
+use crate::ends::{are_of_others, end_on_train, end_right, is_closed, is_late_if_said};
+use crate::leaf::{component_walks, has_verdict, is_long_cycle, listed_trains, says_more};
+use crate::lists::ListRule;
+use crate::names::has_names;
+use crate::rights::are_right;
+use crate::why::Why;
+use disp_model::{ComponentWalk, Decision, Fixing, Leaf, Problem, TrainWalks, Verdict};
+use node_facts::TrainKnowledge;
+
+/// The rule of a place in the order in which they are asked; of costs none speaks.
+pub(crate) fn rule_at(place: usize) -> Why
+    ensures { result ≡ rule_at place }
+{
+    match place {
+        0 => Why::BadName,
+        1 => Why::BadChoice,
+        2 => Why::HasRoute,
+        3 => Why::NotCycle,
+        4 => Why::EmptyWalk,
+        5 => Why::NotForced,
+        6 => Why::BadArc,
+        7 => Why::NotLate,
+        8 => Why::RepeatedComponent,
+        9 => Why::RepeatedTrain,
+        10 => Why::WrongTrain,
+        11 => Why::WrongEnd,
+        _ => Why::NoVerdict,
+    }
+}
+
+/// Whether an arc leads from each operation of each list to the next, and a cycle is closed.
+fn has_arcs(
+    problem: &Problem,
+    trains: &[TrainKnowledge],
+    decisions: &[Decision],
+    leaf: &Leaf,
+) -> bool
+    requires { (fixings : List Fixing)
+        × AreKnown (node_at problem.now fixings decisions.now) trains.now }
+    ensures { (fixings : List Fixing)
+        → AreKnown (node_at problem.now fixings decisions.now) trains.now → IsTrue result
+        ↔ (AreRight (node_at problem.now fixings decisions.now) Joined leaf.now
+        × IsClosed (node_at problem.now fixings decisions.now) leaf.now) }
+{
+    are_right(problem, trains, decisions, ListRule::Joined, leaf)
+        && is_closed(problem, trains, decisions, leaf)
+}
+
+/// Whether walks are to components of trains that are not listed, and those of listed trains end
+/// on them.
+fn are_on_trains(problem: &Problem, walks: &[ComponentWalk], listed: &[TrainWalks]) -> bool
+    ensures { IsTrue result
+        ↔ (AreOfOthers problem.now walks.now listed.now × EndOnTrain listed.now) }
+{
+    are_of_others(problem, walks, listed) && end_on_train(listed)
+}
+
+/// Whether a leaf keeps a rule.
+pub(crate) fn keeps(
+    problem: &Problem,
+    fixings: &[Fixing],
+    decisions: &[Decision],
+    trains: &[TrainKnowledge],
+    verdict: Verdict,
+    leaf: &Leaf,
+    rule: Why,
+) -> bool
+    requires { AreKnown (node_at problem.now fixings.now decisions.now) trains.now }
+    ensures { IsTrue result
+        ↔ Keeps (node_at problem.now fixings.now decisions.now) verdict leaf.now rule }
+{
+    let walks = component_walks(leaf);
+    let listed = listed_trains(leaf);
+    match rule {
+        Why::BadName => has_names(problem, trains, decisions, leaf),
+        Why::BadChoice => true,
+        Why::HasRoute => says_more(leaf),
+        Why::NotCycle => is_long_cycle(leaf),
+        Why::EmptyWalk => are_right(problem, trains, decisions, ListRule::NotEmpty, leaf),
+        Why::NotForced => are_right(problem, trains, decisions, ListRule::Forced, leaf),
+        Why::BadArc => has_arcs(problem, trains, decisions, leaf),
+        Why::NotLate => is_late_if_said(problem, fixings, decisions, trains, leaf),
+        Why::RepeatedComponent => have_distinct(walks),
+        Why::RepeatedTrain => have_distinct_trains(listed),
+        Why::WrongTrain => are_on_trains(problem, walks, listed),
+        Why::WrongEnd => end_right(problem, walks),
+        Why::NoVerdict => has_verdict(verdict, leaf),
+        Why::BelowCost { .. } => true,
+    }
+}

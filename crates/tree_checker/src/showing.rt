@@ -1,0 +1,108 @@
+ghost use Rattle.std.specs.Prelude.{◌↔◌, IfOk, IsTrue};
+ghost use Rattle.disp_model.specs.Node.{node_at};
+ghost use Rattle.disp_model.specs.Trees.{SharesEnough, ShareVerdict, Shows};
+ghost use Rattle.node_facts.specs.Orders.{AreKnown};
+
+use crate::bound::bound_of;
+use crate::costs::reach_verdict;
+use crate::distinct::{have_distinct, have_distinct_trains};
+use crate::ends::are_of_others;
+use disp_model::{ComponentWalk, Decision, Fixing, Leaf, Memory, Problem, TrainWalks, Verdict};
+use node_facts::{TrainKnowledge, is_cycle, is_late};
+use std::alloc::Global;
+
+/// Whether walks to distinct components and the shares of other trains, each listed once, cost
+/// together as much as a cost.
+fn shares_enough(
+    alloc: Global,
+    problem: &Problem,
+    fixings: &[Fixing],
+    decisions: &[Decision],
+    trains: &[TrainKnowledge],
+    walks: &[ComponentWalk],
+    listed: &[TrainWalks],
+    cost: u64,
+) -> Result<bool, Memory>
+    requires { AreKnown (node_at problem.now fixings.now decisions.now) trains.now }
+    ensures { IfOk result (λ enough. IsTrue enough ↔ SharesEnough
+        (node_at problem.now fixings.now decisions.now) walks.now listed.now cost) }
+{
+    if !have_distinct(walks) {
+        return Ok(false);
+    }
+    if !have_distinct_trains(listed) {
+        return Ok(false);
+    }
+    if !are_of_others(problem, walks, listed) {
+        return Ok(false);
+    }
+    match bound_of(alloc, problem, fixings, decisions, trains, walks, listed)? {
+        Some(bound) => Ok(u128::from(cost) <= bound),
+        None => Ok(false),
+    }
+}
+
+/// Whether walks and shares show that no valid plan costs less than a verdict says.
+fn share_verdict(
+    alloc: Global,
+    problem: &Problem,
+    fixings: &[Fixing],
+    decisions: &[Decision],
+    trains: &[TrainKnowledge],
+    verdict: Verdict,
+    walks: &[ComponentWalk],
+    listed: &[TrainWalks],
+) -> Result<bool, Memory>
+    requires { AreKnown (node_at problem.now fixings.now decisions.now) trains.now }
+    ensures { IfOk result (λ shown. IsTrue shown ↔ ShareVerdict
+        (node_at problem.now fixings.now decisions.now) verdict walks.now listed.now) }
+{
+    match verdict {
+        Verdict::Optimal(cost) => shares_enough(
+            alloc, problem, fixings, decisions, trains, walks, listed, cost,
+        ),
+        Verdict::Infeasible => Ok(false),
+    }
+}
+
+/// Whether what a leaf lists shows that its place needs no branch.
+pub(crate) fn shows(
+    alloc: Global,
+    problem: &Problem,
+    fixings: &[Fixing],
+    decisions: &[Decision],
+    trains: &[TrainKnowledge],
+    verdict: Verdict,
+    leaf: &Leaf,
+) -> Result<bool, Memory>
+    requires { AreKnown (node_at problem.now fixings.now decisions.now) trains.now }
+    ensures { IfOk result (λ shown. IsTrue shown
+        ↔ Shows (node_at problem.now fixings.now decisions.now) verdict leaf.now) }
+{
+    match leaf {
+        Leaf::NoRoute => Ok(false),
+        Leaf::Cycle(nodes) => Ok(is_cycle(problem, trains, decisions, nodes.as_slice())),
+        Leaf::Late(walk) => Ok(is_late(problem, fixings, decisions, trains, walk.as_slice())),
+        Leaf::Costs(walks) => Ok(reach_verdict(
+            problem,
+            fixings,
+            decisions,
+            trains,
+            verdict,
+            walks.as_slice(),
+        )),
+        Leaf::Shares {
+            walks,
+            trains: listed,
+        } => share_verdict(
+            alloc,
+            problem,
+            fixings,
+            decisions,
+            trains,
+            verdict,
+            walks.as_slice(),
+            listed.as_slice(),
+        ),
+    }
+}
