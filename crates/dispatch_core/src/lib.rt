@@ -21,3 +21,6 @@ mod work;
 
 pub use event::{CoreEvent, CoreReply, StepNo};
 pub use machine::Core;
+
+#[cfg(test)]
+mod tests;
