@@ -1,0 +1,4 @@
+pub mod Tighter
+pub mod Staying
+pub mod Dying
+pub mod Rising
