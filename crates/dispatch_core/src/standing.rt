@@ -1,22 +1,37 @@
-ghost use Rattle.std.specs.Prelude.{◌≡◌, MatchOption};
-ghost use Rattle.disp_model.specs.History.{newest, IsStanding};
+ghost use Rattle.std.specs.Prelude.{◌≡◌, IfOk, MatchOption};
+ghost use Rattle.disp_model.specs.History.{newest, edition_of, IsStanding};
 ghost use Rattle.dispatch_core.specs.Replies.{IsCurrent, NotCurrent, IsNext};
+ghost use Rattle.dispatch_core.specs.States.{IsSound};
 
 use crate::event::CoreReply;
 use crate::flags::open_count;
 use crate::machine::Core;
-use disp_model::{Mark, Standing};
+use crate::settling::standing;
+use disp_model::{Fixing, Mark, Memory, Standing};
+use std::alloc::Global;
 
 impl Core {
-    /// The number of the newest edition.
-    pub(crate) fn edition(&self) -> u32
-        ensures { result ≡ newest self.now.history }
+    /// The number of the newest edition; what else holds of the run.
+    pub fn edition(&self) -> u32
+        ensures number { result ≡ newest self.now.history }
+        ensures sound { IsSound self.now }
     {
         self.editions.changes().len() as u32
     }
 
+    /// The fixings that stand in the newest edition.
+    ///
+    /// # Errors
+    ///
+    /// `Memory` where memory runs out.
+    pub fn fixings(&self, alloc: Global) -> Result<Vec<Fixing>, Memory>
+        ensures { IfOk result (λ fixings. fixings.items ≡ edition_of self.now.history) }
+    {
+        standing(alloc, self.editions.changes())
+    }
+
     /// Where the search stands.
-    pub(crate) fn standing(&self) -> Standing
+    pub fn standing(&self) -> Standing
         ensures { IsStanding self.now.problem self.now.history result }
     {
         Standing {

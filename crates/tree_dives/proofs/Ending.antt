@@ -73,6 +73,10 @@ module _ (best : Option ℕ) (root : Node) (allowance : ℕ) where
       costs = rw whole.bounds (subst (Contains ((sides.before_bounds ++ bound_in shown ∷ []) ++ reverse sides.behind_bounds)) (shown_bound here shown has.bound has.alive has.bound_is is ∙ sym cost)
           (Contains-append_left (sides.before_bounds ++ bound_in shown ∷ []) (reverse sides.behind_bounds) (bound_in shown) (Contains-push sides.before_bounds (bound_in shown))));
       better = subst (λ n. IsBelow n best) (sym cost) has.below;
+      here = here;
+      below = below;
+      alive = has.alive;
+      earliest = has.earliest;
     }
       where
         valid_here : IsValid here.problem here.fixings plan

@@ -4,21 +4,29 @@ use Rattle.disp_model.specs.declared.plan.Event.{Event}
 use Rattle.disp_model.specs.declared.decision.Choice.{Choice}
 use Rattle.disp_model.specs.declared.tree.TreeNode.{TreeNode}
 use Rattle.disp_model.specs.Node.{Node}
+use Rattle.disp_model.specs.Nodes.{IsDead}
+use Rattle.disp_model.specs.Earliest.{IsEarliest}
 use Rattle.disp_model.specs.Valid.{IsValid}
 use Rattle.disp_model.specs.Cost.{cost_of}
 use Rattle.disp_model.specs.declared.settings.Rule.TheVariants.{Fixed}
 use Rattle.open_nodes.specs.States.{IsBelow}
 use Rattle.tree_growth.specs.Grown.{Grows, Helps, branches}
+use Rattle.tree_dives.specs.Halves.{IsBelowNode}
 use Rattle.tree_dives.specs.Stages.{IsClosedAt}
 use Rattle.tree_dives.specs.declared.given.Dive.{Dive}
 use Rattle.tree_dives.specs.declared.stage.End.{End}
 use Rattle.tree_dives.specs.declared.stage.End.TheVariants.{Closed, Plan, Open}
 
--- the plan is valid, and costs what is kept for a leaf, less than the best
+-- the plan is valid, and costs what is kept for a leaf, less than the best; it is the earliest one of a node below, which is
+-- not dead
 pub record EndsInPlan (root : Node) (best : Option ℕ) (bounds : List ℕ) (plan : List Event) : Type 0 where
   pub valid : IsValid root.problem root.fixings plan
   pub costs : Contains bounds (cost_of root.problem.components plan)
   pub better : IsBelow (cost_of root.problem.components plan) best
+  pub here : Node
+  pub below : IsBelowNode root here
+  pub alive : IsDead here → ⊥
+  pub earliest : IsEarliest here plan
 
 -- the node stays a leaf with its bound, and a choice is picked there
 pub record StaysOpen (root : Node) (best : Option ℕ) (bounds : List ℕ) : Type 0 where

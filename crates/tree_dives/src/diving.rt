@@ -9,7 +9,7 @@ ghost use Rattle.tree_dives.specs.Halves.{IsBelowNode};
 use crate::down::{Halves, go_down};
 use crate::given::Dive;
 use crate::grown::{append_back, nothing, push_leaf};
-use crate::rewind::rewind;
+use crate::rewinding::rewind;
 use crate::stage::{End, Stage, stage_of};
 use disp_model::{List, Memory, Problem};
 use event_graph::Graph;

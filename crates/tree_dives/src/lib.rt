@@ -12,11 +12,12 @@ mod given;
 mod grown;
 mod leaves;
 mod prefer;
-mod rewind;
+mod rewinding;
 mod stage;
 
 pub use diving::dive;
 pub use given::Dive;
+pub use rewinding::rewind;
 pub use stage::End;
 
 #[cfg(test)]

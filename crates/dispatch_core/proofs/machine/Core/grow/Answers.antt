@@ -19,13 +19,13 @@ pub spent_after-self-inside-requires : goal.spent_after-self-inside-requires
 spent_after-self-inside-requires c =
     spent_returned (λ (l : Left). l.nodes.items) (λ (l : Left). l.bounds.items) _ _ c.self.view_is c.args.searcher c.args.fragment c.in-Ok.left c.in-Ok.ensures c.problem-problem.result.now
     c.problem-problem.ensures c.in-Ok-graft.growth c.graft.new.nodes c.in-Ok-graft.ensures.ok c.in-Grown.splits c.in-Grown.is c.self.invariant.1 c.requires
-    _ _ _ _ _ c.self.invariant.0 _ c.edition-newest.ensures _ c.count_of-count.ensures
+    _ _ _ _ _ c.self.invariant.0 _ c.edition-newest.ensures.number _ c.count_of-count.ensures
 
 pub invariant_of-self-in-Grown : goal.invariant_of-self-in-Grown
 invariant_of-self-in-Grown c =
     both_returned (λ (l : Left). l.nodes.items) (λ (l : Left). l.bounds.items) _ _ c.self.view_is c.args.searcher c.args.fragment c.in-Ok.left c.in-Ok.ensures c.problem-problem.result.now
     c.problem-problem.ensures c.in-Ok-graft.growth c.graft.new.nodes c.in-Ok-graft.ensures.ok c.in-Grown.splits c.in-Grown.is c.self.invariant.1 c.requires
-    _ _ _ _ _ c.self.invariant.0 _ c.edition-newest.ensures _ c.count_of-count.ensures _ c.spent_after-self-inside.ensures c.push_reserved.new.self.items
+    _ _ _ _ _ c.self.invariant.0 _ c.edition-newest.ensures.number _ c.count_of-count.ensures _ c.spent_after-self-inside.ensures c.push_reserved.new.self.items
     (pushed _ _ _ _ c.push_reserved.ensures.items c.in-Ok-reserve.ensures.items)
 
 pub returns-in-Gone-clause-ok : goal.returns-in-Gone-clause-ok

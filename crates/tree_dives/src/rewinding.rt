@@ -4,7 +4,7 @@ ghost use Rattle.disp_model.specs.Node.{node_at};
 use event_graph::Graph;
 
 /// Takes decisions back until so many are left.
-pub(crate) fn rewind(graph: &mut Graph, depth: usize)
+pub fn rewind(graph: &mut Graph, depth: usize)
     requires { depth ≤ length graph.old.decisions }
     ensures { graph.new
         ≡ node_at graph.old.problem graph.old.fixings (take depth graph.old.decisions) }
