@@ -1,0 +1,5 @@
+pub mod Moving
+pub mod Growths
+pub mod GoingOn
+pub mod Handing
+pub mod Rooted

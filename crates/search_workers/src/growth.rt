@@ -1,0 +1,102 @@
+ghost use Rattle.std.specs.Prelude.{◌≡◌, ◌↔◌, ℕ, IsTrue, IfOk, [], ◌∷◌, Option, None};
+ghost use Rattle.disp_model.specs.declared.tree.TreeNode.TheVariants.{Leaf as LeafNode};
+ghost use Rattle.disp_model.specs.Node.{Node, node_at};
+ghost use Rattle.event_graph.specs.Joined.{IsOfEdition};
+ghost use Rattle.tree_dives.specs.Dives.{IsDive};
+ghost use Rattle.search_workers.specs.declared.growth.Growth.TheVariants.{Subtree};
+ghost use Rattle.search_workers.specs.Grown.{IsGrownOf};
+ghost use Rattle.search_workers.specs.Walks.{IsBeside};
+
+use crate::walk::go_to;
+use disp_model::{Leaf, List, Memory, Plan, Problem, TreeNode};
+use event_graph::Graph;
+use open_nodes::Work;
+use std::alloc::Global;
+use tree_dives::{Dive, End, dive};
+
+/// What a searcher makes of a leaf.
+#[derive(Drop)]
+pub(crate) enum Growth {
+    /// Nodes in preorder, the bounds of the leaves among them, and a plan if one was found.
+    Subtree {
+        nodes: List<TreeNode>,
+        bounds: List<u64>,
+        plan: Option<Plan>,
+    },
+    /// The leaf stays as it is, and is examined.
+    Examined,
+}
+
+/// A leaf with the bound 0.
+pub(crate) fn leaf_alone(alloc: Global, leaf: Leaf) -> Result<Growth, Memory>
+    ensures { IfOk result (λ growth. growth ≡ Subtree (LeafNode leaf ∷ []) (0 ∷ []) None) }
+{
+    Ok(Growth::Subtree {
+        nodes: List::from_vec(vec![in alloc; TreeNode::Leaf(leaf)]?),
+        bounds: List::from_vec(vec![in alloc; 0]?),
+        plan: None,
+    })
+}
+
+/// Whether a bound is the one there is.
+fn is_only(bounds: &[u64], bound: u64) -> bool
+    ensures { IsTrue result ↔ (bounds.now ≡ bound ∷ []) }
+{
+    match bounds {
+        [only] => *only == bound,
+        _ => false,
+    }
+}
+
+/// What a dive makes of a leaf with a kept bound.
+#[tactic(auto, using(crate::proofs::Growths::without_plan, crate::proofs::Growths::stays_examined))]
+fn of_dive(found: Dive, allowance: u32, bound: u64) -> Growth
+    ensures { (node : Node) (best : Option ℕ) → IsOfEdition node
+        → IsDive node best allowance found → IsGrownOf node best allowance bound result }
+{
+    let Dive { nodes, bounds, end } = found;
+    match end {
+        End::Closed => Growth::Subtree {
+            nodes,
+            bounds,
+            plan: None,
+        },
+        End::Plan(plan) => Growth::Subtree {
+            nodes,
+            bounds,
+            plan: Some(plan),
+        },
+        End::Open => {
+            if allowance == 0 && is_only(bounds.as_slice(), bound) {
+                return Growth::Examined;
+            }
+            Growth::Subtree {
+                nodes,
+                bounds,
+                plan: None,
+            }
+        }
+    }
+}
+
+/// Grows the leaf of a work, by a dive from its node. Where the node is not reached, a leaf shows
+/// that it is dead.
+pub(crate) fn grow(
+    alloc: Global,
+    problem: &Problem,
+    graph: &mut Graph,
+    work: &Work,
+) -> Result<Growth, Memory>
+    requires problem { graph.old.problem ≡ problem.now }
+    requires edition { IsOfEdition graph.old }
+    ensures beside { IsBeside graph.old graph.new }
+    ensures grown { IfOk result (IsGrownOf
+        (node_at graph.old.problem graph.old.fixings work.now.decisions) work.now.best
+        work.now.allowance work.now.bound) }
+{
+    if let Some(leaf) = go_to(graph, work.decisions.as_slice())? {
+        return leaf_alone(alloc, leaf);
+    }
+    let found = dive(alloc, problem, graph, work.best, work.allowance)?;
+    Ok(of_dive(found, work.allowance, work.bound))
+}

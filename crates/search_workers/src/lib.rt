@@ -1,0 +1,16 @@
+//! A searcher: it takes leaves from the core, grows them, and tells the core what it found.
+//!
+//! `search_alone` searches the newest edition of a core on one thread until it is settled or
+//! stopped.
+#![tactic(auto)]
+
+mod growth;
+mod hand_in;
+mod search;
+mod turn;
+mod walk;
+
+pub use search::search_alone;
+
+#[cfg(test)]
+mod tests;

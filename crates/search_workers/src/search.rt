@@ -1,0 +1,127 @@
+ghost use Rattle.std.specs.Prelude.{◌≡◌, [], ◌∷◌, IfOk, OnOk, None, true};
+ghost use Rattle.disp_model.specs.declared.settings.Rule.TheVariants.{Fixed};
+ghost use Rattle.disp_model.specs.declared.tree.TreeNode.TheVariants.{Leaf as LeafNode};
+ghost use Rattle.disp_model.specs.History.{edition_of};
+ghost use Rattle.disp_model.specs.Node.{node_at};
+ghost use Rattle.node_leaves.specs.Shown.{IsDeadLeaf};
+ghost use Rattle.search_workers.specs.declared.growth.Growth.TheVariants.{Subtree};
+ghost use Rattle.search_workers.specs.Searched.{GoesOn, IsClosed, IsOfNewest};
+
+use crate::growth::{Growth, grow, leaf_alone};
+use crate::hand_in::hand_in;
+use crate::turn::{Turn, next_turn};
+use crate::walk::refused_leaf;
+use disp_model::{Copied, Leaf, Memory, Problem};
+use dispatch_core::Core;
+use event_graph::Graph;
+use std::alloc::Global;
+
+/// A copy of a leaf, with the bound 0.
+fn copy_alone(alloc: Global, leaf: &Leaf) -> Result<Growth, Memory>
+    ensures { IfOk result (λ growth. growth ≡ Subtree (LeafNode leaf.now ∷ []) (0 ∷ []) None) }
+{
+    leaf_alone(alloc, leaf.copy()?)
+}
+
+/// Takes a leaf of the newest edition and grows it. Says whether the edition is closed.
+fn round(
+    alloc: Global,
+    problem: &Problem,
+    core: &mut Core,
+    graph: &mut Graph,
+) -> Result<bool, Memory>
+    requires problem { core.old.problem ≡ problem.now }
+    requires rule { core.old.settings.rule ≡ Fixed }
+    requires newest { IsOfNewest core.old graph.old }
+    ensures on { GoesOn core.old core.new }
+    ensures newest { IsOfNewest core.new graph.new }
+    ensures closed { IfOk result (λ closed. closed ≡ true → IsClosed core.new) }
+{
+    match next_turn(alloc, core)? {
+        Turn::Work(work) => {
+            let growth = grow(alloc, problem, graph, &work);
+            hand_in(alloc, core, work, growth)?;
+            Ok(false)
+        }
+        Turn::Closed => Ok(true),
+        Turn::On => Ok(false),
+    }
+}
+
+/// The same where the root of the newest edition is dead, as this leaf shows: then so is the node
+/// of each leaf.
+fn round_of_dead(alloc: Global, core: &mut Core, leaf: &Leaf) -> Result<bool, Memory>
+    requires rule { core.old.settings.rule ≡ Fixed }
+    requires dead { IsDeadLeaf (node_at core.old.problem (edition_of core.old.history) [])
+        leaf.now }
+    ensures on { GoesOn core.old core.new }
+    ensures closed { IfOk result (λ closed. closed ≡ true → IsClosed core.new) }
+{
+    match next_turn(alloc, core)? {
+        Turn::Work(work) => {
+            let growth = copy_alone(alloc, leaf);
+            hand_in(alloc, core, work, growth)?;
+            Ok(false)
+        }
+        Turn::Closed => Ok(true),
+        Turn::On => Ok(false),
+    }
+}
+
+/// Rounds until the newest edition is closed. So many are never reached.
+fn rounds(
+    alloc: Global,
+    problem: &Problem,
+    core: &mut Core,
+    graph: &mut Graph,
+) -> Result<(), Memory>
+    requires problem { core.old.problem ≡ problem.now }
+    requires rule { core.old.settings.rule ≡ Fixed }
+    requires newest { IsOfNewest core.old graph.old }
+    ensures on { GoesOn core.old core.new }
+    ensures closed { OnOk result (IsClosed core.new) }
+{
+    for _ in 0..u64::MAX {
+        if round(alloc, problem, core, graph)? {
+            return Ok(());
+        }
+    }
+    Err(Memory)
+}
+
+/// The same where the root of the newest edition is dead, as this leaf shows.
+fn rounds_of_dead(alloc: Global, core: &mut Core, leaf: &Leaf) -> Result<(), Memory>
+    requires rule { core.old.settings.rule ≡ Fixed }
+    requires dead { IsDeadLeaf (node_at core.old.problem (edition_of core.old.history) [])
+        leaf.now }
+    ensures on { GoesOn core.old core.new }
+    ensures closed { OnOk result (IsClosed core.new) }
+{
+    for _ in 0..u64::MAX {
+        if round_of_dead(alloc, core, leaf)? {
+            return Ok(());
+        }
+    }
+    Err(Memory)
+}
+
+/// Searches the newest edition of a core on one thread, by the fixed rule, until it is settled or
+/// stopped. The problem is the core's.
+///
+/// # Errors
+///
+/// `Memory` where memory runs out; the core is sound then too. (It is also the answer after 2^64
+/// rounds, which are never reached.)
+pub fn search_alone(alloc: Global, problem: &Problem, core: &mut Core) -> Result<(), Memory>
+    requires problem { core.old.problem ≡ problem.now }
+    requires rule { core.old.settings.rule ≡ Fixed }
+    ensures goes_on { GoesOn core.old core.new }
+    ensures closed { OnOk result (IsClosed core.new) }
+{
+    let _edition = core.edition();
+    let fixings = core.fixings(alloc)?;
+    match Graph::new(alloc, problem, fixings.as_slice()) {
+        Ok(mut graph) => rounds(alloc, problem, core, &mut graph),
+        Err(no) => rounds_of_dead(alloc, core, &refused_leaf(no)?),
+    }
+}
