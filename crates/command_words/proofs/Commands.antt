@@ -40,19 +40,20 @@ has_one s rows false required e = absurd (misses (s.arg_required_else_help && no
     (not (s.subcommand_negates_reqs && false) && list_any (λ a. a.required && not (is_given a.id rows)) s.rules) ≡ []) required e))
 
 abbrev pub NamesOne : Option (Text × List Row) → Type 0
-NamesOne found = (rows : List Row) × ((found ≡ Some (codes "solve", rows)) ⊎ (found ≡ Some (codes "verify", rows)))
+NamesOne found = (rows : List Row) × ((found ≡ Some (codes "solve", rows)) ⊎ ((found ≡ Some (codes "verify", rows)) ⊎ (found ≡ Some (codes "check", rows))))
 
--- of two commands one is found, if any
-one_of_two : (s v : Shape) (p : Text × List Text) (is_s is_v : Bool) → s.name ≡ codes "solve" → v.name ≡ codes "verify"
-    → is_some (option_map (λ c. rows_at c p.1) (cond is_s (Some s) (cond is_v (Some v) None))) ≡ true
-    → NamesOne (option_map (λ c. rows_at c p.1) (cond is_s (Some s) (cond is_v (Some v) None)))
-one_of_two s v p true is_v named_s named_v there = ((rows_at s p.1).1, inl (rw named_s refl))
-one_of_two s v p false true named_s named_v there = ((rows_at v p.1).1, inr (rw named_v refl))
-one_of_two s v p false false named_s named_v there = cc
+-- of three commands one is found, if any
+one_of_three : (s v k : Shape) (p : Text × List Text) (is_s is_v is_k : Bool) → s.name ≡ codes "solve" → v.name ≡ codes "verify" → k.name ≡ codes "check"
+    → is_some (option_map (λ c. rows_at c p.1) (cond is_s (Some s) (cond is_v (Some v) (cond is_k (Some k) None)))) ≡ true
+    → NamesOne (option_map (λ c. rows_at c p.1) (cond is_s (Some s) (cond is_v (Some v) (cond is_k (Some k) None))))
+one_of_three s v k p true is_v is_k named_s named_v named_k there = ((rows_at s p.1).1, inl (rw named_s refl))
+one_of_three s v k p false true is_k named_s named_v named_k there = ((rows_at v p.1).1, inr (inl (rw named_v refl)))
+one_of_three s v k p false false true named_s named_v named_k there = ((rows_at k p.1).1, inr (inr (rw named_k refl)))
+one_of_three s v k p false false false named_s named_v named_k there = cc
 
 entered_one : (stop : Option (Text × List Text)) → is_some (entered (built program) stop) ≡ true → NamesOne (entered (built program) stop)
 entered_one None there = cc
-entered_one (Some p) there = one_of_two _ _ p _ _ refl refl there
+entered_one (Some p) there = one_of_three _ _ _ p _ _ _ refl refl refl there
 
 pub taken_names_one : (words : List (List ℕ)) → AreTaken words → NamesOne (subcommand_of program words)
 taken_names_one words taken =

@@ -24,6 +24,14 @@ solve = with_rule (with_rule (with_rule (new_app (codes "solve")) (needed_rule (
 abbrev pub verify : App
 verify = with_rule (with_rule (with_rule (new_app (codes "verify")) (needed_rule (codes "problem"))) (needed_rule (codes "solution"))) (optional_rule (codes "fixings"))
 
--- one of these commands; the words do not begin with the program's name
+-- `check PROBLEM TREE [--fixings F] [--plan P]`
+abbrev pub check : App
+check = with_rule (with_rule (with_rule (with_rule (new_app (codes "check")) (needed_rule (codes "problem"))) (needed_rule (codes "tree"))) (optional_rule (codes "fixings"))) (optional_rule (codes "plan"))
+
+-- `solve` or `verify`; the words do not begin with the program's name
+abbrev pub first_commands : App
+first_commands = with_subcommand (with_subcommand (on_top (λ s. record s { no_binary_name = true; subcommand_required = true; disable_help_subcommand = true }) (new_app (codes "dispatch"))) solve.top) verify.top
+
+-- one of these commands
 abbrev pub program : App
-program = with_subcommand (with_subcommand (on_top (λ s. record s { no_binary_name = true; subcommand_required = true; disable_help_subcommand = true }) (new_app (codes "dispatch"))) solve.top) verify.top
+program = with_subcommand first_commands check.top

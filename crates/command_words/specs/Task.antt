@@ -6,7 +6,7 @@ use Rattle.command_words.specs.Program.{program}
 use Rattle.command_words.specs.declared.read.WordsNo.{WordsNo}
 use Rattle.command_words.specs.declared.read.WordsNo.TheVariants.{Refused, Memory}
 use Rattle.command_words.specs.declared.task.Task.{Task}
-use Rattle.command_words.specs.declared.task.Task.TheVariants.{Solve, Verify}
+use Rattle.command_words.specs.declared.task.Task.TheVariants.{Solve, Verify, Check}
 
 -- clap finds no fault with the words
 abbrev pub AreTaken : List (List ℕ) → Type 0
@@ -49,10 +49,21 @@ pub record IsVerify (words : List (List ℕ)) (problem solution : List ℕ) (fix
   pub solution_is : solution ≡ name_found (codes "solution") rows
   pub fixings_is : fixings ≡ first_of (codes "fixings") rows
 
+-- the values that clap finds for `check`
+pub record IsCheck (words : List (List ℕ)) (problem tree : List ℕ) (fixings plan : Option (List ℕ)) : Type 0 where
+  pub taken : AreTaken words
+  pub rows : List Row
+  pub named : Names words (codes "check") rows
+  pub problem_is : problem ≡ name_found (codes "problem") rows
+  pub tree_is : tree ≡ name_found (codes "tree") rows
+  pub fixings_is : fixings ≡ first_of (codes "fixings") rows
+  pub plan_is : plan ≡ first_of (codes "plan") rows
+
 -- the words ask for the task
 abbrev pub IsTask : List (List ℕ) → Task → Type 0
 IsTask words (Solve problem budget plan) = IsSolve words problem budget plan
 IsTask words (Verify problem solution fixings) = IsVerify words problem solution fixings
+IsTask words (Check problem tree fixings plan) = IsCheck words problem tree fixings plan
 
 -- clap finds fault with the words
 abbrev pub AreRefused : List (List ℕ) → Type 0

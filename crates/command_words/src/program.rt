@@ -1,7 +1,7 @@
 ghost use Rattle.std.specs.Prelude.{◌≡◌, IfOk, false};
 ghost use Rattle.clap.specs.Words.{app_of, rule_of};
 ghost use Rattle.clap.specs.declared.builder.command.Command.TheViews.{out-Command as fields_of};
-ghost use Rattle.command_words.specs.Program.{needed_rule, optional_rule, budget, solve, verify, program};
+ghost use Rattle.command_words.specs.Program.{needed_rule, optional_rule, budget, solve, verify, check, first_commands, program};
 
 use clap::{Arg, Command, value_parser};
 use std::alloc::{AllocError, Global};
@@ -57,9 +57,22 @@ fn verify<'a>(alloc: Global) -> Result<Command<'a>, AllocError>
         .arg(optional_rule(alloc, "fixings", "F"))
 }
 
-/// The program's command line.
-pub(crate) fn program<'a>(alloc: Global) -> Result<Command<'a>, AllocError>
-    ensures { IfOk result (λ c. app_of c ≡ program) }
+/// `check`, with its arguments.
+fn check<'a>(alloc: Global) -> Result<Command<'a>, AllocError>
+    ensures app { IfOk result (λ c. app_of c ≡ check) }
+    ensures own { IfOk result (λ c. (fields_of c).has_globals ≡ false) }
+{
+    Command::new(alloc, "check")
+        .about("Checks a tree")
+        .arg(needed_rule(alloc, "problem", "PROBLEM"))?
+        .arg(needed_rule(alloc, "tree", "TREE"))?
+        .arg(optional_rule(alloc, "fixings", "F"))?
+        .arg(optional_rule(alloc, "plan", "P"))
+}
+
+/// The program's command line with `solve` and `verify`.
+fn first_commands<'a>(alloc: Global) -> Result<Command<'a>, AllocError>
+    ensures { IfOk result (λ c. app_of c ≡ first_commands) }
 {
     Command::new(alloc, "dispatch")
         .about("Dispatches trains")
@@ -68,4 +81,11 @@ pub(crate) fn program<'a>(alloc: Global) -> Result<Command<'a>, AllocError>
         .disable_help_subcommand(true)
         .subcommand(solve(alloc)?)?
         .subcommand(verify(alloc)?)
+}
+
+/// The program's command line.
+pub(crate) fn program<'a>(alloc: Global) -> Result<Command<'a>, AllocError>
+    ensures { IfOk result (λ c. app_of c ≡ program) }
+{
+    first_commands(alloc)?.subcommand(check(alloc)?)
 }

@@ -113,6 +113,19 @@ fn verify(alloc: Global, found: &ArgMatches) -> Result<Task, WordsNo>
     })
 }
 
+/// What is asked of `check`.
+fn check(alloc: Global, found: &ArgMatches) -> Result<Task, WordsNo>
+    ensures ok { IfOk result (λ task. (words : List (List ℕ)) → AreTaken words → Names words (codes "check") (rows_of (found_of found.now)) → IsTask words task) }
+    ensures err { IfErr result (λ no. no ≡ WordsNo.Memory) }
+{
+    Ok(Task::Check {
+        problem: name(alloc, found, "problem")?,
+        tree: name(alloc, found, "tree")?,
+        fixings: optional_name(alloc, found, "fixings")?,
+        plan: optional_name(alloc, found, "plan")?,
+    })
+}
+
 /// What clap's matches ask for.
 fn task(alloc: Global, matches: &ArgMatches) -> Result<Task, WordsNo>
     ensures ok { IfOk result (λ task. (words : List (List ℕ)) → AreTaken words
@@ -125,6 +138,9 @@ fn task(alloc: Global, matches: &ArgMatches) -> Result<Task, WordsNo>
     }
     if let Some(found) = matches.subcommand_matches("verify") {
         return verify(alloc, found);
+    }
+    if let Some(found) = matches.subcommand_matches("check") {
+        return check(alloc, found);
     }
     Err(WordsNo::Refused(Text::from_string(String::new(alloc))))
 }

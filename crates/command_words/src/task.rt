@@ -21,4 +21,15 @@ pub enum Task {
         /// The name of a file of fixings that the plan is to meet, if there is one.
         fixings: Option<Text>,
     },
+    /// Whether a tree shows its verdict of a problem, and whether a plan fits the verdict.
+    Check {
+        /// The name of the problem's file.
+        problem: Text,
+        /// The name of the tree's file.
+        tree: Text,
+        /// The name of a file of fixings, if there is one.
+        fixings: Option<Text>,
+        /// The name of a plan's file, if there is one.
+        plan: Option<Text>,
+    },
 }

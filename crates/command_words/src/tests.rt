@@ -21,6 +21,20 @@ fn shown(alloc: Global, task: &Task) -> Result<String, Fail> {
             let plan = plan.as_ref().map_or("none", |name| name.as_str());
             format!(in alloc; "solve {} {budget} {plan}", problem.as_str())?
         }
+        Task::Check {
+            problem,
+            tree,
+            fixings,
+            plan,
+        } => {
+            let fixings = fixings.as_ref().map_or("none", |name| name.as_str());
+            let plan = plan.as_ref().map_or("none", |name| name.as_str());
+            format!(in alloc;
+                "check {} {} {fixings} {plan}",
+                problem.as_str(),
+                tree.as_str()
+            )?
+        }
         Task::Verify {
             problem,
             solution,
@@ -76,6 +90,25 @@ fn words_have_their_values(rt: HostRuntime) -> Result<(), Fail> {
     assert_eq!(rt;
         read(alloc, "verify P S --fixings F")?.as_str(),
         "verify P S F"
+    );
+    Ok(())
+}
+
+#[test]
+fn words_of_a_check_have_their_values(rt: HostRuntime) -> Result<(), Fail> {
+    let alloc = rt.alloc();
+    assert_eq!(rt; read(alloc, "check P T")?.as_str(), "check P T none none");
+    assert_eq!(rt;
+        read(alloc, "check P T --plan S --fixings F")?.as_str(),
+        "check P T F S"
+    );
+    assert!(rt; is_refused(alloc, "check P", "<TREE>")?);
+    assert!(rt;
+        is_refused(
+            alloc,
+            "check P T --budget 1",
+            "unexpected argument '--budget'"
+        )?
     );
     Ok(())
 }

@@ -1,3 +1,4 @@
 mod Printed
 mod Solved
 mod Stopped
+mod Checking

@@ -12,7 +12,7 @@ use Rattle.command_words.specs.declared.task.Task.TheVariants.{Solve, Verify}
 use Rattle.command_words.specs.Task.{IsTask}
 use Rattle.dispatch_cli.specs.declared.answer.Answer.{Answer}
 use Rattle.dispatch_cli.specs.declared.cause.Cause.{Cause}
-use Rattle.dispatch_cli.specs.declared.cause.Cause.TheVariants.{Words, Failed, TooLong, NoProblem, NoSolution, BadLine, Choices, Memory}
+use Rattle.dispatch_cli.specs.declared.cause.Cause.TheVariants.{Words, Failed, TooLong, NoProblem, NoSolution, BadLine, NoTree, WrongEdition, NoPlan, Choices, Memory}
 use Rattle.dispatch_cli.specs.declared.cause.Input.TheVariants as input
 use Rattle.dispatch_cli.specs.Outside.{Holdings, Counts, Outside, IsFile, HoldsTooMuch, ReadsOne, ReadsNames, IsName, IsOneOfThree}
 use Rattle.dispatch_cli.specs.Files.{IsProblemFile, IsRefusedLine, AreFixings, HasFixings}
@@ -37,6 +37,9 @@ stops_by_choices holds old new name problem (TooLong which) file why = absurd wh
 stops_by_choices holds old new name problem (NoProblem refusal) file why = absurd why
 stops_by_choices holds old new name problem (NoSolution refusal) file why = absurd why
 stops_by_choices holds old new name problem (BadLine number reason) file why = absurd why
+stops_by_choices holds old new name problem (NoTree refusal) file why = absurd why
+stops_by_choices holds old new name problem (WrongEdition named wanted) file why = absurd why
+stops_by_choices holds old new name problem (NoPlan refusal) file why = absurd why
 
 different : false ≡ true → ⊥
 different e = cc
@@ -70,19 +73,19 @@ counts_of_three problem solution fixings old new counted others name = record {
     given unread (inr (inr e)) = unread input.Solution (ap Some (sym e))
 
 -- what a file held before another reading, which changed no file
-file_before : (holds mid : Holdings) (name bytes : List ℕ) → mid name ≡ holds name → IsFile mid name bytes → IsFile holds name bytes
+pub file_before : (holds mid : Holdings) (name bytes : List ℕ) → mid name ≡ holds name → IsFile mid name bytes → IsFile holds name bytes
 file_before holds mid name bytes same h = record { held = subst (λ (found : Option (Option (List ℕ))). IfSome found (λ file. file ≡ Some bytes)) same h.held; short = h.short }
 
-bad_before : (holds mid : Holdings) (name : List ℕ) (Bad : List ℕ → Type 0) → mid name ≡ holds name → IsBadFile mid name Bad → IsBadFile holds name Bad
+pub bad_before : (holds mid : Holdings) (name : List ℕ) (Bad : List ℕ → Type 0) → mid name ≡ holds name → IsBadFile mid name Bad → IsBadFile holds name Bad
 bad_before holds mid name Bad same h = record { bytes = h.bytes; file = file_before holds mid name h.bytes same h.file; bad = h.bad }
 
-lines_before : (holds mid : Holdings) (name : List ℕ) (told : Option (List (List ℕ))) → mid name ≡ holds name → HasLinesOf (mid name) told → HasLinesOf (holds name) told
+pub lines_before : (holds mid : Holdings) (name : List ℕ) (told : Option (List (List ℕ))) → mid name ≡ holds name → HasLinesOf (mid name) told → HasLinesOf (holds name) told
 lines_before holds mid name told same h = subst (λ (found : Option (Option (List ℕ))). HasLinesOf found told) same h
 
-refused_before : (holds mid : Holdings) (problem : Problem) (name : List ℕ) (number : ℕ) (reason : LineNo) → mid name ≡ holds name → IsRefusedLine mid problem name number reason → IsRefusedLine holds problem name number reason
+pub refused_before : (holds mid : Holdings) (problem : Problem) (name : List ℕ) (number : ℕ) (reason : LineNo) → mid name ≡ holds name → IsRefusedLine mid problem name number reason → IsRefusedLine holds problem name number reason
 refused_before holds mid problem name number reason same h = record { told = h.told; lines = lines_before holds mid name h.told same h.lines; refused = h.refused }
 
-long_before : (holds mid : Holdings) (name : List ℕ) → mid name ≡ holds name → HoldsTooMuch mid name → HoldsTooMuch holds name
+pub long_before : (holds mid : Holdings) (name : List ℕ) → mid name ≡ holds name → HoldsTooMuch mid name → HoldsTooMuch holds name
 long_before holds mid name same h = subst (λ (found : Option (Option (List ℕ))). IfSome found (λ file. IsSomeAnd file (λ bytes. MOST_FILE_BYTES < length bytes))) same h
 
 -- fixings that were taken behind another reading
@@ -103,12 +106,18 @@ stops_solution holds mid_holds old mid new problem fixings name Memory taken sam
 stops_solution holds mid_holds old mid new problem fixings name (Words text) taken same counted stops = absurd stops
 stops_solution holds mid_holds old mid new problem fixings name (NoProblem refusal) taken same counted stops = absurd stops
 stops_solution holds mid_holds old mid new problem fixings name (BadLine number reason) taken same counted stops = absurd stops
+stops_solution holds mid_holds old mid new problem fixings name (NoTree refusal) taken same counted stops = absurd stops
+stops_solution holds mid_holds old mid new problem fixings name (WrongEdition named wanted) taken same counted stops = absurd stops
+stops_solution holds mid_holds old mid new problem fixings name (NoPlan refusal) taken same counted stops = absurd stops
 stops_solution holds mid_holds old mid new problem fixings name Choices taken same counted stops = absurd stops
 
 -- what stopped the reading of the fixings
 pub stops_fixings : (holds : Holdings) (old new : Counts) (problem : Problem) (name solution : List ℕ) (cause : Cause) → StopsFixings holds old new problem name cause → StopsJudging holds old new problem (Some name) solution cause
 stops_fixings holds old new problem name solution (Failed which) (is, lt) = rw is (name, refl, lt)
 stops_fixings holds old new problem name solution (BadLine number reason) refused = (name, refl, refused)
+stops_fixings holds old new problem name solution (NoTree refusal) stops = absurd stops
+stops_fixings holds old new problem name solution (WrongEdition named wanted) stops = absurd stops
+stops_fixings holds old new problem name solution (NoPlan refusal) stops = absurd stops
 stops_fixings holds old new problem name solution Memory stops = tt
 stops_fixings holds old new problem name solution (Words text) stops = absurd stops
 stops_fixings holds old new problem name solution (TooLong which) stops = absurd stops
@@ -122,9 +131,14 @@ pub stops_judging : (holds mid_holds : Holdings) (old mid new : Counts) (problem
 stops_judging holds mid_holds old mid new problem fixings name (Failed input.Problem) same counted stops = absurd stops
 stops_judging holds mid_holds old mid new problem fixings name (Failed input.Fixings) same counted (file, is, lt) = (file, is, omega (arith, counted file, lt))
 stops_judging holds mid_holds old mid new problem fixings name (Failed input.Solution) same counted (taken, lt) = (has_fixings_before holds mid_holds problem fixings same taken, omega (arith, counted name, lt))
+stops_judging holds mid_holds old mid new problem fixings name (Failed input.Tree) same counted stops = absurd stops
+stops_judging holds mid_holds old mid new problem fixings name (Failed input.Plan) same counted stops = absurd stops
 stops_judging holds mid_holds old mid new problem fixings name (TooLong which) same counted (is, taken, long) = (is, has_fixings_before holds mid_holds problem fixings same taken, long_before holds mid_holds name (same name) long)
 stops_judging holds mid_holds old mid new problem fixings name (NoSolution refusal) same counted (taken, bad) = (has_fixings_before holds mid_holds problem fixings same taken, bad_before holds mid_holds name _ (same name) bad)
 stops_judging holds mid_holds old mid new problem fixings name (BadLine number reason) same counted (file, is, refused) = (file, is, refused_before holds mid_holds problem file number reason (same file) refused)
+stops_judging holds mid_holds old mid new problem fixings name (NoTree refusal) same counted stops = absurd stops
+stops_judging holds mid_holds old mid new problem fixings name (WrongEdition named wanted) same counted stops = absurd stops
+stops_judging holds mid_holds old mid new problem fixings name (NoPlan refusal) same counted stops = absurd stops
 stops_judging holds mid_holds old mid new problem fixings name Memory same counted stops = tt
 stops_judging holds mid_holds old mid new problem fixings name (Words text) same counted stops = absurd stops
 stops_judging holds mid_holds old mid new problem fixings name (NoProblem refusal) same counted stops = absurd stops
@@ -141,6 +155,9 @@ stops_solve holds old new problem budget plan Memory stops = tt
 stops_solve holds old new problem budget plan (Words text) stops = absurd stops
 stops_solve holds old new problem budget plan (NoSolution refusal) stops = absurd stops
 stops_solve holds old new problem budget plan (BadLine number reason) stops = absurd stops
+stops_solve holds old new problem budget plan (NoTree refusal) stops = absurd stops
+stops_solve holds old new problem budget plan (WrongEdition named wanted) stops = absurd stops
+stops_solve holds old new problem budget plan (NoPlan refusal) stops = absurd stops
 
 takes_problem : (holds : Holdings) (problem solution : List ℕ) (fixings : Option (List ℕ)) (read : Problem) → IsProblemFile holds problem read → TakesProblem holds (Verify problem solution fixings) read
 takes_problem holds problem solution fixings read file = record { name = problem; named = refl; file = file }
@@ -155,14 +172,22 @@ stops_verify holds old new problem solution fixings Memory stops = tt
 stops_verify holds old new problem solution fixings (Words text) (inl stops) = absurd stops
 stops_verify holds old new problem solution fixings (NoSolution refusal) (inl stops) = absurd stops
 stops_verify holds old new problem solution fixings (BadLine number reason) (inl stops) = absurd stops
+stops_verify holds old new problem solution fixings (NoTree refusal) (inl stops) = absurd stops
+stops_verify holds old new problem solution fixings (WrongEdition named wanted) (inl stops) = absurd stops
+stops_verify holds old new problem solution fixings (NoPlan refusal) (inl stops) = absurd stops
 stops_verify holds old new problem solution fixings Choices (inl stops) = absurd stops
 stops_verify holds old new problem solution fixings (Failed input.Problem) (inr (read, file, stops)) = absurd stops
 stops_verify holds old new problem solution fixings (Failed input.Fixings) (inr (read, file, (name, is, lt))) = ((read, takes_problem holds problem solution fixings read file), (name, is, lt))
 stops_verify holds old new problem solution fixings (Failed input.Solution) (inr (read, file, (taken, lt))) = ((read, takes_problem holds problem solution fixings read file, taken), (solution, refl, lt))
+stops_verify holds old new problem solution fixings (Failed input.Tree) (inr (read, file, stops)) = absurd stops
+stops_verify holds old new problem solution fixings (Failed input.Plan) (inr (read, file, stops)) = absurd stops
 stops_verify holds old new problem solution fixings (TooLong which) (inr (read, file, (is, taken, long))) = rw is ((read, takes_problem holds problem solution fixings read file, taken), (solution, refl, long))
 stops_verify holds old new problem solution fixings (NoSolution refusal) (inr (read, file, (taken, bad))) = ((read, takes_problem holds problem solution fixings read file, taken), (solution, refl, bad))
 stops_verify holds old new problem solution fixings (BadLine number reason) (inr (read, file, (name, is, refused))) =
     record { problem = read; takes = takes_problem holds problem solution fixings read file; name = name; named = is; refused = refused }
+stops_verify holds old new problem solution fixings (NoTree refusal) (inr (read, file, stops)) = absurd stops
+stops_verify holds old new problem solution fixings (WrongEdition named wanted) (inr (read, file, stops)) = absurd stops
+stops_verify holds old new problem solution fixings (NoPlan refusal) (inr (read, file, stops)) = absurd stops
 stops_verify holds old new problem solution fixings (Words text) (inr (read, file, stops)) = absurd stops
 stops_verify holds old new problem solution fixings (NoProblem refusal) (inr (read, file, stops)) = absurd stops
 stops_verify holds old new problem solution fixings Choices (inr (read, file, stops)) = absurd stops
@@ -232,6 +257,9 @@ stops_task words holds old new task (TooLong which) asked stops = record { task 
 stops_task words holds old new task (NoProblem refusal) asked stops = record { task = task; asked = asked; stops = stops }
 stops_task words holds old new task (NoSolution refusal) asked stops = record { task = task; asked = asked; stops = stops }
 stops_task words holds old new task (BadLine number reason) asked stops = record { task = task; asked = asked; stops = stops }
+stops_task words holds old new task (NoTree refusal) asked stops = record { task = task; asked = asked; stops = stops }
+stops_task words holds old new task (WrongEdition named wanted) asked stops = record { task = task; asked = asked; stops = stops }
+stops_task words holds old new task (NoPlan refusal) asked stops = record { task = task; asked = asked; stops = stops }
 stops_task words holds old new task Choices asked stops = record { task = task; asked = asked; stops = stops }
 stops_task words holds old new task Memory asked stops = tt
 
@@ -312,6 +340,9 @@ fails_of_stop words old new cause journal status stops halts puts none is = go c
     go (NoProblem refusal) stops halts e = two e
     go (NoSolution refusal) stops halts e = two e
     go (BadLine number reason) stops halts e = two e
+    go (NoTree refusal) stops halts e = two e
+    go (WrongEdition named wanted) stops halts e = two e
+    go (NoPlan refusal) stops halts e = two e
     go Choices stops halts e = two e
     go Memory stops halts (inl e) = absurd (not_five (sym e ∙ is))
     go Memory stops halts (inr e) = absurd (not_five (sym e ∙ is))

@@ -6,22 +6,28 @@ use Rattle.disp_model.specs.declared.entry.Mark.{Mark}
 use Rattle.disp_model.specs.declared.entry.Mark.TheVariants as mark
 use Rattle.disp_model.specs.declared.entry.Standing.{Standing}
 use Rattle.disp_model.specs.declared.problem.Problem.{Problem}
+use Rattle.disp_model.specs.declared.tree.TreeNode.{TreeNode}
+use Rattle.disp_model.specs.declared.tree.Verdict.{Verdict}
+use Rattle.disp_model.specs.declared.tree.Verdict.TheVariants as verdict
 use Rattle.disp_model.specs.declared.settings.Rule.TheVariants.{Fixed}
 use Rattle.disp_model.specs.History.{edition_of, last_plan, IsStanding}
 use Rattle.disp_model.specs.Legal.{IsLegal}
 use Rattle.solution_verifier.specs.declared.fault.Fault.{Fault}
 use Rattle.solution_verifier.specs.First.{IsRight, IsFirstFault}
+use Rattle.tree_checker.specs.declared.why.Checked.{Checked}
+use Rattle.tree_checker.specs.declared.why.Checked.TheVariants.{Accepted, Refused}
+use Rattle.tree_checker.specs.Checks.{IsChecked}
 use Rattle.single_routes.specs.declared.solved.Solved.{Solved}
 use Rattle.single_routes.specs.Choices.{HasChoices}
 use Rattle.single_routes.specs.Solution.{Solves}
 use Rattle.command_words.specs.declared.task.Task.{Task}
-use Rattle.command_words.specs.declared.task.Task.TheVariants.{Solve, Verify}
+use Rattle.command_words.specs.declared.task.Task.TheVariants.{Solve, Verify, Check}
 use Rattle.command_words.specs.Task.{IsTask}
 use Rattle.dispatch_cli.specs.declared.answer.Answer.{Answer}
 use Rattle.dispatch_cli.specs.declared.answer.Put.{Put}
 use Rattle.dispatch_cli.specs.Outside.{Holdings, HoldsBytes}
-use Rattle.dispatch_cli.specs.Files.{IsProblemFile, IsSolutionFile, AreFixings}
-use Rattle.dispatch_cli.specs.Texts.{answer_lines, plan_line, valid_line, fault_line}
+use Rattle.dispatch_cli.specs.Files.{IsProblemFile, IsSolutionFile, AreFixings, AreOfEdition, IsTreeFile, IsPlanFile}
+use Rattle.dispatch_cli.specs.Texts.{answer_lines, plan_line, valid_line, fault_line, accepted_line, refused_line, plan_fault_line, no_plan_line}
 use Rattle.dispatch_cli.specs.Journals.{journal_of, Promises}
 
 -- the status for a mark
@@ -88,9 +94,64 @@ pub record AnswersVerify (holds : Holdings) (problem_name solution_name : List �
   pub solution_file : IsSolutionFile holds solution_name plan stated
   pub judged : IsJudged problem fixings plan stated answer
 
+-- the first fault of a plan under a verdict of this cost: the first with the plan's own stated cost, or where it has none, the
+-- first with the verdict's cost as stated
+abbrev pub IsFaultUnder : Problem → List Fixing → List Event → Option ℕ → ℕ → Fault → Type 0
+IsFaultUnder problem fixings plan stated cost fault =
+    IsFirstFault problem fixings plan stated fault
+    ⊎ ((actual : ℕ) × IsRight problem fixings plan stated actual × IsFirstFault problem fixings plan (Some cost) fault)
+
+-- the line that is said of a plan with its stated cost behind a tree that is accepted, if one is: none where the plan is valid,
+-- costs what the verdict says, and a stated cost is that
+abbrev pub IsSaidOfPlan : Problem → List Fixing → Verdict → Option (List Event × Option ℕ) → Option (List ℕ) → Type 0
+IsSaidOfPlan problem fixings verdict None said = said ≡ None
+IsSaidOfPlan problem fixings verdict.Infeasible (Some plan) said = said ≡ Some no_plan_line
+IsSaidOfPlan problem fixings (verdict.Optimal cost) (Some plan) None = IsRight problem fixings plan.0 plan.1 cost
+IsSaidOfPlan problem fixings (verdict.Optimal cost) (Some plan) (Some line) =
+    (fault : Fault) × IsFaultUnder problem fixings plan.0 plan.1 cost fault × (line ≡ plan_fault_line problem fault)
+
+-- the lines for a tree that is accepted, with what is said of a plan, and the status
+abbrev pub accepted_lines : Verdict → Option (List ℕ) → List (List ℕ)
+accepted_lines verdict None = accepted_line verdict ∷ []
+accepted_lines verdict (Some said) = accepted_line verdict ∷ said ∷ []
+
+abbrev pub accepted_status : Option (List ℕ) → ℕ
+accepted_status None = 0
+accepted_status (Some said) = 1
+
+-- what is printed where the checker answers so
+abbrev pub SaysChecked : Problem → List Fixing → Verdict → Option (List Event × Option ℕ) → Checked → ℕ → List (List ℕ) → Type 0
+SaysChecked problem fixings verdict plan Accepted status lines =
+    (said : Option (List ℕ)) × IsSaidOfPlan problem fixings verdict plan said × (status ≡ accepted_status said) × (lines ≡ accepted_lines verdict said)
+SaysChecked problem fixings verdict plan (Refused node why) status lines = (status ≡ 1) × (lines ≡ refused_line node why ∷ [])
+
+-- a tree is checked for its verdict, and where it is accepted the plan is judged
+pub record IsTreeChecked (problem : Problem) (fixings : List Fixing) (verdict : Verdict) (tree : List TreeNode) (plan : Option (List Event × Option ℕ)) (answer : Answer) : Type 0 where
+  pub journal : answer.journal ≡ []
+  pub put : answer.put ≡ None
+  pub checked : Checked
+  pub is_checked : IsChecked problem fixings verdict tree checked
+  pub says : SaysChecked problem fixings verdict plan checked answer.status answer.lines
+
+-- the named files are a problem's, fixings', if they are given, that of a tree of their edition, and a solution's, if it is
+-- given; the tree is checked
+pub record AnswersCheck (holds : Holdings) (problem_name tree_name : List ℕ) (fixings_name plan_name : Option (List ℕ)) (answer : Answer) : Type 0 where
+  pub problem : Problem
+  pub problem_file : IsProblemFile holds problem_name problem
+  pub fixings : List Fixing
+  pub edition : ℕ
+  pub fixings_file : AreOfEdition holds problem fixings_name fixings edition
+  pub verdict : Verdict
+  pub tree : List TreeNode
+  pub tree_file : IsTreeFile holds tree_name edition verdict tree
+  pub plan : Option (List Event × Option ℕ)
+  pub plan_file : IsPlanFile holds plan_name plan
+  pub checked : IsTreeChecked problem fixings verdict tree plan answer
+
 abbrev pub AnswersTask : Holdings → Task → Answer → Type 0
 AnswersTask holds (Solve problem budget plan) answer = AnswersSolve holds problem budget plan answer
 AnswersTask holds (Verify problem solution fixings) answer = AnswersVerify holds problem solution fixings answer
+AnswersTask holds (Check problem tree fixings plan) answer = AnswersCheck holds problem tree fixings plan answer
 
 -- the words ask for a task, and this is the answer to it
 pub record IsAnswer (words : List (List ℕ)) (holds : Holdings) (answer : Answer) : Type 0 where
@@ -135,3 +196,43 @@ pub record IsJudgedBy (holds : Holdings) (problem : Problem) (fixings_name : Opt
   pub fixings : List Fixing
   pub fixings_file : AreFixings holds problem fixings_name fixings
   pub judged : IsJudgedFile holds problem fixings name answer
+
+-- the answer is two lines and a status
+pub record IsTwoLines (first second : List ℕ) (status : ℕ) (answer : Answer) : Type 0 where
+  pub journal : answer.journal ≡ []
+  pub put : answer.put ≡ None
+  pub lines : answer.lines ≡ first ∷ second ∷ []
+  pub status_is : answer.status ≡ status
+
+-- the tree is accepted, and this is said of the plan
+pub record IsAcceptedWith (verdict : Verdict) (said : Option (List ℕ)) (answer : Answer) : Type 0 where
+  pub journal : answer.journal ≡ []
+  pub put : answer.put ≡ None
+  pub status_is : answer.status ≡ accepted_status said
+  pub lines_are : answer.lines ≡ accepted_lines verdict said
+
+-- the tree is accepted, and the plan is judged
+pub record IsAcceptedFor (problem : Problem) (fixings : List Fixing) (verdict : Verdict) (plan : Option (List Event × Option ℕ)) (answer : Answer) : Type 0 where
+  pub said : Option (List ℕ)
+  pub said_of_plan : IsSaidOfPlan problem fixings verdict plan said
+  pub accepted : IsAcceptedWith verdict said answer
+
+-- the plan of a file, if there is one, is read, and the tree is checked
+pub record IsCheckedWithPlan (holds : Holdings) (problem : Problem) (fixings : List Fixing) (verdict : Verdict) (tree : List TreeNode) (plan_name : Option (List ℕ)) (answer : Answer) : Type 0 where
+  pub plan : Option (List Event × Option ℕ)
+  pub plan_file : IsPlanFile holds plan_name plan
+  pub checked : IsTreeChecked problem fixings verdict tree plan answer
+
+-- so is the tree of a file, of this edition
+pub record IsCheckedFile (holds : Holdings) (problem : Problem) (fixings : List Fixing) (edition : ℕ) (tree_name : List ℕ) (plan_name : Option (List ℕ)) (answer : Answer) : Type 0 where
+  pub verdict : Verdict
+  pub tree : List TreeNode
+  pub tree_file : IsTreeFile holds tree_name edition verdict tree
+  pub rest : IsCheckedWithPlan holds problem fixings verdict tree plan_name answer
+
+-- so it is with the fixings of a file, if there is one
+pub record IsCheckedBy (holds : Holdings) (problem : Problem) (fixings_name : Option (List ℕ)) (tree_name : List ℕ) (plan_name : Option (List ℕ)) (answer : Answer) : Type 0 where
+  pub fixings : List Fixing
+  pub edition : ℕ
+  pub fixings_file : AreOfEdition holds problem fixings_name fixings edition
+  pub rest : IsCheckedFile holds problem fixings edition tree_name plan_name answer

@@ -9,22 +9,29 @@ use Rattle.solution_text.specs.Why.{solution_why_text}
 use Rattle.solution_text.specs.Reading.{IsRefusedSolution}
 use Rattle.solution_text.specs.declared.fault.SolutionNo.{SolutionNo}
 use Rattle.solution_text.specs.declared.fault.SolutionNo.TheVariants as solution_no
+use Rattle.tree_certificate.specs.declared.fault.TreeNo.{TreeNo}
+use Rattle.tree_certificate.specs.declared.fault.TreeNo.TheVariants as tree_no
+use Rattle.tree_certificate.specs.TreesRead.{tree_at, AnswersTree}
+use Rattle.disp_model.specs.declared.fixing.Fixing.{Fixing}
+use Rattle.disp_model.specs.declared.tree.TreeNode.{TreeNode}
+use Rattle.disp_model.specs.declared.tree.Verdict.{Verdict}
 use Rattle.single_routes.specs.Choices.{HasChoices}
 use Rattle.std.specs.Fmt.{decimal}
+use Rattle.solution_verifier.specs.FaultText.{with_numbers}
 use Rattle.fixing_lines.specs.Entries.{refusal_text}
 use Rattle.fixing_files.specs.declared.take.LineNo.{LineNo}
 use Rattle.fixing_files.specs.declared.take.LineNo.TheVariants as reason
 use Rattle.fixing_files.specs.Files.{StopsAt}
 use Rattle.command_words.specs.declared.task.Task.{Task}
-use Rattle.command_words.specs.declared.task.Task.TheVariants.{Solve, Verify}
+use Rattle.command_words.specs.declared.task.Task.TheVariants.{Solve, Verify, Check}
 use Rattle.command_words.specs.Task.{IsTask, AreRefused}
 use Rattle.dispatch_cli.specs.declared.cause.Cause.{Cause}
-use Rattle.dispatch_cli.specs.declared.cause.Cause.TheVariants.{Words, Failed, TooLong, NoProblem, NoSolution, BadLine, Choices, Memory}
+use Rattle.dispatch_cli.specs.declared.cause.Cause.TheVariants.{Words, Failed, TooLong, NoProblem, NoSolution, BadLine, NoTree, WrongEdition, NoPlan, Choices, Memory}
 use Rattle.dispatch_cli.specs.declared.cause.Input.{Input}
 use Rattle.dispatch_cli.specs.declared.cause.Input.TheVariants as input
-use Rattle.dispatch_cli.specs.Outside.{Holdings, Counts, IsFile, HoldsTooMuch}
+use Rattle.dispatch_cli.specs.Outside.{Holdings, Counts, IsFile, HoldsTooMuch, IsBehind}
 use Rattle.dispatch_cli.specs.Texts.{line}
-use Rattle.dispatch_cli.specs.Files.{IsProblemFile, HasFixings, IsRefusedLine}
+use Rattle.dispatch_cli.specs.Files.{IsProblemFile, HasFixings, IsRefusedLine, AreOfEdition, IsTreeNamed, IsTreeFile}
 
 -- ---- what is printed
 
@@ -32,6 +39,8 @@ abbrev pub prefix_of : Input → List ℕ
 prefix_of input.Problem = codes "problem: "
 prefix_of input.Solution = codes "solution: "
 prefix_of input.Fixings = codes "fixings: "
+prefix_of input.Tree = codes "tree: "
+prefix_of input.Plan = codes "plan: "
 
 -- why a line of fixings is not taken
 abbrev pub reason_text : LineNo → List ℕ
@@ -39,6 +48,14 @@ reason_text reason.Unreadable = codes "unreadable"
 reason_text reason.Long = codes "long"
 reason_text reason.TooMany = codes "toomany"
 reason_text (reason.Refused why) = codes "refused " ++ refusal_text why
+
+-- why bytes are no tree's text
+abbrev pub tree_why_text : TreeNo → List ℕ
+tree_why_text (tree_no.BadLine n) = codes "BadLine " ++ decimal n
+tree_why_text (tree_no.TooLarge n) = codes "TooLarge " ++ decimal n
+tree_why_text tree_no.Truncated = codes "Truncated"
+tree_why_text (tree_no.Trailing n) = codes "Trailing " ++ decimal n
+tree_why_text tree_no.Memory = codes "Memory"
 
 -- the line that is printed for a cause; for refused words it is clap's text
 abbrev pub line_of : Cause → List ℕ
@@ -48,6 +65,9 @@ line_of (TooLong which) = line (prefix_of which ++ codes "TooLong")
 line_of (NoProblem refusal) = line (prefix_of input.Problem ++ why_text refusal)
 line_of (NoSolution refusal) = line (prefix_of input.Solution ++ solution_why_text refusal)
 line_of (BadLine number why) = line (codes "fixings line " ++ decimal number ++ codes ": " ++ reason_text why)
+line_of (NoTree refusal) = line (prefix_of input.Tree ++ tree_why_text refusal)
+line_of (WrongEdition named wanted) = line (prefix_of input.Tree ++ with_numbers (codes "WrongEdition") named wanted)
+line_of (NoPlan refusal) = line (prefix_of input.Plan ++ solution_why_text refusal)
 line_of Choices = line (prefix_of input.Problem ++ codes "Choices")
 line_of Memory = line (codes "memory")
 
@@ -59,6 +79,9 @@ due_line (TooLong which) = line_of (TooLong which)
 due_line (NoProblem refusal) = line_of (NoProblem refusal)
 due_line (NoSolution refusal) = line_of (NoSolution refusal)
 due_line (BadLine number why) = line_of (BadLine number why)
+due_line (NoTree refusal) = line_of (NoTree refusal)
+due_line (WrongEdition named wanted) = line_of (WrongEdition named wanted)
+due_line (NoPlan refusal) = line_of (NoPlan refusal)
 due_line Choices = line_of Choices
 due_line Memory = []
 
@@ -70,6 +93,9 @@ status_of (TooLong which) = 2
 status_of (NoProblem refusal) = 2
 status_of (NoSolution refusal) = 2
 status_of (BadLine number why) = 2
+status_of (NoTree refusal) = 2
+status_of (WrongEdition named wanted) = 2
+status_of (NoPlan refusal) = 2
 status_of Choices = 2
 status_of Memory = 5
 
@@ -80,9 +106,18 @@ abbrev pub input_name : Task → Input → Option (List ℕ)
 input_name (Solve problem budget plan) input.Problem = Some problem
 input_name (Solve problem budget plan) input.Solution = None
 input_name (Solve problem budget plan) input.Fixings = None
+input_name (Solve problem budget plan) input.Tree = None
+input_name (Solve problem budget plan) input.Plan = None
 input_name (Verify problem solution fixings) input.Problem = Some problem
 input_name (Verify problem solution fixings) input.Solution = Some solution
 input_name (Verify problem solution fixings) input.Fixings = fixings
+input_name (Verify problem solution fixings) input.Tree = None
+input_name (Verify problem solution fixings) input.Plan = None
+input_name (Check problem tree fixings plan) input.Problem = Some problem
+input_name (Check problem tree fixings plan) input.Solution = None
+input_name (Check problem tree fixings plan) input.Fixings = fixings
+input_name (Check problem tree fixings plan) input.Tree = Some tree
+input_name (Check problem tree fixings plan) input.Plan = plan
 
 -- the file of the name is read, and its bytes are such
 pub record IsBadFile (holds : Holdings) (name : List ℕ) (Bad : List ℕ → Type 0) : Type 0 where
@@ -108,17 +143,35 @@ IsNoProblem bytes refusal = IsRefused bytes refusal × (refusal ≢ problem_no.M
 abbrev pub IsNoSolution : List ℕ → SolutionNo → Type 0
 IsNoSolution bytes refusal = IsRefusedSolution bytes refusal × (refusal ≢ solution_no.Memory)
 
+-- so they are as the text of a tree
+abbrev pub IsNoTree : List ℕ → TreeNo → Type 0
+IsNoTree bytes refusal = AnswersTree bytes refusal (tree_at bytes) × (refusal ≢ tree_no.Memory)
+
 -- the task gives a name for a problem, and its file is that of this problem
 pub record TakesProblem (holds : Holdings) (task : Task) (problem : Problem) : Type 0 where
   pub name : List ℕ
   pub named : input_name task input.Problem ≡ Some name
   pub file : IsProblemFile holds name problem
 
+-- the fixings that the task gives, if it gives some, are taken for the problem, and the task gives a name for a tree, whose file
+-- is that of a tree of their edition
+pub record TakesTree (holds : Holdings) (task : Task) (problem : Problem) : Type 0 where
+  pub fixings : List Fixing
+  pub edition : ℕ
+  pub fixed : AreOfEdition holds problem (input_name task input.Fixings) fixings edition
+  pub name : List ℕ
+  pub named : input_name task input.Tree ≡ Some name
+  pub verdict : Verdict
+  pub tree : List TreeNode
+  pub file : IsTreeFile holds name edition verdict tree
+
 -- the files that are read before that of an input are taken
-abbrev pub ComesToSolution : Holdings → Task → Input → Type 0
-ComesToSolution holds task input.Problem = Unit {0}
-ComesToSolution holds task input.Fixings = (problem : Problem) × TakesProblem holds task problem
-ComesToSolution holds task input.Solution = (problem : Problem) × TakesProblem holds task problem × HasFixings holds problem (input_name task input.Fixings)
+abbrev pub ComesTo : Holdings → Task → Input → Type 0
+ComesTo holds task input.Problem = Unit {0}
+ComesTo holds task input.Fixings = (problem : Problem) × TakesProblem holds task problem
+ComesTo holds task input.Solution = (problem : Problem) × TakesProblem holds task problem × HasFixings holds problem (input_name task input.Fixings)
+ComesTo holds task input.Tree = (problem : Problem) × TakesProblem holds task problem × HasFixings holds problem (input_name task input.Fixings)
+ComesTo holds task input.Plan = (problem : Problem) × TakesProblem holds task problem × TakesTree holds task problem
 
 -- the task gives a name for the input, and a reading of it failed
 abbrev pub FailsToRead : Counts → Counts → Task → Input → Type 0
@@ -128,6 +181,8 @@ FailsToRead old new task which = (name : List ℕ) × (input_name task which ≡
 abbrev pub IsTooLong : Holdings → Task → Input → Type 0
 IsTooLong holds task input.Problem = (name : List ℕ) × (input_name task input.Problem ≡ Some name) × HoldsTooMuch holds name
 IsTooLong holds task input.Solution = (name : List ℕ) × (input_name task input.Solution ≡ Some name) × HoldsTooMuch holds name
+IsTooLong holds task input.Tree = (name : List ℕ) × (input_name task input.Tree ≡ Some name) × HoldsTooMuch holds name
+IsTooLong holds task input.Plan = (name : List ℕ) × (input_name task input.Plan ≡ Some name) × HoldsTooMuch holds name
 IsTooLong holds task input.Fixings = ⊥
 
 -- the task gives a name for fixings, and a line of their file is not taken for the problem
@@ -138,19 +193,33 @@ pub record HasBadLine (holds : Holdings) (task : Task) (number : ℕ) (why : Lin
   pub named : input_name task input.Fixings ≡ Some name
   pub refused : IsRefusedLine holds problem name number why
 
+-- the fixings that the task gives, if it gives some, are taken for the problem, so many changes were accepted, and the task gives a
+-- name for a tree, whose text names another edition
+pub record IsOfOther (holds : Holdings) (task : Task) (named wanted : ℕ) : Type 0 where
+  pub problem : Problem
+  pub takes : TakesProblem holds task problem
+  pub fixings : List Fixing
+  pub fixed : AreOfEdition holds problem (input_name task input.Fixings) fixings wanted
+  pub text : IsBadInput holds task input.Tree (IsTreeNamed named)
+  pub other : named ≢ wanted
+
 -- the task is to solve a problem
 abbrev pub AsksToSolve : Task → Type 0
 AsksToSolve (Solve problem budget plan) = Unit {0}
 AsksToSolve (Verify problem solution fixings) = ⊥
+AsksToSolve (Check problem tree fixings plan) = ⊥
 
 -- what stopped a task has happened, and the files before it are taken; only a problem to be solved is refused for its choices
 abbrev pub StopsTask : Holdings → Counts → Counts → Task → Cause → Type 0
 StopsTask holds old new task (Words text) = ⊥
-StopsTask holds old new task (Failed which) = ComesToSolution holds task which × FailsToRead old new task which
-StopsTask holds old new task (TooLong which) = ComesToSolution holds task which × IsTooLong holds task which
+StopsTask holds old new task (Failed which) = ComesTo holds task which × FailsToRead old new task which
+StopsTask holds old new task (TooLong which) = ComesTo holds task which × IsTooLong holds task which
 StopsTask holds old new task (NoProblem refusal) = IsBadInput holds task input.Problem (λ bytes. IsNoProblem bytes refusal)
-StopsTask holds old new task (NoSolution refusal) = ComesToSolution holds task input.Solution × IsBadInput holds task input.Solution (λ bytes. IsNoSolution bytes refusal)
+StopsTask holds old new task (NoSolution refusal) = ComesTo holds task input.Solution × IsBadInput holds task input.Solution (λ bytes. IsNoSolution bytes refusal)
 StopsTask holds old new task (BadLine number why) = HasBadLine holds task number why
+StopsTask holds old new task (NoTree refusal) = ComesTo holds task input.Tree × IsBadInput holds task input.Tree (λ bytes. IsNoTree bytes refusal)
+StopsTask holds old new task (WrongEdition named wanted) = IsOfOther holds task named wanted
+StopsTask holds old new task (NoPlan refusal) = ComesTo holds task input.Plan × IsBadInput holds task input.Plan (λ bytes. IsNoSolution bytes refusal)
 StopsTask holds old new task Choices = AsksToSolve task × IsBadInput holds task input.Problem IsReadWithChoices
 StopsTask holds old new task Memory = Unit {0}
 
@@ -168,6 +237,9 @@ StopsRun words holds old new (TooLong which) = IsStopped words holds old new (To
 StopsRun words holds old new (NoProblem refusal) = IsStopped words holds old new (NoProblem refusal)
 StopsRun words holds old new (NoSolution refusal) = IsStopped words holds old new (NoSolution refusal)
 StopsRun words holds old new (BadLine number why) = IsStopped words holds old new (BadLine number why)
+StopsRun words holds old new (NoTree refusal) = IsStopped words holds old new (NoTree refusal)
+StopsRun words holds old new (WrongEdition named wanted) = IsStopped words holds old new (WrongEdition named wanted)
+StopsRun words holds old new (NoPlan refusal) = IsStopped words holds old new (NoPlan refusal)
 StopsRun words holds old new Choices = IsStopped words holds old new Choices
 StopsRun words holds old new Memory = Unit {0}
 
@@ -208,6 +280,25 @@ RefusesSolution bytes (NoSolution refusal) = IsNoSolution bytes refusal
 RefusesSolution bytes Memory = Unit {0}
 RefusesSolution bytes _ = ⊥
 
+-- why bytes are no text of a tree
+abbrev pub RefusesTreeText : List ℕ → Cause → Type 0
+RefusesTreeText bytes (NoTree refusal) = IsNoTree bytes refusal
+RefusesTreeText bytes Memory = Unit {0}
+RefusesTreeText bytes _ = ⊥
+
+-- why bytes are no text of a tree of an edition
+abbrev pub RefusesTree : List ℕ → ℕ → Cause → Type 0
+RefusesTree bytes edition (NoTree refusal) = IsNoTree bytes refusal
+RefusesTree bytes edition (WrongEdition named wanted) = (wanted ≡ edition) × (named ≢ edition) × IsTreeNamed named bytes
+RefusesTree bytes edition Memory = Unit {0}
+RefusesTree bytes edition _ = ⊥
+
+-- why bytes are no plan's
+abbrev pub RefusesPlan : List ℕ → Cause → Type 0
+RefusesPlan bytes (NoPlan refusal) = IsNoSolution bytes refusal
+RefusesPlan bytes Memory = Unit {0}
+RefusesPlan bytes _ = ⊥
+
 -- why there is no problem of a name
 abbrev pub StopsProblem : Holdings → Counts → Counts → List ℕ → Cause → Type 0
 StopsProblem holds old new name (Failed which) = (which ≡ input.Problem) × (old name < new name)
@@ -224,6 +315,32 @@ StopsSolution holds old new name (NoSolution refusal) = IsBadFile holds name (λ
 StopsSolution holds old new name Memory = Unit {0}
 StopsSolution holds old new name _ = ⊥
 
+-- why there is no tree of an edition of a name
+abbrev pub StopsTree : Holdings → Counts → Counts → ℕ → List ℕ → Cause → Type 0
+StopsTree holds old new edition name (Failed which) = (which ≡ input.Tree) × (old name < new name)
+StopsTree holds old new edition name (TooLong which) = (which ≡ input.Tree) × HoldsTooMuch holds name
+StopsTree holds old new edition name (NoTree refusal) = IsBadFile holds name (λ bytes. IsNoTree bytes refusal)
+StopsTree holds old new edition name (WrongEdition named wanted) = (wanted ≡ edition) × (named ≢ edition) × IsBadFile holds name (IsTreeNamed named)
+StopsTree holds old new edition name Memory = Unit {0}
+StopsTree holds old new edition name _ = ⊥
+
+-- why there is no plan of a name
+abbrev pub StopsPlan : Holdings → Counts → Counts → List ℕ → Cause → Type 0
+StopsPlan holds old new name (Failed which) = (which ≡ input.Plan) × (old name < new name)
+StopsPlan holds old new name (TooLong which) = (which ≡ input.Plan) × HoldsTooMuch holds name
+StopsPlan holds old new name (NoPlan refusal) = IsBadFile holds name (λ bytes. IsNoSolution bytes refusal)
+StopsPlan holds old new name Memory = Unit {0}
+StopsPlan holds old new name _ = ⊥
+
+-- the cause is want of memory
+abbrev pub IsWant : Cause → Type 0
+IsWant cause = cause ≡ Memory
+
+-- why there is no plan of a name that may be given
+abbrev pub StopsGivenPlan : Holdings → Counts → Counts → Option (List ℕ) → Cause → Type 0
+StopsGivenPlan holds old new None cause = IsWant cause
+StopsGivenPlan holds old new (Some name) cause = StopsPlan holds old new name cause
+
 -- why the problem of a file is not solved
 abbrev pub StopsSolve : Holdings → Counts → Counts → List ℕ → Cause → Type 0
 StopsSolve holds old new name (Words text) = ⊥
@@ -232,6 +349,9 @@ StopsSolve holds old new name (TooLong which) = (which ≡ input.Problem) × Hol
 StopsSolve holds old new name (NoProblem refusal) = IsBadFile holds name (λ bytes. IsNoProblem bytes refusal)
 StopsSolve holds old new name (NoSolution refusal) = ⊥
 StopsSolve holds old new name (BadLine number why) = ⊥
+StopsSolve holds old new name (NoTree refusal) = ⊥
+StopsSolve holds old new name (WrongEdition named wanted) = ⊥
+StopsSolve holds old new name (NoPlan refusal) = ⊥
 StopsSolve holds old new name Choices = IsBadFile holds name IsReadWithChoices
 StopsSolve holds old new name Memory = Unit {0}
 
@@ -242,11 +362,38 @@ StopsFixings holds old new problem name (BadLine number why) = IsRefusedLine hol
 StopsFixings holds old new problem name Memory = Unit {0}
 StopsFixings holds old new problem name _ = ⊥
 
+-- why fixings of a name that may be given are not taken
+abbrev pub StopsGivenFixings : Holdings → Counts → Counts → Problem → Option (List ℕ) → Cause → Type 0
+StopsGivenFixings holds old new problem None cause = IsWant cause
+StopsGivenFixings holds old new problem (Some name) cause = StopsFixings holds old new problem name cause
+
+-- why a tree is not checked, behind other readings that took a problem, fixings and the tree
+abbrev pub StopsFromPlan : Holdings → Counts → Counts → Problem → List Fixing → Verdict → List TreeNode → Option (List ℕ) → Cause → Type 0
+StopsFromPlan holds old new problem fixings verdict tree plan cause =
+    (before : Holdings) (first : Counts) (problem_name : List ℕ) (fixings_name : Option (List ℕ)) (tree_name : List ℕ) (edition : ℕ) → IsBehind before holds first old
+    → IsProblemFile before problem_name problem → AreOfEdition before problem fixings_name fixings edition → IsTreeFile before tree_name edition verdict tree
+    → StopsTask before first new (Check problem_name tree_name fixings_name plan) cause
+
+-- so behind those that took a problem and fixings
+abbrev pub StopsFromTree : Holdings → Counts → Counts → Problem → List Fixing → ℕ → List ℕ → Option (List ℕ) → Cause → Type 0
+StopsFromTree holds old new problem fixings edition tree plan cause =
+    (before : Holdings) (first : Counts) (problem_name : List ℕ) (fixings_name : Option (List ℕ)) → IsBehind before holds first old
+    → IsProblemFile before problem_name problem → AreOfEdition before problem fixings_name fixings edition
+    → StopsTask before first new (Check problem_name tree fixings_name plan) cause
+
+-- so behind that of a problem
+abbrev pub StopsFromFixings : Holdings → Counts → Counts → Problem → Option (List ℕ) → List ℕ → Option (List ℕ) → Cause → Type 0
+StopsFromFixings holds old new problem fixings tree plan cause =
+    (before : Holdings) (first : Counts) (problem_name : List ℕ) → IsBehind before holds first old → IsProblemFile before problem_name problem
+    → StopsTask before first new (Check problem_name tree fixings plan) cause
+
 -- a reading of the file of the fixings failed, or behind them one of the solution's
 abbrev pub FailsOf : Holdings → Counts → Counts → Problem → Option (List ℕ) → List ℕ → Input → Type 0
 FailsOf holds old new problem fixings solution input.Problem = ⊥
 FailsOf holds old new problem fixings solution input.Fixings = (name : List ℕ) × (fixings ≡ Some name) × (old name < new name)
 FailsOf holds old new problem fixings solution input.Solution = HasFixings holds problem fixings × (old solution < new solution)
+FailsOf holds old new problem fixings solution input.Tree = ⊥
+FailsOf holds old new problem fixings solution input.Plan = ⊥
 
 -- why a solution is not judged for a problem
 abbrev pub StopsJudging : Holdings → Counts → Counts → Problem → Option (List ℕ) → List ℕ → Cause → Type 0
@@ -256,6 +403,9 @@ StopsJudging holds old new problem fixings solution (TooLong which) = (which ≡
 StopsJudging holds old new problem fixings solution (NoProblem refusal) = ⊥
 StopsJudging holds old new problem fixings solution (NoSolution refusal) = HasFixings holds problem fixings × IsBadFile holds solution (λ bytes. IsNoSolution bytes refusal)
 StopsJudging holds old new problem fixings solution (BadLine number why) = (name : List ℕ) × (fixings ≡ Some name) × IsRefusedLine holds problem name number why
+StopsJudging holds old new problem fixings solution (NoTree refusal) = ⊥
+StopsJudging holds old new problem fixings solution (WrongEdition named wanted) = ⊥
+StopsJudging holds old new problem fixings solution (NoPlan refusal) = ⊥
 StopsJudging holds old new problem fixings solution Choices = ⊥
 StopsJudging holds old new problem fixings solution Memory = Unit {0}
 

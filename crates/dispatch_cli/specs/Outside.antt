@@ -62,6 +62,11 @@ pub record ReadsNames (Given : List ℕ → Type 0) (old new : Counts) (old_puts
   pub puttings : (other : List ℕ) → new_puts other ≡ old_puts other
   pub held : (other : List ℕ) → new_holds other ≡ old_holds other
 
+-- another reading comes behind: what names hold is the same, and no count has fallen
+pub record IsBehind (before holds : Holdings) (first old : Counts) : Type 0 where
+  pub held : (name : List ℕ) → holds name ≡ before name
+  pub counted : (name : List ℕ) → first name ≤ old name
+
 -- the name is the one
 abbrev pub IsName : List ℕ → List ℕ → Type 0
 IsName one name = name ≡ one
@@ -73,3 +78,19 @@ IsOneOfTwo fixings solution name = (fixings ≡ Some name) ⊎ (name ≡ solutio
 -- or that of the problem
 abbrev pub IsOneOfThree : List ℕ → Option (List ℕ) → List ℕ → List ℕ → Type 0
 IsOneOfThree problem fixings solution name = (name ≡ problem) ⊎ IsOneOfTwo fixings solution name
+
+-- the name is the one that is given, if one is
+abbrev pub IsGiven : Option (List ℕ) → List ℕ → Type 0
+IsGiven given name = given ≡ Some name
+
+-- the name is the one of the tree, or that of the plan, if there is one
+abbrev pub IsTreeOrPlan : List ℕ → Option (List ℕ) → List ℕ → Type 0
+IsTreeOrPlan tree plan name = IsName tree name ⊎ IsGiven plan name
+
+-- or that of the file of fixings, if there is one
+abbrev pub IsBehindProblem : Option (List ℕ) → List ℕ → Option (List ℕ) → List ℕ → Type 0
+IsBehindProblem fixings tree plan name = IsGiven fixings name ⊎ IsTreeOrPlan tree plan name
+
+-- or that of the problem
+abbrev pub IsOneOfFour : List ℕ → Option (List ℕ) → List ℕ → Option (List ℕ) → List ℕ → Type 0
+IsOneOfFour problem fixings tree plan name = IsName problem name ⊎ IsBehindProblem fixings tree plan name

@@ -8,7 +8,11 @@ use Rattle.disp_model.specs.declared.entry.Standing.{Standing}
 use Rattle.disp_model.specs.declared.problem.Problem.{Problem}
 use Rattle.solution_text.specs.Texts.{solution_text}
 use Rattle.solution_verifier.specs.declared.fault.Fault.{Fault}
-use Rattle.solution_verifier.specs.FaultText.{fault_text}
+use Rattle.solution_verifier.specs.FaultText.{with_numbers, fault_text}
+use Rattle.disp_model.specs.declared.tree.Verdict.{Verdict}
+use Rattle.disp_model.specs.declared.tree.Verdict.TheVariants as verdict
+use Rattle.tree_checker.specs.declared.why.Why.{Why}
+use Rattle.tree_checker.specs.declared.why.Why.TheVariants.{BadName, BadChoice, HasRoute, NotCycle, EmptyWalk, NotForced, BadArc, NotLate, RepeatedComponent, RepeatedTrain, WrongTrain, WrongEnd, NoVerdict, BelowCost}
 
 -- a text and the end of its line
 abbrev pub line : List ℕ → List ℕ
@@ -55,3 +59,37 @@ valid_line cost = line (codes "valid " ++ decimal cost)
 -- the line for a plan's fault
 abbrev pub fault_line : Problem → Fault → List ℕ
 fault_line problem fault = line (fault_text problem fault)
+
+-- the line for a tree that is accepted
+abbrev pub accepted_line : Verdict → List ℕ
+accepted_line (verdict.Optimal cost) = line (codes "accepted optimal " ++ decimal cost)
+accepted_line verdict.Infeasible = line (codes "accepted infeasible")
+
+-- the rule that a node of a tree breaks
+abbrev pub rule_text : Why → List ℕ
+rule_text BadName = codes "BadName"
+rule_text BadChoice = codes "BadChoice"
+rule_text HasRoute = codes "HasRoute"
+rule_text NotCycle = codes "NotCycle"
+rule_text EmptyWalk = codes "EmptyWalk"
+rule_text NotForced = codes "NotForced"
+rule_text BadArc = codes "BadArc"
+rule_text NotLate = codes "NotLate"
+rule_text RepeatedComponent = codes "RepeatedComponent"
+rule_text RepeatedTrain = codes "RepeatedTrain"
+rule_text WrongTrain = codes "WrongTrain"
+rule_text WrongEnd = codes "WrongEnd"
+rule_text NoVerdict = codes "NoVerdict"
+rule_text (BelowCost bound cost) = with_numbers (codes "BelowCost") bound cost
+
+-- the line for a tree that is refused at a node, counted from 0
+abbrev pub refused_line : ℕ → Why → List ℕ
+refused_line node why = line (codes "refused " ++ decimal node ++ codes " " ++ rule_text why)
+
+-- the line for the fault of a plan behind an accepted tree
+abbrev pub plan_fault_line : Problem → Fault → List ℕ
+plan_fault_line problem fault = line (codes "plan: " ++ fault_text problem fault)
+
+-- the line for a plan of a problem that has none
+abbrev pub no_plan_line : List ℕ
+no_plan_line = line (codes "plan: NoPlanWanted")

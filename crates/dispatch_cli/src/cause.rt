@@ -1,14 +1,16 @@
 ghost use Rattle.std.specs.Prelude.{◌≡◌, IfOk, string_bytes};
-ghost use Rattle.dispatch_cli.specs.declared.cause.Cause.TheVariants.{NoProblem, NoSolution, BadLine};
-ghost use Rattle.dispatch_cli.specs.Causes.{prefix_of, reason_text, line_of, status_of};
+ghost use Rattle.dispatch_cli.specs.declared.cause.Cause.TheVariants.{NoProblem, NoSolution, BadLine, NoTree, WrongEdition, NoPlan};
+ghost use Rattle.dispatch_cli.specs.Causes.{prefix_of, reason_text, tree_why_text, line_of, status_of};
 ghost use Rattle.fixing_files.specs.declared.take.LineNo.TheVariants.{Refused};
 
+use crate::tree_lines::with_numbers;
 use disp_model::{Memory, Refusal, Text};
 use displib_reader::ProblemNo;
 use fixing_files::LineNo;
 use fixing_lines::push_refusal;
 use solution_text::SolutionNo;
 use std::alloc::Global;
+use tree_certificate::TreeNo;
 
 /// A file that the words give to be read.
 #[derive(Clone, Copy, Debug, PartialEq, Eq)]
@@ -16,6 +18,8 @@ pub enum Input {
     Problem,
     Solution,
     Fixings,
+    Tree,
+    Plan,
 }
 
 /// What stops a run before there is an answer.
@@ -33,6 +37,12 @@ pub enum Cause {
     NoSolution(SolutionNo),
     /// The line of the fixings, counted from 1, is not taken.
     BadLine(u64, LineNo),
+    /// The file is no text of a tree.
+    NoTree(TreeNo),
+    /// The tree names the first edition, and the fixings give the second.
+    WrongEdition(u32, u32),
+    /// The file of a plan is no solution.
+    NoPlan(SolutionNo),
     /// The problem has choices: an operation has two successors, or two trains list one resource.
     Choices,
     /// Memory ran out.
@@ -48,6 +58,8 @@ impl Input {
             Input::Problem => "problem: ",
             Input::Solution => "solution: ",
             Input::Fixings => "fixings: ",
+            Input::Tree => "tree: ",
+            Input::Plan => "plan: ",
         }
     }
 }
@@ -104,6 +116,51 @@ fn bad_line(alloc: Global, number: u64, why: &LineNo) -> Result<String, Memory>
     Ok(text)
 }
 
+/// Why bytes are no text of a tree.
+fn tree_why_text(alloc: Global, why: TreeNo) -> Result<String, Memory>
+    ensures { IfOk result (λ text. string_bytes text ≡ tree_why_text why) }
+{
+    match why {
+        TreeNo::BadLine(number) => Ok(format!(in alloc; "BadLine {number}")?),
+        TreeNo::TooLarge(number) => Ok(format!(in alloc; "TooLarge {number}")?),
+        TreeNo::Truncated => Ok(String::from_str(alloc, "Truncated")?),
+        TreeNo::Trailing(number) => Ok(format!(in alloc; "Trailing {number}")?),
+        TreeNo::Memory => Ok(String::from_str(alloc, "Memory")?),
+    }
+}
+
+/// The line for a tree that is refused.
+fn tree_line(alloc: Global, why: TreeNo) -> Result<String, Memory>
+    ensures { IfOk result (λ text. string_bytes text ≡ line_of (NoTree why)) }
+{
+    let mut text = String::from_str(alloc, "tree: ")?;
+    let reason = tree_why_text(alloc, why)?;
+    text.push_str(reason.as_str())?;
+    text.push_str("\n")?;
+    Ok(text)
+}
+
+/// The line for a tree of another edition.
+fn edition_line(alloc: Global, named: u32, wanted: u32) -> Result<String, Memory>
+    ensures { IfOk result (λ text. string_bytes text ≡ line_of (WrongEdition named wanted)) }
+{
+    let mut text = String::from_str(alloc, "tree: ")?;
+    let editions = with_numbers(alloc, "WrongEdition", u128::from(named), u64::from(wanted))?;
+    text.push_str(editions.as_str())?;
+    text.push_str("\n")?;
+    Ok(text)
+}
+
+/// The line for a plan that is refused.
+fn plan_line(alloc: Global, no: &SolutionNo) -> Result<String, Memory>
+    ensures { IfOk result (λ text. string_bytes text ≡ line_of (NoPlan no.now)) }
+{
+    let mut text = String::from_str(alloc, "plan: ")?;
+    no.write(&mut text)?;
+    text.push_str("\n")?;
+    Ok(text)
+}
+
 impl Cause {
     /// The line that is printed for it.
     pub(crate) fn line(&self, alloc: Global) -> Result<String, Memory>
@@ -116,6 +173,9 @@ impl Cause {
             Cause::NoProblem(no) => problem_line(alloc, no),
             Cause::NoSolution(no) => solution_line(alloc, no),
             Cause::BadLine(number, why) => bad_line(alloc, *number, why),
+            Cause::NoTree(why) => tree_line(alloc, *why),
+            Cause::WrongEdition(named, wanted) => edition_line(alloc, *named, *wanted),
+            Cause::NoPlan(no) => plan_line(alloc, no),
             Cause::Choices => Ok(String::from_str(alloc, "problem: Choices\n")?),
             Cause::Memory => Ok(String::from_str(alloc, "memory\n")?),
         }
@@ -131,6 +191,9 @@ impl Cause {
             | Cause::NoProblem(_)
             | Cause::NoSolution(_)
             | Cause::BadLine(_, _)
+            | Cause::NoTree(_)
+            | Cause::WrongEdition(_, _)
+            | Cause::NoPlan(_)
             | Cause::Choices => 2,
             Cause::Failed(_) => 4,
             Cause::Memory => 5,

@@ -1,20 +1,21 @@
-ghost use Rattle.std.specs.Prelude.{◌≡◌, ◌≤◌, ◌<◌, ◌↔◌, false, IfOk, IfErr, IfSome, IsErrAnd, MatchResult, Err};
+ghost use Rattle.std.specs.Prelude.{◌≡◌, ◌≤◌, ◌<◌, ◌≢◌, ◌↔◌, false, IfOk, IfErr, IfSome, IsErrAnd, MatchOption, MatchResult, Err, Some, option_map};
 ghost use Rattle.disp_outside.specs.Lines.{HasLinesOf};
 ghost use Rattle.displib_reader.specs.Outcome.{IsReadAs};
 ghost use Rattle.solution_text.specs.Reading.{IsReadAsSolution};
 ghost use Rattle.dispatch_cli.specs.declared.cause.Cause.TheVariants.{Failed};
-ghost use Rattle.dispatch_cli.specs.Outside.{IsFile, ReadsOne};
-ghost use Rattle.dispatch_cli.specs.Causes.{Misses, RefusesProblem, RefusesSolution, StopsProblem, StopsSolution, StopsFixings, RefusesLines, IsNotLong, IsReadingFault};
-ghost use Rattle.dispatch_cli.specs.Files.{IsProblemFile, IsSolutionFile, TakesLines, IsFixingsTaken};
+ghost use Rattle.dispatch_cli.specs.Outside.{IsFile, ReadsOne, ReadsNames, IsGiven};
+ghost use Rattle.dispatch_cli.specs.Causes.{Misses, RefusesProblem, RefusesSolution, StopsProblem, StopsSolution, StopsFixings, RefusesLines, IsNotLong, IsReadingFault, RefusesTreeText, RefusesTree, RefusesPlan, StopsTree, StopsPlan, StopsGivenPlan, StopsGivenFixings};
+ghost use Rattle.dispatch_cli.specs.Files.{IsProblemFile, IsSolutionFile, TakesLines, IsFixingsTaken, AreChangesTaken, IsTreeText, IsTreeOf, IsTreeFile, IsPlanFile};
 
 use crate::cause::{Cause, Input};
-use disp_model::{MOST_FILE_BYTES, Plan, Problem};
+use disp_model::{MOST_FILE_BYTES, Plan, Problem, Text, Tree, Verdict};
 use disp_outside::{Feed, FeedNo, FetchNo, Shelf};
 use displib_reader::{ProblemNo, read_problem};
 use fixing_editions::Editions;
 use fixing_files::{FileNo, take_fixings};
 use solution_text::{SolutionNo, read_solution};
 use std::alloc::Global;
+use tree_certificate::{TreeNo, read_tree};
 
 /// The bytes of a file.
 fn fetch<S: Shelf>(alloc: Global, shelf: &mut S, which: Input, name: &str) -> Result<Vec<u8>, Cause>
@@ -157,4 +158,137 @@ pub(crate) fn fixings_file<S: Shelf>(
     let editions = take(alloc, problem, &mut feed);
     shelf.close(feed);
     editions
+}
+
+/// The changes of a file of fixings, if there is one; else there are none.
+pub(crate) fn editions_of<S: Shelf>(
+    alloc: Global,
+    shelf: &mut S,
+    problem: &Problem,
+    name: Option<&Text>,
+) -> Result<Editions, Cause>
+    ensures ok { IfOk result (λ editions.
+        AreChangesTaken (S.holds shelf.old) problem.now (option_map (λ n. n.now) name.entry)
+        editions.problem editions.changes) }
+    ensures no { IfErr result
+        (StopsGivenFixings (S.holds shelf.old) (S.reading_faults shelf.old)
+        (S.reading_faults shelf.new) problem.now (option_map (λ n. n.now) name.entry)) }
+    ensures reads { ReadsNames (IsGiven (option_map (λ n. n.now) name.entry))
+        (S.reading_faults shelf.old) (S.reading_faults shelf.new) (S.putting_faults shelf.old)
+        (S.putting_faults shelf.new) (S.holds shelf.old) (S.holds shelf.new)
+        (IsErrAnd result IsReadingFault) }
+{
+    match name {
+        Some(name) => fixings_file(alloc, shelf, problem, name.as_str()),
+        None => Ok(Editions::new(alloc, problem)?),
+    }
+}
+
+/// What the text of a tree says.
+fn tree_text(alloc: Global, bytes: &[u8]) -> Result<(Option<u32>, Verdict, Tree), Cause>
+    ensures { MatchResult result (λ r. IsTreeText bytes.now r.0 r.1 r.2)
+        (RefusesTreeText bytes.now) }
+{
+    match read_tree(alloc, bytes) {
+        Ok(read) => Ok(read),
+        Err(TreeNo::Memory) => Err(Cause::Memory),
+        Err(no) => Err(Cause::NoTree(no)),
+    }
+}
+
+/// The edition that is named, where it is another.
+fn other_edition(named: Option<u32>, edition: u32) -> Option<u32>
+    ensures { MatchOption result (IfSome named (λ e. e ≡ edition))
+        (λ e. (named ≡ Some e) × (e ≢ edition)) }
+{
+    match named {
+        Some(named) if named != edition => Some(named),
+        _ => None,
+    }
+}
+
+/// The verdict and the tree of a text that names an edition or none.
+fn tree_of(alloc: Global, edition: u32, bytes: &[u8]) -> Result<(Verdict, Tree), Cause>
+    ensures { MatchResult result (λ r. IsTreeOf edition bytes.now r.0 r.1)
+        (RefusesTree bytes.now edition) }
+{
+    let (named, verdict, tree) = tree_text(alloc, bytes)?;
+    match other_edition(named, edition) {
+        Some(other) => Err(Cause::WrongEdition(other, edition)),
+        None => Ok((verdict, tree)),
+    }
+}
+
+/// The verdict and the tree of a file, of an edition.
+pub(crate) fn tree_file<S: Shelf>(
+    alloc: Global,
+    shelf: &mut S,
+    edition: u32,
+    name: &str,
+) -> Result<(Verdict, Tree), Cause>
+    ensures ok { IfOk result (λ r. IsTreeFile (S.holds shelf.old) name.now edition r.0 r.1) }
+    ensures no { IfErr result
+        (StopsTree (S.holds shelf.old) (S.reading_faults shelf.old) (S.reading_faults shelf.new)
+        edition name.now) }
+    ensures reads { ReadsOne name.now (S.reading_faults shelf.old) (S.reading_faults shelf.new)
+        (S.putting_faults shelf.old) (S.putting_faults shelf.new) (S.holds shelf.old)
+        (S.holds shelf.new) (IsErrAnd result IsReadingFault) }
+{
+    let bytes = fetch(alloc, shelf, Input::Tree, name)?;
+    tree_of(alloc, edition, &bytes)
+}
+
+/// The plan and the stated cost of a file's bytes.
+fn plan_of(alloc: Global, bytes: &[u8]) -> Result<(Plan, Option<u64>), Cause>
+    ensures { MatchResult result (λ r. IsReadAsSolution bytes.now r.0 r.1)
+        (RefusesPlan bytes.now) }
+{
+    match read_solution(alloc, bytes) {
+        Ok(solution) => Ok(solution),
+        Err(SolutionNo::Memory) => Err(Cause::Memory),
+        Err(no) => Err(Cause::NoPlan(no)),
+    }
+}
+
+/// The plan and the stated cost of the file of a plan.
+fn plan_file<S: Shelf>(
+    alloc: Global,
+    shelf: &mut S,
+    name: &str,
+) -> Result<(Plan, Option<u64>), Cause>
+    ensures ok { IfOk result (λ r. IsSolutionFile (S.holds shelf.old) name.now r.0 r.1) }
+    ensures no { IfErr result
+        (StopsPlan (S.holds shelf.old) (S.reading_faults shelf.old) (S.reading_faults shelf.new)
+        name.now) }
+    ensures reads { ReadsOne name.now (S.reading_faults shelf.old) (S.reading_faults shelf.new)
+        (S.putting_faults shelf.old) (S.putting_faults shelf.new) (S.holds shelf.old)
+        (S.holds shelf.new) (IsErrAnd result IsReadingFault) }
+{
+    let bytes = fetch(alloc, shelf, Input::Plan, name)?;
+    plan_of(alloc, &bytes)
+}
+
+/// The plan and the stated cost of a file, if there is one.
+pub(crate) fn given_plan<S: Shelf>(
+    alloc: Global,
+    shelf: &mut S,
+    name: Option<&Text>,
+) -> Result<Option<(Plan, Option<u64>)>, Cause>
+    ensures ok { IfOk result
+        (IsPlanFile (S.holds shelf.old) (option_map (λ n. n.now) name.entry)) }
+    ensures no { IfErr result
+        (StopsGivenPlan (S.holds shelf.old) (S.reading_faults shelf.old)
+        (S.reading_faults shelf.new) (option_map (λ n. n.now) name.entry)) }
+    ensures reads { ReadsNames (IsGiven (option_map (λ n. n.now) name.entry))
+        (S.reading_faults shelf.old) (S.reading_faults shelf.new) (S.putting_faults shelf.old)
+        (S.putting_faults shelf.new) (S.holds shelf.old) (S.holds shelf.new)
+        (IsErrAnd result IsReadingFault) }
+{
+    let Some(name) = name else {
+        return Ok(None);
+    };
+    match plan_file(alloc, shelf, name.as_str()) {
+        Ok(plan) => Ok(Some(plan)),
+        Err(cause) => Err(cause),
+    }
 }

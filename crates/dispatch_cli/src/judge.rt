@@ -9,7 +9,7 @@ use solution_verifier::verify;
 use std::alloc::Global;
 
 /// An answer of one line.
-fn one_line(alloc: Global, line: List<u8>, status: u8) -> Result<Answer, Memory>
+pub(crate) fn one_line(alloc: Global, line: List<u8>, status: u8) -> Result<Answer, Memory>
     ensures { IfOk result (λ answer. IsOneLine line status answer) }
 {
     let mut lines = List::new(alloc);

@@ -61,11 +61,13 @@ fn publish<S: Shelf, O: Sink>(alloc: Global, shelf: &mut S, out: &mut O, answer:
 /// `solve PROBLEM` reads the file of that name from the shelf, and writes to the sink `edition 0`,
 /// the verdict, and the plan, where there is one, one line each; with `--plan OUT` the plan is put
 /// under that name before. What is refused is told in one line; for refused words that is clap's
-/// text. The gate is not used so far.
+/// text. `verify PROBLEM SOLUTION` judges a solution, and `check PROBLEM TREE` a tree and, with
+/// `--plan P`, a plan behind it; both read fixings with `--fixings F`. The gate is not used so far.
 ///
-/// The status is 0 where a plan of least cost was found, 1 where no plan is valid, 2 where the
-/// words or the file are refused, 4 where a reading of the file, the putting of the plan or a write
-/// failed, and 5 where memory ran out.
+/// The status is 0 where a plan of least cost was found, a solution is valid or a tree is accepted,
+/// 1 where no plan is valid, a solution has a fault, or a tree is refused, 2 where the words or a
+/// file are refused, 4 where a reading of a file, the putting of the plan or a write failed, and 5
+/// where memory ran out.
 pub fn dispatch<R, S: Shelf, O: Sink, G: Gate>(
     _rt: &R,
     alloc: Global,

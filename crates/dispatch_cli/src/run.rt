@@ -6,6 +6,7 @@ ghost use Rattle.dispatch_cli.specs.Causes.{RefusesWords, StopsRun, StopsTask, S
 
 use crate::answer::Answer;
 use crate::cause::Cause;
+use crate::check::run_check;
 use crate::input::{fixings_file, problem_file, solution_file};
 use crate::judge::judge;
 use crate::solve::solve;
@@ -174,6 +175,12 @@ fn run_task<S: Shelf>(alloc: Global, shelf: &mut S, task: &Task) -> Result<Answe
             solution,
             fixings,
         } => run_verify(alloc, shelf, problem, solution, fixings.as_ref()),
+        Task::Check {
+            problem,
+            tree,
+            fixings,
+            plan,
+        } => run_check(alloc, shelf, problem, tree, fixings.as_ref(), plan.as_ref()),
     }
 }
 

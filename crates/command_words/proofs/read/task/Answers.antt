@@ -11,5 +11,8 @@ returns-clause-err c words rows_are taken =
     let one = taken_names_one words taken in
     elim one.1 [
       | inl named ↦ unlike (c.in_default.ensures.found.1 (name_is _ _ one.0 (rows_are ∙ named)))
-      | inr named ↦ unlike (c.in_default-subcommand_matches.ensures.found.1 (name_is _ _ one.0 (rows_are ∙ named)))
+      | inr later ↦ elim later [
+        | inl named ↦ unlike (c.in_default-subcommand_matches.ensures.found.1 (name_is _ _ one.0 (rows_are ∙ named)))
+        | inr named ↦ unlike (c.in_default-subcommand_matches-2.ensures.found.1 (name_is _ _ one.0 (rows_are ∙ named)))
+      ]
     ]

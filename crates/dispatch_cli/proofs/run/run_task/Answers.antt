@@ -1,5 +1,6 @@
 use Rattle.std.proofs.lemmas.Result.{IfErr-weaker}
 use Rattle.dispatch_cli.proofs.Stopped.{counts_of_one, counts_of_three, reads_of_one, stops_solve, stops_verify}
+use Rattle.dispatch_cli.proofs.Checking.{counts_of_four}
 use Rattle.dispatch_cli.proofs.run.run_task.Goals as goal
 
 pub returns-in-Solve-clause-counts : goal.returns-in-Solve-clause-counts
@@ -24,3 +25,10 @@ returns-in-Solve-clause-no g c =
 
 pub returns-in-Solve-clause-one : goal.returns-in-Solve-clause-one
 returns-in-Solve-clause-one g c = (reads_of_one c.in-Solve.problem _ _ _ _ _ _ _ c.run_solve.ensures.reads).one
+
+pub returns-in-Check-clause-counts : goal.returns-in-Check-clause-counts
+returns-in-Check-clause-counts g c name =
+    rw c.in-Check.is (rw (← c.as_ref-in-Check.ensures.value, ← c.as_ref-in-Check-2.ensures.value) (counts_of_four c.in-Check.problem c.in-Check.tree _ _ _ _ c.run_check.ensures.reads.counted c.run_check.ensures.reads.others name))
+
+pub returns-in-Check-clause-no : goal.returns-in-Check-clause-no
+returns-in-Check-clause-no g c = rw c.in-Check.is (rw (← c.as_ref-in-Check.ensures.value, ← c.as_ref-in-Check-2.ensures.value) c.run_check.ensures.no)

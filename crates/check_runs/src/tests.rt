@@ -1,0 +1,4 @@
+mod files;
+mod plans;
+mod runs;
+mod trees;

@@ -1,0 +1,45 @@
+// What `check` prints where files are refused or cannot be read: the first one decides.
+use super::runs::{TREE, TWO, row};
+use disp_outside::OpenGate;
+use dispatch_cli::dispatch;
+use outside_in_memory::{MemShelf, SteadySink};
+use std::process::Abort;
+use std::test::Fail;
+use word_lists::words_of;
+
+const ALL: [&str; 7] = ["check", "p", "t", "--plan", "s", "--fixings", "f"];
+
+#[test]
+fn the_first_file_that_is_refused_decides(rt: HostRuntime) -> Result<(), Fail> {
+    row(&rt, &ALL, "{", "", "show\n", "{", 2, "problem: NotJson\n")?;
+    let unreadable = "fixings line 1: unreadable\n";
+    row(&rt, &ALL, TWO, "", "show\n", "{", 2, unreadable)?;
+    row(&rt, &ALL, TWO, "", "", "{", 2, "tree: Truncated\n")?;
+    row(&rt, &ALL, TWO, TREE, "", "{", 2, "plan: NotJson\n")
+}
+
+// The shelf gives this line and the status 4.
+fn fails(rt: &(impl Abort + AllocGlobal), shelf: &mut MemShelf, line: &str) -> Result<(), Fail> {
+    let alloc = rt.alloc();
+    let words = words_of(alloc, &ALL)?;
+    let mut out = SteadySink::new(alloc);
+    let done = dispatch(rt, alloc, &words, shelf, &mut out, &OpenGate);
+    assert_eq!(rt; out.written(), line.as_bytes(), "{line}");
+    assert_eq!(rt; done.status, 4, "{line}");
+    Ok(())
+}
+
+#[test]
+fn the_first_file_that_cannot_be_read_is_told(rt: HostRuntime) -> Result<(), Fail> {
+    let mut shelf = MemShelf::new(rt.alloc());
+    fails(&rt, &mut shelf, "problem: Failed\n")?;
+    shelf.place("p", TWO.as_bytes(), &[])?;
+    fails(&rt, &mut shelf, "fixings: Failed\n")?;
+    shelf.place("f", b"", &[])?;
+    fails(&rt, &mut shelf, "tree: Failed\n")?;
+    shelf.place("t", TREE.as_bytes(), &[])?;
+    fails(&rt, &mut shelf, "plan: Failed\n")?;
+    assert_eq!(rt; (shelf.faults("p"), shelf.faults("f")), (1, 1));
+    assert_eq!(rt; (shelf.faults("t"), shelf.faults("s")), (1, 1));
+    Ok(())
+}
