@@ -48,7 +48,8 @@ for name, text in files.items():
         file.write(text)
 rows = [
     ("solve two_trains.json", 0), ("solve delay.json --plan plan.json", 0), ("solve empty.json --budget 0", 0),
-    ("solve late.json --plan plan.json", 1), ("solve one_block.json", 2), ("solve loop.json", 2),
+    ("solve late.json --plan plan.json", 1), ("solve one_block.json --plan plan.json", 0), ("solve one_block.json --budget 0", 3),
+    ("solve one_block.json --fixings one_block_fixings.txt", 0), ("solve one_block.json --fixings refused.txt", 2), ("solve loop.json", 2),
     ("solve large.json", 2), ("solve cut.json", 2), ("solve none.json", 4),
     ("verify one_block.json one_block_solution.json", 0), ("verify one_block.json cheap.json", 1),
     ("verify one_block.json held.json", 1), ("verify one_block.json large.json", 2),

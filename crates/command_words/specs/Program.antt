@@ -16,9 +16,15 @@ optional_rule id = record (new_rule id) { long = Some id; value_names = 1 }
 abbrev pub budget : Rule
 budget = record (optional_rule (codes "budget")) { defaults = codes "1000000" ∷ []; parser = Some (Signed (pos 0) (pos 4294967295)) }
 
--- `solve PROBLEM [--budget B] [--plan OUT]`
+-- what `solve` reads: `PROBLEM [--fixings F] [--budget B]`
+abbrev pub solve_inputs : App
+solve_inputs =
+    with_rule (with_rule (with_rule (new_app (codes "solve")) (needed_rule (codes "problem")))
+      (optional_rule (codes "fixings"))) budget
+
+-- `solve PROBLEM [--fixings F] [--budget B] [--plan OUT]`
 abbrev pub solve : App
-solve = with_rule (with_rule (with_rule (new_app (codes "solve")) (needed_rule (codes "problem"))) budget) (optional_rule (codes "plan"))
+solve = with_rule solve_inputs (optional_rule (codes "plan"))
 
 -- `verify PROBLEM SOLUTION [--fixings F]`
 abbrev pub verify : App

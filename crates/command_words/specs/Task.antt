@@ -32,11 +32,13 @@ abbrev pub name_found : List ℕ → List Row → List ℕ
 name_found id rows = unwrap_or (first_of id rows) []
 
 -- the values that clap finds for `solve`
-pub record IsSolve (words : List (List ℕ)) (problem : List ℕ) (budget : ℕ) (plan : Option (List ℕ)) : Type 0 where
+pub record IsSolve (words : List (List ℕ)) (problem : List ℕ) (fixings : Option (List ℕ)) (budget : ℕ)
+    (plan : Option (List ℕ)) : Type 0 where
   pub taken : AreTaken words
   pub rows : List Row
   pub named : Names words (codes "solve") rows
   pub problem_is : problem ≡ name_found (codes "problem") rows
+  pub fixings_is : fixings ≡ first_of (codes "fixings") rows
   pub budget_is : IsBudget (one_of (codes "budget") rows) budget
   pub plan_is : plan ≡ first_of (codes "plan") rows
 
@@ -61,7 +63,7 @@ pub record IsCheck (words : List (List ℕ)) (problem tree : List ℕ) (fixings 
 
 -- the words ask for the task
 abbrev pub IsTask : List (List ℕ) → Task → Type 0
-IsTask words (Solve problem budget plan) = IsSolve words problem budget plan
+IsTask words (Solve problem fixings budget plan) = IsSolve words problem fixings budget plan
 IsTask words (Verify problem solution fixings) = IsVerify words problem solution fixings
 IsTask words (Check problem tree fixings plan) = IsCheck words problem tree fixings plan
 

@@ -41,6 +41,7 @@ fn solve<'a>(alloc: Global) -> Result<Command<'a>, AllocError>
     Command::new(alloc, "solve")
         .about("Finds a plan of least cost")
         .arg(needed_rule(alloc, "problem", "PROBLEM"))?
+        .arg(optional_rule(alloc, "fixings", "F"))?
         .arg(budget(alloc))?
         .arg(optional_rule(alloc, "plan", "OUT"))
 }

@@ -92,12 +92,11 @@ fn solve(alloc: Global, found: &ArgMatches) -> Result<Task, WordsNo>
     ensures ok { IfOk result (λ task. (words : List (List ℕ)) → AreTaken words → Names words (codes "solve") (rows_of (found_of found.now)) → IsTask words task) }
     ensures err { IfErr result (λ no. no ≡ WordsNo.Memory) }
 {
-    let problem = name(alloc, found, "problem")?;
-    let plan = optional_name(alloc, found, "plan")?;
     Ok(Task::Solve {
-        problem,
+        problem: name(alloc, found, "problem")?,
+        fixings: optional_name(alloc, found, "fixings")?,
         budget: budget(found),
-        plan,
+        plan: optional_name(alloc, found, "plan")?,
     })
 }
 

@@ -7,6 +7,8 @@ pub enum Task {
     Solve {
         /// The name of the problem's file.
         problem: Text,
+        /// The name of a file of fixings that the plan is to meet, if there is one.
+        fixings: Option<Text>,
         /// How often the search may branch, at most, for each edition.
         budget: u32,
         /// Where the plan is to be put, if anywhere.

@@ -15,11 +15,16 @@ fn shown(alloc: Global, task: &Task) -> Result<String, Fail> {
     let text = match task {
         Task::Solve {
             problem,
+            fixings,
             budget,
             plan,
         } => {
+            let fixings = fixings.as_ref().map_or("none", |name| name.as_str());
             let plan = plan.as_ref().map_or("none", |name| name.as_str());
-            format!(in alloc; "solve {} {budget} {plan}", problem.as_str())?
+            format!(in alloc;
+                "solve {} {fixings} {budget} {plan}",
+                problem.as_str()
+            )?
         }
         Task::Check {
             problem,
@@ -72,19 +77,19 @@ fn words_have_their_values(rt: HostRuntime) -> Result<(), Fail> {
     let alloc = rt.alloc();
     assert_eq!(rt;
         read(alloc, "solve P --budget 7 --plan=OUT")?.as_str(),
-        "solve P 7 OUT"
+        "solve P none 7 OUT"
     );
     assert_eq!(rt;
-        read(alloc, "solve --plan OUT P")?.as_str(),
-        "solve P 1000000 OUT"
+        read(alloc, "solve --plan OUT P --fixings F")?.as_str(),
+        "solve P F 1000000 OUT"
     );
     assert_eq!(rt;
         read(alloc, "solve P --budget 4294967295")?.as_str(),
-        "solve P 4294967295 none"
+        "solve P none 4294967295 none"
     );
     assert_eq!(rt;
         read(alloc, "solve P --budget 0")?.as_str(),
-        "solve P 0 none"
+        "solve P none 0 none"
     );
     assert_eq!(rt; read(alloc, "verify P S")?.as_str(), "verify P S none");
     assert_eq!(rt;

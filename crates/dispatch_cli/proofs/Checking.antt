@@ -15,7 +15,7 @@ use Rattle.tree_checker.specs.Checks.{IsChecked}
 use Rattle.command_words.specs.declared.task.Task.TheVariants.{Check}
 use Rattle.dispatch_cli.specs.declared.answer.Answer.{Answer}
 use Rattle.dispatch_cli.specs.declared.cause.Cause.{Cause}
-use Rattle.dispatch_cli.specs.declared.cause.Cause.TheVariants.{Words, Failed, TooLong, NoProblem, NoSolution, BadLine, NoTree, WrongEdition, NoPlan, Choices, Memory}
+use Rattle.dispatch_cli.specs.declared.cause.Cause.TheVariants.{Words, Failed, TooLong, NoProblem, NoSolution, BadLine, NoTree, WrongEdition, NoPlan, Memory}
 use Rattle.dispatch_cli.specs.declared.cause.Input.{Input}
 use Rattle.dispatch_cli.specs.declared.cause.Input.TheVariants as input
 use Rattle.dispatch_cli.specs.Outside.{Holdings, Counts, ReadsOne, ReadsNames, IsBehind, IsName, IsGiven, IsOneOfFour}
@@ -93,42 +93,6 @@ are_fixings holds problem (Some name) fixings edition (file, is) = file
 has_fixings : (holds : Holdings) (problem : Problem) (name : Option (List ℕ)) (fixings : List Fixing) (edition : ℕ) → AreOfEdition holds problem name fixings edition → HasFixings holds problem name
 has_fixings holds problem name fixings edition fixed = (fixings, are_fixings holds problem name fixings edition fixed)
 
--- the reading of the problem
-pub stops_by_problem : (holds : Holdings) (old new : Counts) (problem tree : List ℕ) (fixings plan : Option (List ℕ)) (cause : Cause) → StopsProblem holds old new problem cause → StopsTask holds old new (Check problem tree fixings plan) cause
-stops_by_problem holds old new problem tree fixings plan (Words text) stops = absurd stops
-stops_by_problem holds old new problem tree fixings plan (Failed which) (is, lt) = rw is (tt, (problem, refl, lt))
-stops_by_problem holds old new problem tree fixings plan (TooLong which) (is, long) = rw is (tt, (problem, refl, long))
-stops_by_problem holds old new problem tree fixings plan (NoProblem refusal) bad = (problem, refl, bad)
-stops_by_problem holds old new problem tree fixings plan (NoSolution refusal) stops = absurd stops
-stops_by_problem holds old new problem tree fixings plan (BadLine number reason) stops = absurd stops
-stops_by_problem holds old new problem tree fixings plan (NoTree refusal) stops = absurd stops
-stops_by_problem holds old new problem tree fixings plan (WrongEdition named wanted) stops = absurd stops
-stops_by_problem holds old new problem tree fixings plan (NoPlan refusal) stops = absurd stops
-stops_by_problem holds old new problem tree fixings plan Choices stops = absurd stops
-stops_by_problem holds old new problem tree fixings plan Memory stops = tt
-
--- the reading of the fixings
-pub stops_by_fixings : (before holds : Holdings) (first old new : Counts) (problem : Problem) (problem_name tree : List ℕ) (fixings plan : Option (List ℕ)) (cause : Cause) → IsBehind before holds first old
-    → IsProblemFile before problem_name problem → StopsGivenFixings holds old new problem fixings cause → StopsTask before first new (Check problem_name tree fixings plan) cause
-stops_by_fixings before holds first old new problem problem_name tree None plan cause behind file stops = rw stops tt
-stops_by_fixings before holds first old new problem problem_name tree (Some name) plan (Words text) behind file stops = absurd stops
-stops_by_fixings before holds first old new problem problem_name tree (Some name) plan (Failed which) behind file (is, lt) = rw is ((problem, takes before problem_name tree (Some name) plan problem file), (name, refl, omega (arith, behind.counted name, lt)))
-stops_by_fixings before holds first old new problem problem_name tree (Some name) plan (TooLong which) behind file stops = absurd stops
-stops_by_fixings before holds first old new problem problem_name tree (Some name) plan (NoProblem refusal) behind file stops = absurd stops
-stops_by_fixings before holds first old new problem problem_name tree (Some name) plan (NoSolution refusal) behind file stops = absurd stops
-stops_by_fixings before holds first old new problem problem_name tree (Some name) plan (BadLine number reason) behind file refused = record {
-  problem = problem;
-  takes = takes before problem_name tree (Some name) plan problem file;
-  name = name;
-  named = refl;
-  refused = refused_before before holds problem name number reason (behind.held name) refused;
-}
-stops_by_fixings before holds first old new problem problem_name tree (Some name) plan (NoTree refusal) behind file stops = absurd stops
-stops_by_fixings before holds first old new problem problem_name tree (Some name) plan (WrongEdition named wanted) behind file stops = absurd stops
-stops_by_fixings before holds first old new problem problem_name tree (Some name) plan (NoPlan refusal) behind file stops = absurd stops
-stops_by_fixings before holds first old new problem problem_name tree (Some name) plan Choices behind file stops = absurd stops
-stops_by_fixings before holds first old new problem problem_name tree (Some name) plan Memory behind file stops = tt
-
 -- the reading of the tree
 pub stops_by_tree : (before holds : Holdings) (first old new : Counts) (problem : Problem) (fixings : List Fixing) (edition : ℕ) (problem_name tree : List ℕ) (fixings_name plan : Option (List ℕ)) (cause : Cause)
     → IsBehind before holds first old → IsProblemFile before problem_name problem → AreOfEdition before problem fixings_name fixings edition → StopsTree holds old new edition tree cause
@@ -149,7 +113,6 @@ stops_by_tree before holds first old new problem fixings edition problem_name tr
   other = unlike;
 })
 stops_by_tree before holds first old new problem fixings edition problem_name tree fixings_name plan (NoPlan refusal) behind file fixed stops = absurd stops
-stops_by_tree before holds first old new problem fixings edition problem_name tree fixings_name plan Choices behind file fixed stops = absurd stops
 stops_by_tree before holds first old new problem fixings edition problem_name tree fixings_name plan Memory behind file fixed stops = tt
 
 -- the reading of the plan
@@ -166,7 +129,6 @@ stops_by_plan before holds first old new problem fixings edition verdict nodes p
 stops_by_plan before holds first old new problem fixings edition verdict nodes problem_name tree fixings_name (Some name) (NoTree refusal) behind file fixed shown stops = absurd stops
 stops_by_plan before holds first old new problem fixings edition verdict nodes problem_name tree fixings_name (Some name) (WrongEdition named wanted) behind file fixed shown stops = absurd stops
 stops_by_plan before holds first old new problem fixings edition verdict nodes problem_name tree fixings_name (Some name) (NoPlan refusal) behind file fixed shown bad = ((problem, takes before problem_name tree fixings_name (Some name) problem file, takes_tree before problem_name tree fixings_name (Some name) problem fixings edition verdict nodes fixed shown), (name, refl, bad_before before holds name _ (behind.held name) bad))
-stops_by_plan before holds first old new problem fixings edition verdict nodes problem_name tree fixings_name (Some name) Choices behind file fixed shown stops = absurd stops
 stops_by_plan before holds first old new problem fixings edition verdict nodes problem_name tree fixings_name (Some name) Memory behind file fixed shown stops = tt
 
 -- ---- which names were read

@@ -1,4 +1,4 @@
 mod Printed
-mod Solved
+mod Searched
 mod Stopped
 mod Checking

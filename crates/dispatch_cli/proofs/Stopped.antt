@@ -12,34 +12,20 @@ use Rattle.command_words.specs.declared.task.Task.TheVariants.{Solve, Verify}
 use Rattle.command_words.specs.Task.{IsTask}
 use Rattle.dispatch_cli.specs.declared.answer.Answer.{Answer}
 use Rattle.dispatch_cli.specs.declared.cause.Cause.{Cause}
-use Rattle.dispatch_cli.specs.declared.cause.Cause.TheVariants.{Words, Failed, TooLong, NoProblem, NoSolution, BadLine, NoTree, WrongEdition, NoPlan, Choices, Memory}
+use Rattle.dispatch_cli.specs.declared.cause.Cause.TheVariants.{Words, Failed, TooLong, NoProblem, NoSolution, BadLine, NoTree, WrongEdition, NoPlan, Memory}
 use Rattle.dispatch_cli.specs.declared.cause.Input.TheVariants as input
-use Rattle.dispatch_cli.specs.Outside.{Holdings, Counts, Outside, IsFile, HoldsTooMuch, ReadsOne, ReadsNames, IsName, IsOneOfThree}
-use Rattle.dispatch_cli.specs.Files.{IsProblemFile, IsRefusedLine, AreFixings, HasFixings}
+use Rattle.dispatch_cli.specs.Outside.{Holdings, Counts, Outside, IsFile, HoldsTooMuch, ReadsOne, ReadsNames, IsBehind, IsName, IsProblemOrFixings, IsOneOfThree}
+use Rattle.dispatch_cli.specs.Files.{IsProblemFile, IsRefusedLine, AreAsked, AreFixings, HasFixings}
 use Rattle.disp_outside.specs.Lines.{HasLinesOf}
+use Rattle.disp_model.specs.declared.fixing.Change.{Change}
 use Rattle.disp_model.specs.declared.fixing.Fixing.{Fixing}
 use Rattle.fixing_files.specs.declared.take.LineNo.{LineNo}
 use Rattle.dispatch_cli.specs.declared.cause.Input.{Input}
-use Rattle.dispatch_cli.specs.Solving.{IsForChoices}
 use Rattle.dispatch_cli.specs.Answers.{IsAnswer, IsJudgedFile}
-use Rattle.dispatch_cli.specs.Causes.{StopsSolve, StopsSolution, StopsFixings, StopsJudging, StopsVerify, IsBadFile, input_name, TakesProblem, StopsTask, StopsRun, CountsTask, status_of}
+use Rattle.dispatch_cli.specs.Causes.{StopsProblem, StopsSolve, StopsSolution, StopsFixings, StopsGivenFixings, StopsJudging, StopsVerify, IsWant, IsBadFile, input_name, TakesProblem, StopsTask, StopsRun, CountsTask, status_of}
 use Rattle.std.specs.List.{concat}
 use Rattle.dispatch_cli.specs.declared.answer.Put.{Put}
 use Rattle.dispatch_cli.specs.Endings.{EndsFailed, GivesUp, PutsNothing, PutKeeps, PutFails, WriteFails, WriteGivesUp, PutGivesUp, Halts, ReadsWell}
-
--- the problem of a file is not solved for its choices alone
-pub stops_by_choices : (holds : Holdings) (old new : Counts) (name : List ℕ) (problem : Problem) (cause : Cause) → IsProblemFile holds name problem → IsForChoices problem cause → StopsSolve holds old new name cause
-stops_by_choices holds old new name problem Choices file why = record { bytes = file.bytes; file = file.file; bad = record { problem = problem; read = file.read; choices = why } }
-stops_by_choices holds old new name problem Memory file why = tt
-stops_by_choices holds old new name problem (Words text) file why = absurd why
-stops_by_choices holds old new name problem (Failed which) file why = absurd why
-stops_by_choices holds old new name problem (TooLong which) file why = absurd why
-stops_by_choices holds old new name problem (NoProblem refusal) file why = absurd why
-stops_by_choices holds old new name problem (NoSolution refusal) file why = absurd why
-stops_by_choices holds old new name problem (BadLine number reason) file why = absurd why
-stops_by_choices holds old new name problem (NoTree refusal) file why = absurd why
-stops_by_choices holds old new name problem (WrongEdition named wanted) file why = absurd why
-stops_by_choices holds old new name problem (NoPlan refusal) file why = absurd why
 
 different : false ≡ true → ⊥
 different e = cc
@@ -52,12 +38,20 @@ never_falls one old new counted others name = go (bytes_eq name one) (bytes_eq-D
     go true same = rw (same.0 refl) counted
     go false unlike = omega (arith, others name (λ e. different (unlike.1 e)))
 
--- where one name is read, the counts of others stay
-pub counts_of_one : (problem : List ℕ) (budget : ℕ) (plan : Option (List ℕ)) (old new : Counts) → old problem ≤ new problem → ((other : List ℕ) → other ≢ problem → new other ≡ old other) → (name : List ℕ) → CountsTask (Solve problem budget plan) old new name
-counts_of_one problem budget plan old new counted others name = record {
-  never_falls = never_falls problem old new counted others name;
-  stays = λ unread. others name (λ e. unread input.Problem (ap Some (sym e)));
+-- where the files of a problem to be solved are read, the counts of other names stay
+pub counts_of_two : (problem : List ℕ) (fixings : Option (List ℕ)) (budget : ℕ)
+    (plan : Option (List ℕ)) (old new : Counts) → ((name : List ℕ) → old name ≤ new name)
+    → ((other : List ℕ) → (IsProblemOrFixings problem fixings other → ⊥) → new other ≡ old other)
+    → (name : List ℕ) → CountsTask (Solve problem fixings budget plan) old new name
+counts_of_two problem fixings budget plan old new counted others name = record {
+  never_falls = counted name;
+  stays = λ unread. others name (given unread);
 }
+  where
+    given : ((which : Input) → input_name (Solve problem fixings budget plan) which ≡ Some name → ⊥)
+        → IsProblemOrFixings problem fixings name → ⊥
+    given unread (inl e) = unread input.Problem (ap Some (sym e))
+    given unread (inr e) = unread input.Fixings e
 
 -- where files of a verification are read, the counts of other names stay
 pub counts_of_three : (problem solution : List ℕ) (fixings : Option (List ℕ)) (old new : Counts) → ((name : List ℕ) → old name ≤ new name)
@@ -109,7 +103,6 @@ stops_solution holds mid_holds old mid new problem fixings name (BadLine number 
 stops_solution holds mid_holds old mid new problem fixings name (NoTree refusal) taken same counted stops = absurd stops
 stops_solution holds mid_holds old mid new problem fixings name (WrongEdition named wanted) taken same counted stops = absurd stops
 stops_solution holds mid_holds old mid new problem fixings name (NoPlan refusal) taken same counted stops = absurd stops
-stops_solution holds mid_holds old mid new problem fixings name Choices taken same counted stops = absurd stops
 
 -- what stopped the reading of the fixings
 pub stops_fixings : (holds : Holdings) (old new : Counts) (problem : Problem) (name solution : List ℕ) (cause : Cause) → StopsFixings holds old new problem name cause → StopsJudging holds old new problem (Some name) solution cause
@@ -123,7 +116,6 @@ stops_fixings holds old new problem name solution (Words text) stops = absurd st
 stops_fixings holds old new problem name solution (TooLong which) stops = absurd stops
 stops_fixings holds old new problem name solution (NoProblem refusal) stops = absurd stops
 stops_fixings holds old new problem name solution (NoSolution refusal) stops = absurd stops
-stops_fixings holds old new problem name solution Choices stops = absurd stops
 
 -- what stopped the judging behind the reading of the problem
 pub stops_judging : (holds mid_holds : Holdings) (old mid new : Counts) (problem : Problem) (fixings : Option (List ℕ)) (name : List ℕ) (cause : Cause) → ((other : List ℕ) → mid_holds other ≡ holds other)
@@ -142,22 +134,116 @@ stops_judging holds mid_holds old mid new problem fixings name (NoPlan refusal) 
 stops_judging holds mid_holds old mid new problem fixings name Memory same counted stops = tt
 stops_judging holds mid_holds old mid new problem fixings name (Words text) same counted stops = absurd stops
 stops_judging holds mid_holds old mid new problem fixings name (NoProblem refusal) same counted stops = absurd stops
-stops_judging holds mid_holds old mid new problem fixings name Choices same counted stops = absurd stops
+
+-- a task whose problem is read
+pub takes_named : (holds : Holdings) (task : Task) (name : List ℕ) (read : Problem)
+    → input_name task input.Problem ≡ Some name → IsProblemFile holds name read
+    → TakesProblem holds task read
+takes_named holds task name read named file = record { name = name; named = named; file = file }
+
+-- the reading of the problem stopped a task
+pub stops_at_problem : (holds : Holdings) (old new : Counts) (task : Task) (name : List ℕ)
+    (cause : Cause) → input_name task input.Problem ≡ Some name
+    → StopsProblem holds old new name cause → StopsTask holds old new task cause
+stops_at_problem holds old new task name (Words text) named stops = absurd stops
+stops_at_problem holds old new task name (Failed which) named (is, lt) = rw is (tt, (name, named, lt))
+stops_at_problem holds old new task name (TooLong which) named (is, long) =
+    rw is (tt, (name, named, long))
+stops_at_problem holds old new task name (NoProblem refusal) named bad = (name, named, bad)
+stops_at_problem holds old new task name (NoSolution refusal) named stops = absurd stops
+stops_at_problem holds old new task name (BadLine number reason) named stops = absurd stops
+stops_at_problem holds old new task name (NoTree refusal) named stops = absurd stops
+stops_at_problem holds old new task name (WrongEdition one other) named stops = absurd stops
+stops_at_problem holds old new task name (NoPlan refusal) named stops = absurd stops
+stops_at_problem holds old new task name Memory named stops = tt
+
+-- the reading of the fixings stopped a task, behind that of the problem
+stops_at_file : (before holds : Holdings) (first old new : Counts) (task : Task) (problem : Problem)
+    (name : List ℕ) (cause : Cause) → input_name task input.Fixings ≡ Some name
+    → IsBehind before holds first old → TakesProblem before task problem
+    → StopsFixings holds old new problem name cause → StopsTask before first new task cause
+stops_at_file before holds first old new task problem name (Words text) named behind takes stops =
+    absurd stops
+stops_at_file before holds first old new task problem name (Failed which) named behind takes
+  (is, lt) = rw is ((problem, takes), (name, named, omega (arith, behind.counted name, lt)))
+stops_at_file before holds first old new task problem name (TooLong which) named behind takes stops =
+    absurd stops
+stops_at_file before holds first old new task problem name (NoProblem refusal) named behind takes
+  stops = absurd stops
+stops_at_file before holds first old new task problem name (NoSolution refusal) named behind takes
+  stops = absurd stops
+stops_at_file before holds first old new task problem name (BadLine number reason) named behind takes
+  refused = record {
+  problem = problem;
+  takes = takes;
+  name = name;
+  named = named;
+  refused = refused_before before holds problem name number reason (behind.held name) refused;
+}
+stops_at_file before holds first old new task problem name (NoTree refusal) named behind takes
+  stops = absurd stops
+stops_at_file before holds first old new task problem name (WrongEdition one other) named behind
+  takes stops = absurd stops
+stops_at_file before holds first old new task problem name (NoPlan refusal) named behind takes
+  stops = absurd stops
+stops_at_file before holds first old new task problem name Memory named behind takes stops = tt
+
+pub stops_at_fixings : (before holds : Holdings) (first old new : Counts) (task : Task)
+    (problem : Problem) (fixings : Option (List ℕ)) (cause : Cause)
+    → input_name task input.Fixings ≡ fixings → IsBehind before holds first old
+    → TakesProblem before task problem → StopsGivenFixings holds old new problem fixings cause
+    → StopsTask before first new task cause
+stops_at_fixings before holds first old new task problem None cause named behind takes stops =
+    rw stops tt
+stops_at_fixings before holds first old new task problem (Some name) cause named behind takes stops =
+    stops_at_file before holds first old new task problem name cause named behind takes stops
 
 -- what stopped the solving of a problem's file is what stopped its task
-pub stops_solve : (holds : Holdings) (old new : Counts) (problem : List ℕ) (budget : ℕ) (plan : Option (List ℕ)) (cause : Cause) → StopsSolve holds old new problem cause
-    → StopsTask holds old new (Solve problem budget plan) cause
-stops_solve holds old new problem budget plan (Failed which) (is, lt) = rw is (tt, (problem, refl, lt))
-stops_solve holds old new problem budget plan (TooLong which) (is, long) = rw is (tt, (problem, refl, long))
-stops_solve holds old new problem budget plan (NoProblem refusal) bad = (problem, refl, bad)
-stops_solve holds old new problem budget plan Choices bad = (tt, (problem, refl, bad))
-stops_solve holds old new problem budget plan Memory stops = tt
-stops_solve holds old new problem budget plan (Words text) stops = absurd stops
-stops_solve holds old new problem budget plan (NoSolution refusal) stops = absurd stops
-stops_solve holds old new problem budget plan (BadLine number reason) stops = absurd stops
-stops_solve holds old new problem budget plan (NoTree refusal) stops = absurd stops
-stops_solve holds old new problem budget plan (WrongEdition named wanted) stops = absurd stops
-stops_solve holds old new problem budget plan (NoPlan refusal) stops = absurd stops
+pub stops_solve : (holds : Holdings) (old new : Counts) (problem : List ℕ)
+    (fixings : Option (List ℕ)) (budget : ℕ) (plan : Option (List ℕ)) (cause : Cause)
+    → StopsSolve holds old new problem fixings cause
+    → StopsTask holds old new (Solve problem fixings budget plan) cause
+stops_solve holds old new problem fixings budget plan cause (inl stops) =
+    stops_at_problem holds old new (Solve problem fixings budget plan) problem cause refl stops
+stops_solve holds old new problem fixings budget plan cause (inr (read, file, stops)) =
+    stops_at_fixings holds holds old old new (Solve problem fixings budget plan) read fixings cause
+    refl (record { held = λ name. refl; counted = λ name. omega arith })
+    (takes_named holds (Solve problem fixings budget plan) problem read refl file) stops
+
+-- want of memory stops it too
+pub want_stops : (holds : Holdings) (old new : Counts) (problem : Problem)
+    (fixings : Option (List ℕ)) (cause : Cause) → IsWant cause
+    → StopsGivenFixings holds old new problem fixings cause
+want_stops holds old new problem None cause is = is
+want_stops holds old new problem (Some name) cause is = rw is tt
+
+-- what was asked behind another reading
+pub asked_before : (holds mid : Holdings) (problem : Problem) (name : Option (List ℕ))
+    (asked : List Change) → ((other : List ℕ) → mid other ≡ holds other)
+    → AreAsked mid problem name asked → AreAsked holds problem name asked
+asked_before holds mid problem None asked same h = h
+asked_before holds mid problem (Some name) asked same h = record {
+  told = h.told;
+  lines = lines_before holds mid name h.told (same name) h.lines;
+  few = h.few;
+  ask = h.ask;
+  taken = h.taken;
+}
+
+-- what stopped the reading of fixings behind another reading
+pub given_before : (holds mid_holds : Holdings) (old mid new : Counts) (problem : Problem)
+    (fixings : Option (List ℕ)) (cause : Cause)
+    → ((other : List ℕ) → mid_holds other ≡ holds other)
+    → ((other : List ℕ) → old other ≤ mid other)
+    → StopsGivenFixings mid_holds mid new problem fixings cause
+    → StopsGivenFixings holds old new problem fixings cause
+given_before holds mid_holds old mid new problem None cause same counted stops = stops
+given_before holds mid_holds old mid new problem (Some name) (Failed which) same counted (is, lt) =
+    (is, omega (arith, counted name, lt))
+given_before holds mid_holds old mid new problem (Some name) (BadLine number reason) same counted
+  refused = refused_before holds mid_holds problem name number reason (same name) refused
+given_before holds mid_holds old mid new problem (Some name) Memory same counted stops = tt
+given_before holds mid_holds old mid new problem (Some name) cause same counted stops = absurd stops
 
 takes_problem : (holds : Holdings) (problem solution : List ℕ) (fixings : Option (List ℕ)) (read : Problem) → IsProblemFile holds problem read → TakesProblem holds (Verify problem solution fixings) read
 takes_problem holds problem solution fixings read file = record { name = problem; named = refl; file = file }
@@ -175,7 +261,6 @@ stops_verify holds old new problem solution fixings (BadLine number reason) (inl
 stops_verify holds old new problem solution fixings (NoTree refusal) (inl stops) = absurd stops
 stops_verify holds old new problem solution fixings (WrongEdition named wanted) (inl stops) = absurd stops
 stops_verify holds old new problem solution fixings (NoPlan refusal) (inl stops) = absurd stops
-stops_verify holds old new problem solution fixings Choices (inl stops) = absurd stops
 stops_verify holds old new problem solution fixings (Failed input.Problem) (inr (read, file, stops)) = absurd stops
 stops_verify holds old new problem solution fixings (Failed input.Fixings) (inr (read, file, (name, is, lt))) = ((read, takes_problem holds problem solution fixings read file), (name, is, lt))
 stops_verify holds old new problem solution fixings (Failed input.Solution) (inr (read, file, (taken, lt))) = ((read, takes_problem holds problem solution fixings read file, taken), (solution, refl, lt))
@@ -190,7 +275,6 @@ stops_verify holds old new problem solution fixings (WrongEdition named wanted) 
 stops_verify holds old new problem solution fixings (NoPlan refusal) (inr (read, file, stops)) = absurd stops
 stops_verify holds old new problem solution fixings (Words text) (inr (read, file, stops)) = absurd stops
 stops_verify holds old new problem solution fixings (NoProblem refusal) (inr (read, file, stops)) = absurd stops
-stops_verify holds old new problem solution fixings Choices (inr (read, file, stops)) = absurd stops
 
 -- a solution that was judged behind another reading
 pub judged_file_before : (holds mid : Holdings) (problem : Problem) (fixings : List Fixing) (name : List ℕ) (answer : Answer) → ((other : List ℕ) → mid other ≡ holds other) → IsJudgedFile mid problem fixings name answer
@@ -260,7 +344,6 @@ stops_task words holds old new task (BadLine number reason) asked stops = record
 stops_task words holds old new task (NoTree refusal) asked stops = record { task = task; asked = asked; stops = stops }
 stops_task words holds old new task (WrongEdition named wanted) asked stops = record { task = task; asked = asked; stops = stops }
 stops_task words holds old new task (NoPlan refusal) asked stops = record { task = task; asked = asked; stops = stops }
-stops_task words holds old new task Choices asked stops = record { task = task; asked = asked; stops = stops }
 stops_task words holds old new task Memory asked stops = tt
 
 -- a putting or a write of an answer failed; between the run and the putting no count of puttings changed
@@ -343,7 +426,6 @@ fails_of_stop words old new cause journal status stops halts puts none is = go c
     go (NoTree refusal) stops halts e = two e
     go (WrongEdition named wanted) stops halts e = two e
     go (NoPlan refusal) stops halts e = two e
-    go Choices stops halts e = two e
     go Memory stops halts (inl e) = absurd (not_five (sym e ∙ is))
     go Memory stops halts (inr e) = absurd (not_five (sym e ∙ is))
 

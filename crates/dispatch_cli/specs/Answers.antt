@@ -1,5 +1,5 @@
 -- What the program finds for words, from the files of a shelf.
-use Rattle.std.specs.Prelude.{◌≡◌, ◌⊎◌, ℕ, List, [], ◌∷◌, Option, Some, None, option_map}
+use Rattle.std.specs.Prelude.{◌≡◌, ◌⊎◌, ℕ, List, [], ◌∷◌, Option, Some, None, option_map, option_and_then}
 use Rattle.disp_model.specs.declared.plan.Event.{Event}
 use Rattle.disp_model.specs.declared.fixing.Fixing.{Fixing}
 use Rattle.disp_model.specs.declared.entry.Mark.{Mark}
@@ -11,24 +11,23 @@ use Rattle.disp_model.specs.declared.tree.Verdict.{Verdict}
 use Rattle.disp_model.specs.declared.tree.Verdict.TheVariants as verdict
 use Rattle.disp_model.specs.declared.settings.Rule.TheVariants.{Fixed}
 use Rattle.disp_model.specs.History.{edition_of, last_plan, IsStanding}
-use Rattle.disp_model.specs.Legal.{IsLegal}
+use Rattle.disp_model.specs.declared.fixing.Change.{Change}
+use Rattle.disp_model.specs.declared.settings.Settings.{Settings}
 use Rattle.solution_verifier.specs.declared.fault.Fault.{Fault}
 use Rattle.solution_verifier.specs.First.{IsRight, IsFirstFault}
 use Rattle.tree_checker.specs.declared.why.Checked.{Checked}
 use Rattle.tree_checker.specs.declared.why.Checked.TheVariants.{Accepted, Refused}
 use Rattle.tree_checker.specs.Checks.{IsChecked}
-use Rattle.single_routes.specs.declared.solved.Solved.{Solved}
-use Rattle.single_routes.specs.Choices.{HasChoices}
-use Rattle.single_routes.specs.Solution.{Solves}
+use Rattle.solved_problems.specs.Promised.{Promises}
+use Rattle.solved_problems.specs.Solved.{IsSearched}
 use Rattle.command_words.specs.declared.task.Task.{Task}
 use Rattle.command_words.specs.declared.task.Task.TheVariants.{Solve, Verify, Check}
 use Rattle.command_words.specs.Task.{IsTask}
 use Rattle.dispatch_cli.specs.declared.answer.Answer.{Answer}
 use Rattle.dispatch_cli.specs.declared.answer.Put.{Put}
 use Rattle.dispatch_cli.specs.Outside.{Holdings, HoldsBytes}
-use Rattle.dispatch_cli.specs.Files.{IsProblemFile, IsSolutionFile, AreFixings, AreOfEdition, IsTreeFile, IsPlanFile}
+use Rattle.dispatch_cli.specs.Files.{IsProblemFile, IsSolutionFile, AreAsked, AreFixings, AreOfEdition, IsTreeFile, IsPlanFile}
 use Rattle.dispatch_cli.specs.Texts.{answer_lines, plan_line, valid_line, fault_line, accepted_line, refused_line, plan_fault_line, no_plan_line}
-use Rattle.dispatch_cli.specs.Journals.{journal_of, Promises}
 
 -- the status for a mark
 abbrev pub status_of_mark : Mark → ℕ
@@ -42,26 +41,36 @@ abbrev pub put_of : Option (List ℕ) → Option (List Event × ℕ) → Option 
 put_of None plan = None
 put_of (Some name) plan = option_map (λ p. record { name = name; bytes = plan_line p }) plan
 
--- the problem has no choices, and is solved: the journal is a legal history by the fixed rule, its mark promises what it says, and the
--- lines are those for where the search stands
-pub record IsSolved (problem : Problem) (budget : ℕ) (plan : Option (List ℕ)) (answer : Answer) : Type 0 where
-  pub single : HasChoices problem → ⊥
-  pub solved : Solved
-  pub solves : Solves problem solved
-  pub journal : answer.journal ≡ journal_of solved
-  pub legal : IsLegal problem (record { budget = budget; rule = Fixed }) answer.journal
+-- what a search by the fixed rule is given
+abbrev pub fixed_settings : ℕ → Settings
+fixed_settings budget = record { budget = budget; rule = Fixed }
+
+-- the plan of the best cost, where there is one
+abbrev pub best_plan : Standing → Option (List Event × ℕ) → Option (List Event × ℕ)
+best_plan standing last = option_and_then (λ cost. last) standing.best
+
+-- the problem is solved with the changes that are asked: the journal is a legal history, which
+-- begins with these and was searched until the edition is closed; its mark promises what it says, and
+-- the lines are those for where the search stands
+pub record IsSolved (problem : Problem) (budget : ℕ) (asked : List Change) (plan : Option (List ℕ))
+    (answer : Answer) : Type 0 where
+  pub searched : IsSearched problem (fixed_settings budget) asked answer.journal
   pub standing : Standing
   pub standing_is : IsStanding problem answer.journal standing
-  pub promise : Promises problem (edition_of answer.journal) standing.mark
+  pub promise : Promises problem (fixed_settings budget) (edition_of answer.journal) standing.mark
   pub status : answer.status ≡ status_of_mark standing.mark
-  pub lines : answer.lines ≡ answer_lines standing (last_plan answer.journal) standing.mark
-  pub put : answer.put ≡ put_of plan (last_plan answer.journal)
+  pub lines : answer.lines
+      ≡ answer_lines standing (best_plan standing (last_plan answer.journal)) standing.mark
+  pub put : answer.put ≡ put_of plan (best_plan standing (last_plan answer.journal))
 
--- the named file is a problem's, which is solved
-pub record AnswersSolve (holds : Holdings) (name : List ℕ) (budget : ℕ) (plan : Option (List ℕ)) (answer : Answer) : Type 0 where
+-- the named files are a problem's and fixings', if they are given, and the problem is solved
+pub record AnswersSolve (holds : Holdings) (name : List ℕ) (fixings : Option (List ℕ)) (budget : ℕ)
+    (plan : Option (List ℕ)) (answer : Answer) : Type 0 where
   pub problem : Problem
   pub file : IsProblemFile holds name problem
-  pub solved : IsSolved problem budget plan answer
+  pub asked : List Change
+  pub lines : AreAsked holds problem fixings asked
+  pub solved : IsSolved problem budget asked plan answer
 
 -- the plan is valid, costs so much, and a stated cost is that
 pub record SaysValid (problem : Problem) (fixings : List Fixing) (plan : List Event) (stated : Option ℕ) (status : ℕ) (lines : List (List ℕ)) : Type 0 where
@@ -149,7 +158,7 @@ pub record AnswersCheck (holds : Holdings) (problem_name tree_name : List ℕ) (
   pub checked : IsTreeChecked problem fixings verdict tree plan answer
 
 abbrev pub AnswersTask : Holdings → Task → Answer → Type 0
-AnswersTask holds (Solve problem budget plan) answer = AnswersSolve holds problem budget plan answer
+AnswersTask holds (Solve problem fixings budget plan) answer = AnswersSolve holds problem fixings budget plan answer
 AnswersTask holds (Verify problem solution fixings) answer = AnswersVerify holds problem solution fixings answer
 AnswersTask holds (Check problem tree fixings plan) answer = AnswersCheck holds problem tree fixings plan answer
 
@@ -176,6 +185,13 @@ pub record IsDuePut (words : List (List ℕ)) (holds : Holdings) (name : List �
   pub under : PutsUnder name answer.put
 
 -- ---- for private clauses
+
+-- so it is with the changes that lines of a file ask for, if there is one
+pub record IsSolvedWith (holds : Holdings) (problem : Problem) (budget : ℕ)
+    (fixings plan : Option (List ℕ)) (answer : Answer) : Type 0 where
+  pub asked : List Change
+  pub lines : AreAsked holds problem fixings asked
+  pub solved : IsSolved problem budget asked plan answer
 
 -- the answer is one line and a status
 pub record IsOneLine (line : List ℕ) (status : ℕ) (answer : Answer) : Type 0 where

@@ -15,7 +15,6 @@ use Rattle.tree_certificate.specs.TreesRead.{tree_at, AnswersTree}
 use Rattle.disp_model.specs.declared.fixing.Fixing.{Fixing}
 use Rattle.disp_model.specs.declared.tree.TreeNode.{TreeNode}
 use Rattle.disp_model.specs.declared.tree.Verdict.{Verdict}
-use Rattle.single_routes.specs.Choices.{HasChoices}
 use Rattle.std.specs.Fmt.{decimal}
 use Rattle.solution_verifier.specs.FaultText.{with_numbers}
 use Rattle.fixing_lines.specs.Entries.{refusal_text}
@@ -26,7 +25,7 @@ use Rattle.command_words.specs.declared.task.Task.{Task}
 use Rattle.command_words.specs.declared.task.Task.TheVariants.{Solve, Verify, Check}
 use Rattle.command_words.specs.Task.{IsTask, AreRefused}
 use Rattle.dispatch_cli.specs.declared.cause.Cause.{Cause}
-use Rattle.dispatch_cli.specs.declared.cause.Cause.TheVariants.{Words, Failed, TooLong, NoProblem, NoSolution, BadLine, NoTree, WrongEdition, NoPlan, Choices, Memory}
+use Rattle.dispatch_cli.specs.declared.cause.Cause.TheVariants.{Words, Failed, TooLong, NoProblem, NoSolution, BadLine, NoTree, WrongEdition, NoPlan, Memory}
 use Rattle.dispatch_cli.specs.declared.cause.Input.{Input}
 use Rattle.dispatch_cli.specs.declared.cause.Input.TheVariants as input
 use Rattle.dispatch_cli.specs.Outside.{Holdings, Counts, IsFile, HoldsTooMuch, IsBehind}
@@ -68,7 +67,6 @@ line_of (BadLine number why) = line (codes "fixings line " ++ decimal number ++ 
 line_of (NoTree refusal) = line (prefix_of input.Tree ++ tree_why_text refusal)
 line_of (WrongEdition named wanted) = line (prefix_of input.Tree ++ with_numbers (codes "WrongEdition") named wanted)
 line_of (NoPlan refusal) = line (prefix_of input.Plan ++ solution_why_text refusal)
-line_of Choices = line (prefix_of input.Problem ++ codes "Choices")
 line_of Memory = line (codes "memory")
 
 -- what is due where something stopped a run, before the line for want of memory: nothing where that is what stopped it
@@ -82,7 +80,6 @@ due_line (BadLine number why) = line_of (BadLine number why)
 due_line (NoTree refusal) = line_of (NoTree refusal)
 due_line (WrongEdition named wanted) = line_of (WrongEdition named wanted)
 due_line (NoPlan refusal) = line_of (NoPlan refusal)
-due_line Choices = line_of Choices
 due_line Memory = []
 
 -- the status for a cause
@@ -96,18 +93,17 @@ status_of (BadLine number why) = 2
 status_of (NoTree refusal) = 2
 status_of (WrongEdition named wanted) = 2
 status_of (NoPlan refusal) = 2
-status_of Choices = 2
 status_of Memory = 5
 
 -- ---- what has happened
 
 -- the name that a task gives for an input
 abbrev pub input_name : Task → Input → Option (List ℕ)
-input_name (Solve problem budget plan) input.Problem = Some problem
-input_name (Solve problem budget plan) input.Solution = None
-input_name (Solve problem budget plan) input.Fixings = None
-input_name (Solve problem budget plan) input.Tree = None
-input_name (Solve problem budget plan) input.Plan = None
+input_name (Solve problem fixings budget plan) input.Problem = Some problem
+input_name (Solve problem fixings budget plan) input.Solution = None
+input_name (Solve problem fixings budget plan) input.Fixings = fixings
+input_name (Solve problem fixings budget plan) input.Tree = None
+input_name (Solve problem fixings budget plan) input.Plan = None
 input_name (Verify problem solution fixings) input.Problem = Some problem
 input_name (Verify problem solution fixings) input.Solution = Some solution
 input_name (Verify problem solution fixings) input.Fixings = fixings
@@ -128,12 +124,6 @@ pub record IsBadFile (holds : Holdings) (name : List ℕ) (Bad : List ℕ → Ty
 -- the task gives a name for the input, and its file's bytes are such
 abbrev pub IsBadInput : Holdings → Task → Input → (List ℕ → Type 0) → Type 0
 IsBadInput holds task which Bad = (name : List ℕ) × (input_name task which ≡ Some name) × IsBadFile holds name Bad
-
--- the bytes are those of a problem that has choices
-pub record IsReadWithChoices (bytes : List ℕ) : Type 0 where
-  pub problem : Problem
-  pub read : IsReadAs bytes problem
-  pub choices : HasChoices problem
 
 -- the bytes are refused as a problem for this, which is no want of memory
 abbrev pub IsNoProblem : List ℕ → ProblemNo → Type 0
@@ -203,13 +193,7 @@ pub record IsOfOther (holds : Holdings) (task : Task) (named wanted : ℕ) : Typ
   pub text : IsBadInput holds task input.Tree (IsTreeNamed named)
   pub other : named ≢ wanted
 
--- the task is to solve a problem
-abbrev pub AsksToSolve : Task → Type 0
-AsksToSolve (Solve problem budget plan) = Unit {0}
-AsksToSolve (Verify problem solution fixings) = ⊥
-AsksToSolve (Check problem tree fixings plan) = ⊥
-
--- what stopped a task has happened, and the files before it are taken; only a problem to be solved is refused for its choices
+-- what stopped a task has happened, and the files before it are taken
 abbrev pub StopsTask : Holdings → Counts → Counts → Task → Cause → Type 0
 StopsTask holds old new task (Words text) = ⊥
 StopsTask holds old new task (Failed which) = ComesTo holds task which × FailsToRead old new task which
@@ -220,7 +204,6 @@ StopsTask holds old new task (BadLine number why) = HasBadLine holds task number
 StopsTask holds old new task (NoTree refusal) = ComesTo holds task input.Tree × IsBadInput holds task input.Tree (λ bytes. IsNoTree bytes refusal)
 StopsTask holds old new task (WrongEdition named wanted) = IsOfOther holds task named wanted
 StopsTask holds old new task (NoPlan refusal) = ComesTo holds task input.Plan × IsBadInput holds task input.Plan (λ bytes. IsNoSolution bytes refusal)
-StopsTask holds old new task Choices = AsksToSolve task × IsBadInput holds task input.Problem IsReadWithChoices
 StopsTask holds old new task Memory = Unit {0}
 
 -- the words ask for a task, and what stopped it has happened
@@ -240,7 +223,6 @@ StopsRun words holds old new (BadLine number why) = IsStopped words holds old ne
 StopsRun words holds old new (NoTree refusal) = IsStopped words holds old new (NoTree refusal)
 StopsRun words holds old new (WrongEdition named wanted) = IsStopped words holds old new (WrongEdition named wanted)
 StopsRun words holds old new (NoPlan refusal) = IsStopped words holds old new (NoPlan refusal)
-StopsRun words holds old new Choices = IsStopped words holds old new Choices
 StopsRun words holds old new Memory = Unit {0}
 
 -- the count of a name does not fall, and stays where the task does not give the name to be read
@@ -341,20 +323,6 @@ abbrev pub StopsGivenPlan : Holdings → Counts → Counts → Option (List ℕ)
 StopsGivenPlan holds old new None cause = IsWant cause
 StopsGivenPlan holds old new (Some name) cause = StopsPlan holds old new name cause
 
--- why the problem of a file is not solved
-abbrev pub StopsSolve : Holdings → Counts → Counts → List ℕ → Cause → Type 0
-StopsSolve holds old new name (Words text) = ⊥
-StopsSolve holds old new name (Failed which) = (which ≡ input.Problem) × (old name < new name)
-StopsSolve holds old new name (TooLong which) = (which ≡ input.Problem) × HoldsTooMuch holds name
-StopsSolve holds old new name (NoProblem refusal) = IsBadFile holds name (λ bytes. IsNoProblem bytes refusal)
-StopsSolve holds old new name (NoSolution refusal) = ⊥
-StopsSolve holds old new name (BadLine number why) = ⊥
-StopsSolve holds old new name (NoTree refusal) = ⊥
-StopsSolve holds old new name (WrongEdition named wanted) = ⊥
-StopsSolve holds old new name (NoPlan refusal) = ⊥
-StopsSolve holds old new name Choices = IsBadFile holds name IsReadWithChoices
-StopsSolve holds old new name Memory = Unit {0}
-
 -- why fixings are not taken
 abbrev pub StopsFixings : Holdings → Counts → Counts → Problem → List ℕ → Cause → Type 0
 StopsFixings holds old new problem name (Failed which) = (which ≡ input.Fixings) × (old name < new name)
@@ -406,7 +374,6 @@ StopsJudging holds old new problem fixings solution (BadLine number why) = (name
 StopsJudging holds old new problem fixings solution (NoTree refusal) = ⊥
 StopsJudging holds old new problem fixings solution (WrongEdition named wanted) = ⊥
 StopsJudging holds old new problem fixings solution (NoPlan refusal) = ⊥
-StopsJudging holds old new problem fixings solution Choices = ⊥
 StopsJudging holds old new problem fixings solution Memory = Unit {0}
 
 -- why a solution is not judged for the problem of a file
@@ -415,6 +382,13 @@ StopsVerify holds old new problem fixings solution cause =
     StopsProblem holds old new problem cause
     ⊎ ((read : Problem) × IsProblemFile holds problem read × StopsJudging holds old new read fixings solution cause)
 
+-- why the problem of a file is not solved with fixings of a name that may be given
+abbrev pub StopsSolve : Holdings → Counts → Counts → List ℕ → Option (List ℕ) → Cause → Type 0
+StopsSolve holds old new problem fixings cause =
+    StopsProblem holds old new problem cause
+    ⊎ ((read : Problem) × IsProblemFile holds problem read
+      × StopsGivenFixings holds old new read fixings cause)
+
 -- a reading failed
 abbrev pub IsReadingFault : Cause → Type 0
 IsReadingFault (Failed which) = Unit {0}
@@ -422,7 +396,7 @@ IsReadingFault _ = ⊥
 
 -- the answer ends with one of the statuses of an answer
 abbrev pub IsAnswerStatus : ℕ → Type 0
-IsAnswerStatus status = (status ≡ 0) ⊎ (status ≡ 1)
+IsAnswerStatus status = (status ≡ 0) ⊎ ((status ≡ 1) ⊎ (status ≡ 3))
 
 -- why the lines of a feed are not taken, where they are told
 abbrev pub RefusesLines : Problem → Option (List (List ℕ)) → Cause → Type 0

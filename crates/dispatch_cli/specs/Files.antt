@@ -14,7 +14,7 @@ use Rattle.disp_model.specs.declared.limits.TheConstants.{MOST_LINES}
 use Rattle.displib_reader.specs.Outcome.{IsReadAs}
 use Rattle.solution_text.specs.Reading.{IsReadAsSolution}
 use Rattle.fixing_files.specs.declared.take.LineNo.{LineNo}
-use Rattle.fixing_files.specs.Files.{TakesAll, StopsAt}
+use Rattle.fixing_files.specs.Files.{TakesAll, StopsAt, TakesInTurn, AskInTurn}
 use Rattle.dispatch_cli.specs.Outside.{Holdings, IsFile}
 
 -- the name's file is that of a problem
@@ -70,6 +70,21 @@ pub record IsFixingsFile (holds : Holdings) (problem : Problem) (name : List ℕ
   pub taken : IfSome told (λ lines. TakesLines problem lines changes)
   pub edition : IsEdition problem changes
   pub standing : fixings ≡ standing_of changes
+
+-- the lines of a name's file, where they are told, ask for these changes, each of which is taken behind
+-- those before it
+pub record IsAskedFile (holds : Holdings) (problem : Problem) (name : List ℕ) (asked : List Change) :
+    Type 0 where
+  pub told : Option (List (List ℕ))
+  pub lines : HasLinesOf (holds name) told
+  pub few : IfSome told (λ lines. length lines ≤ MOST_LINES)
+  pub ask : IfSome told (λ lines. AskInTurn lines asked)
+  pub taken : (changes : List Change) × TakesInTurn problem [] asked changes
+
+-- so they do where a name is given; else nothing is asked
+abbrev pub AreAsked : Holdings → Problem → Option (List ℕ) → List Change → Type 0
+AreAsked holds problem None asked = asked ≡ []
+AreAsked holds problem (Some name) asked = IsAskedFile holds problem name asked
 
 -- the fixings that stand behind the lines of a file, if there is one; else there are none
 abbrev pub AreFixings : Holdings → Problem → Option (List ℕ) → List Fixing → Type 0

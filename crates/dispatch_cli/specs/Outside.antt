@@ -83,6 +83,10 @@ IsOneOfThree problem fixings solution name = (name ≡ problem) ⊎ IsOneOfTwo f
 abbrev pub IsGiven : Option (List ℕ) → List ℕ → Type 0
 IsGiven given name = given ≡ Some name
 
+-- the name is the one of the problem, or that of the file of fixings, if there is one
+abbrev pub IsProblemOrFixings : List ℕ → Option (List ℕ) → List ℕ → Type 0
+IsProblemOrFixings problem fixings name = IsName problem name ⊎ IsGiven fixings name
+
 -- the name is the one of the tree, or that of the plan, if there is one
 abbrev pub IsTreeOrPlan : List ℕ → Option (List ℕ) → List ℕ → Type 0
 IsTreeOrPlan tree plan name = IsName tree name ⊎ IsGiven plan name

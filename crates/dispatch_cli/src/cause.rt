@@ -43,8 +43,6 @@ pub enum Cause {
     WrongEdition(u32, u32),
     /// The file of a plan is no solution.
     NoPlan(SolutionNo),
-    /// The problem has choices: an operation has two successors, or two trains list one resource.
-    Choices,
     /// Memory ran out.
     Memory,
 }
@@ -176,7 +174,6 @@ impl Cause {
             Cause::NoTree(why) => tree_line(alloc, *why),
             Cause::WrongEdition(named, wanted) => edition_line(alloc, *named, *wanted),
             Cause::NoPlan(no) => plan_line(alloc, no),
-            Cause::Choices => Ok(String::from_str(alloc, "problem: Choices\n")?),
             Cause::Memory => Ok(String::from_str(alloc, "memory\n")?),
         }
     }
@@ -193,8 +190,7 @@ impl Cause {
             | Cause::BadLine(_, _)
             | Cause::NoTree(_)
             | Cause::WrongEdition(_, _)
-            | Cause::NoPlan(_)
-            | Cause::Choices => 2,
+            | Cause::NoPlan(_) => 2,
             Cause::Failed(_) => 4,
             Cause::Memory => 5,
         }

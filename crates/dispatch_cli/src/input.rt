@@ -1,14 +1,15 @@
-ghost use Rattle.std.specs.Prelude.{◌≡◌, ◌≤◌, ◌<◌, ◌≢◌, ◌↔◌, false, IfOk, IfErr, IfSome, IsErrAnd, MatchOption, MatchResult, Err, Some, option_map};
+ghost use Rattle.std.specs.Prelude.{◌≡◌, ◌≤◌, ◌<◌, ◌≢◌, ◌↔◌, false, IfOk, IfErr, IfSome, IsErrAnd, MatchOption, MatchResult, Err, Some, [], option_map};
 ghost use Rattle.disp_outside.specs.Lines.{HasLinesOf};
+ghost use Rattle.fixing_files.specs.Files.{AskInTurn, TakesInTurn};
 ghost use Rattle.displib_reader.specs.Outcome.{IsReadAs};
 ghost use Rattle.solution_text.specs.Reading.{IsReadAsSolution};
 ghost use Rattle.dispatch_cli.specs.declared.cause.Cause.TheVariants.{Failed};
 ghost use Rattle.dispatch_cli.specs.Outside.{IsFile, ReadsOne, ReadsNames, IsGiven};
 ghost use Rattle.dispatch_cli.specs.Causes.{Misses, RefusesProblem, RefusesSolution, StopsProblem, StopsSolution, StopsFixings, RefusesLines, IsNotLong, IsReadingFault, RefusesTreeText, RefusesTree, RefusesPlan, StopsTree, StopsPlan, StopsGivenPlan, StopsGivenFixings};
-ghost use Rattle.dispatch_cli.specs.Files.{IsProblemFile, IsSolutionFile, TakesLines, IsFixingsTaken, AreChangesTaken, IsTreeText, IsTreeOf, IsTreeFile, IsPlanFile};
+ghost use Rattle.dispatch_cli.specs.Files.{IsProblemFile, IsSolutionFile, TakesLines, IsFixingsTaken, AreChangesTaken, IsAskedFile, AreAsked, IsTreeText, IsTreeOf, IsTreeFile, IsPlanFile};
 
 use crate::cause::{Cause, Input};
-use disp_model::{MOST_FILE_BYTES, Plan, Problem, Text, Tree, Verdict};
+use disp_model::{Change, MOST_FILE_BYTES, Plan, Problem, Text, Tree, Verdict};
 use disp_outside::{Feed, FeedNo, FetchNo, Shelf};
 use displib_reader::{ProblemNo, read_problem};
 use fixing_editions::Editions;
@@ -94,6 +95,35 @@ pub(crate) fn solution_file<S: Shelf>(
     solution_of(alloc, &bytes)
 }
 
+/// The changes of a feed's lines, and what each line asks for.
+fn take_asked<F: Feed>(
+    alloc: Global,
+    problem: &Problem,
+    feed: &mut F,
+) -> Result<(Editions, Vec<Change>), Cause>
+    requires { F.has_ended feed.old ≡ false }
+    ensures problem { IfOk result (λ r. r.0.problem ≡ problem.now) }
+    ensures ok { IfOk result (λ r.
+        IfSome (F.lines feed.old) (λ lines. TakesLines problem.now lines r.0.changes)) }
+    ensures asks { IfOk result
+        (λ r. IfSome (F.lines feed.old) (λ lines. AskInTurn lines r.1.items)) }
+    ensures taken { IfOk result (λ r. TakesInTurn problem.now [] r.1.items r.0.changes) }
+    ensures no { IfErr result (RefusesLines problem.now (F.lines feed.old)) }
+    ensures failed { (result ≡ Err (Failed Input.Fixings))
+        ↔ (F.faults feed.old < F.faults feed.new) }
+    ensures counted { F.faults feed.old ≤ F.faults feed.new }
+    ensures name { F.name feed.new ≡ F.name feed.old }
+{
+    let mut editions = Editions::new(alloc, problem)?;
+    let mut asked = Vec::new(alloc);
+    match take_fixings(feed, &mut editions, &mut asked) {
+        Ok(()) => Ok((editions, asked)),
+        Err(FileNo::Line(number, why)) => Err(Cause::BadLine(number, why)),
+        Err(FileNo::Failed) => Err(Cause::Failed(Input::Fixings)),
+        Err(FileNo::Memory) => Err(Cause::Memory),
+    }
+}
+
 /// The changes of a feed's lines.
 fn take<F: Feed>(alloc: Global, problem: &Problem, feed: &mut F) -> Result<Editions, Cause>
     requires { F.has_ended feed.old ≡ false }
@@ -106,12 +136,9 @@ fn take<F: Feed>(alloc: Global, problem: &Problem, feed: &mut F) -> Result<Editi
     ensures counted { F.faults feed.old ≤ F.faults feed.new }
     ensures name { F.name feed.new ≡ F.name feed.old }
 {
-    let mut editions = Editions::new(alloc, problem)?;
-    match take_fixings(feed, &mut editions) {
-        Ok(()) => Ok(editions),
-        Err(FileNo::Line(number, why)) => Err(Cause::BadLine(number, why)),
-        Err(FileNo::Failed) => Err(Cause::Failed(Input::Fixings)),
-        Err(FileNo::Memory) => Err(Cause::Memory),
+    match take_asked(alloc, problem, feed) {
+        Ok((editions, _)) => Ok(editions),
+        Err(cause) => Err(cause),
     }
 }
 
@@ -158,6 +185,54 @@ pub(crate) fn fixings_file<S: Shelf>(
     let editions = take(alloc, problem, &mut feed);
     shelf.close(feed);
     editions
+}
+
+/// What each line of a file of fixings asks for. The feed is closed whatever comes.
+fn asked_file<S: Shelf>(
+    alloc: Global,
+    shelf: &mut S,
+    problem: &Problem,
+    name: &str,
+) -> Result<Vec<Change>, Cause>
+    ensures ok { IfOk result (λ asked.
+        IsAskedFile (S.holds shelf.old) problem.now name.now asked.items) }
+    ensures no { IfErr result
+        (StopsFixings (S.holds shelf.old) (S.reading_faults shelf.old) (S.reading_faults shelf.new)
+        problem.now name.now) }
+    ensures reads { ReadsOne name.now (S.reading_faults shelf.old) (S.reading_faults shelf.new)
+        (S.putting_faults shelf.old) (S.putting_faults shelf.new) (S.holds shelf.old)
+        (S.holds shelf.new) (IsErrAnd result IsReadingFault) }
+{
+    let mut feed = open(alloc, shelf, name)?;
+    let read = take_asked(alloc, problem, &mut feed);
+    shelf.close(feed);
+    match read {
+        Ok((_, asked)) => Ok(asked),
+        Err(cause) => Err(cause),
+    }
+}
+
+/// What each line of a file of fixings asks for, if there is one; else nothing is asked.
+pub(crate) fn asked_of<S: Shelf>(
+    alloc: Global,
+    shelf: &mut S,
+    problem: &Problem,
+    name: Option<&Text>,
+) -> Result<Vec<Change>, Cause>
+    ensures ok { IfOk result (λ asked.
+        AreAsked (S.holds shelf.old) problem.now (option_map (λ n. n.now) name.entry) asked.items) }
+    ensures no { IfErr result
+        (StopsGivenFixings (S.holds shelf.old) (S.reading_faults shelf.old)
+        (S.reading_faults shelf.new) problem.now (option_map (λ n. n.now) name.entry)) }
+    ensures reads { ReadsNames (IsGiven (option_map (λ n. n.now) name.entry))
+        (S.reading_faults shelf.old) (S.reading_faults shelf.new) (S.putting_faults shelf.old)
+        (S.putting_faults shelf.new) (S.holds shelf.old) (S.holds shelf.new)
+        (IsErrAnd result IsReadingFault) }
+{
+    match name {
+        Some(name) => asked_file(alloc, shelf, problem, name.as_str()),
+        None => Ok(Vec::new(alloc)),
+    }
 }
 
 /// The changes of a file of fixings, if there is one; else there are none.

@@ -1,5 +1,5 @@
-ghost use Rattle.std.specs.Prelude.{◌≡◌, IfOk, [], ◌∷◌};
-ghost use Rattle.dispatch_cli.specs.Texts.{edition_line, optimal_line, infeasible_line, plan_line, valid_line, fault_line};
+ghost use Rattle.std.specs.Prelude.{◌≡◌, IfOk, [], ◌∷◌, string_bytes};
+ghost use Rattle.dispatch_cli.specs.Texts.{edition_line, optimal_line, infeasible_line, cost_or_none, unfinished_line, plan_line, valid_line, fault_line};
 
 use disp_model::{Event, List, Memory, Problem};
 use solution_text::write_solution;
@@ -27,6 +27,35 @@ pub(crate) fn infeasible_line(alloc: Global) -> Result<List<u8>, Memory>
     ensures { IfOk result (λ line. line ≡ infeasible_line) }
 {
     let text = String::from_str(alloc, "infeasible\n")?;
+    Ok(List::from_vec(text.into_bytes()))
+}
+
+/// The text of a cost, or that there is none.
+fn cost_or_none(alloc: Global, cost: Option<u64>) -> Result<String, Memory>
+    ensures { IfOk result (λ text. string_bytes text ≡ cost_or_none cost) }
+{
+    match cost {
+        Some(cost) => Ok(format!(in alloc; "{cost}")?),
+        None => Ok(String::from_str(alloc, "none")?),
+    }
+}
+
+/// The line of a search that has spent its budget.
+pub(crate) fn unfinished_line(
+    alloc: Global,
+    best: Option<u64>,
+    bound: u64,
+    spent: u64,
+) -> Result<List<u8>, Memory>
+    ensures { IfOk result (λ line. line ≡ unfinished_line best bound spent) }
+{
+    let best = cost_or_none(alloc, best)?;
+    let bound = format!(in alloc; " bound {bound}")?;
+    let spent = format!(in alloc; " spent {spent}\n")?;
+    let mut text = String::from_str(alloc, "unfinished best ")?;
+    text.push_str(best.as_str())?;
+    text.push_str(bound.as_str())?;
+    text.push_str(spent.as_str())?;
     Ok(List::from_vec(text.into_bytes()))
 }
 

@@ -58,16 +58,18 @@ fn publish<S: Shelf, O: Sink>(alloc: Global, shelf: &mut S, out: &mut O, answer:
 
 /// Runs the program for the words behind its name, and says how it ended.
 ///
-/// `solve PROBLEM` reads the file of that name from the shelf, and writes to the sink `edition 0`,
-/// the verdict, and the plan, where there is one, one line each; with `--plan OUT` the plan is put
-/// under that name before. What is refused is told in one line; for refused words that is clap's
-/// text. `verify PROBLEM SOLUTION` judges a solution, and `check PROBLEM TREE` a tree and, with
-/// `--plan P`, a plan behind it; both read fixings with `--fixings F`. The gate is not used so far.
+/// `solve PROBLEM` reads the file of that name from the shelf, with `--fixings F` what the lines of
+/// another ask for, and searches with at most so many branchings as `--budget B` says. It writes to
+/// the sink the edition, the verdict, and the best plan, where there is one, one line each; with
+/// `--plan OUT` that plan is put under that name before. What is refused is told in one line; for
+/// refused words that is clap's text. `verify PROBLEM SOLUTION` judges a solution, and `check
+/// PROBLEM TREE` a tree and, with `--plan P`, a plan behind it; both read fixings with `--fixings
+/// F`. The gate is not used so far.
 ///
 /// The status is 0 where a plan of least cost was found, a solution is valid or a tree is accepted,
 /// 1 where no plan is valid, a solution has a fault, or a tree is refused, 2 where the words or a
-/// file are refused, 4 where a reading of a file, the putting of the plan or a write failed, and 5
-/// where memory ran out.
+/// file are refused, 3 where the budget is spent before the search ended, 4 where a reading of a
+/// file, the putting of the plan or a write failed, and 5 where memory ran out.
 pub fn dispatch<R, S: Shelf, O: Sink, G: Gate>(
     _rt: &R,
     alloc: Global,
@@ -76,12 +78,12 @@ pub fn dispatch<R, S: Shelf, O: Sink, G: Gate>(
     out: &mut O,
     _gate: &G,
 ) -> Done
-    ensures statuses { ((result.status ≡ 0) ⊎ (result.status ≡ 1))
+    ensures statuses { IsAnswerStatus result.status
         ⊎ ((result.status ≡ 2) ⊎ ((result.status ≡ 4) ⊎ (result.status ≡ 5))) }
 
     // An answer's journal is legal; an optimal plan is valid and none costs less; an infeasible
-    // problem has no valid plan.
-    ensures answered { (result.status ≡ 0) ⊎ (result.status ≡ 1)
+    // problem has no valid plan; where it is unfinished the whole budget is spent.
+    ensures answered { IsAnswerStatus result.status
         → EndsAnswered (map (λ word. string_bytes word) words.now)
         (outside (S.holds shelf.old) (S.reading_faults shelf.old) (S.putting_faults shelf.old)
         (O.faults out.old) (O.written out.old))
@@ -109,8 +111,7 @@ pub fn dispatch<R, S: Shelf, O: Sink, G: Gate>(
     ensures reading_ends { FailsOfOne (S.reading_faults shelf.old) (S.reading_faults shelf.new) }
     ensures putting_fault { (name : List ℕ) → S.putting_faults shelf.old name
         < S.putting_faults shelf.new name → result.status ≡ 4 }
-    ensures write_fault { O.faults out.old < O.faults out.new → (result.status ≢ 0)
-        × (result.status ≢ 1) }
+    ensures write_fault { O.faults out.old < O.faults out.new → IsAnswerStatus result.status → ⊥ }
     ensures write_counted { O.faults out.old ≤ O.faults out.new }
     ensures reading_counts { (name : List ℕ)
         → CountsReading (map (λ word. string_bytes word) words.now) (S.reading_faults shelf.old)

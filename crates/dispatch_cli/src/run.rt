@@ -1,13 +1,13 @@
 ghost use Rattle.std.specs.Prelude.{◌≡◌, ◌<◌, ℕ, List, Some, IfOk, IfErr, IsErrAnd, map, option_map, string_bytes};
 ghost use Rattle.command_words.specs.Task.{IsTask};
-ghost use Rattle.dispatch_cli.specs.Outside.{FailsOfOne, ReadsOne, ReadsNames, IsOneOfTwo, IsOneOfThree};
-ghost use Rattle.dispatch_cli.specs.Answers.{IsAnswer, AnswersTask, AnswersSolve, AnswersVerify, IsJudgedFile, IsJudgedBy};
-ghost use Rattle.dispatch_cli.specs.Causes.{RefusesWords, StopsRun, StopsTask, StopsSolve, StopsSolution, StopsJudging, StopsVerify, IsReadingFault, IsAnswerStatus, CountsReading, CountsTask};
+ghost use Rattle.dispatch_cli.specs.Outside.{FailsOfOne, ReadsOne, ReadsNames, IsGiven, IsProblemOrFixings, IsOneOfTwo, IsOneOfThree};
+ghost use Rattle.dispatch_cli.specs.Answers.{IsAnswer, AnswersTask, AnswersSolve, IsSolvedWith, AnswersVerify, IsJudgedFile, IsJudgedBy};
+ghost use Rattle.dispatch_cli.specs.Causes.{RefusesWords, StopsRun, StopsTask, StopsGivenFixings, StopsSolve, StopsSolution, StopsJudging, StopsVerify, IsReadingFault, IsAnswerStatus, CountsReading, CountsTask};
 
 use crate::answer::Answer;
 use crate::cause::Cause;
 use crate::check::run_check;
-use crate::input::{fixings_file, problem_file, solution_file};
+use crate::input::{asked_of, fixings_file, problem_file, solution_file};
 use crate::judge::judge;
 use crate::solve::solve;
 use command_words::{Task, WordsNo, read_words};
@@ -27,27 +27,59 @@ fn task_of(alloc: Global, words: &[String]) -> Result<Task, Cause>
     }
 }
 
-/// Solves the problem of a file.
+/// Solves a problem with what the lines of a file ask for, if there is one.
+fn solve_with<S: Shelf>(
+    alloc: Global,
+    shelf: &mut S,
+    problem: &Problem,
+    fixings: Option<&Text>,
+    budget: u32,
+    plan: Option<&Text>,
+) -> Result<Answer, Cause>
+    ensures ok { IfOk result
+        (IsSolvedWith (S.holds shelf.old) problem.now budget
+        (option_map (λ name. name.now) fixings.entry) (option_map (λ name. name.now) plan.entry)) }
+    ensures no { IfErr result
+        (StopsGivenFixings (S.holds shelf.old) (S.reading_faults shelf.old)
+        (S.reading_faults shelf.new) problem.now (option_map (λ name. name.now) fixings.entry)) }
+    ensures status { IfOk result (λ answer. IsAnswerStatus answer.status) }
+    ensures reads { ReadsNames (IsGiven (option_map (λ name. name.now) fixings.entry))
+        (S.reading_faults shelf.old) (S.reading_faults shelf.new) (S.putting_faults shelf.old)
+        (S.putting_faults shelf.new) (S.holds shelf.old) (S.holds shelf.new)
+        (IsErrAnd result IsReadingFault) }
+{
+    match asked_of(alloc, shelf, problem, fixings) {
+        Ok(asked) => solve(alloc, problem, budget, asked.as_slice(), plan),
+        Err(cause) => Err(cause),
+    }
+}
+
+/// Solves the problem of a file with the fixings of another.
 fn run_solve<S: Shelf>(
     alloc: Global,
     shelf: &mut S,
     problem: &Text,
+    fixings: Option<&Text>,
+    budget: u32,
     plan: Option<&Text>,
 ) -> Result<Answer, Cause>
     ensures ok { IfOk result
-        (λ answer. (budget : ℕ)
-        → AnswersSolve (S.holds shelf.old) problem.now budget
-        (option_map (λ name. name.now) plan.entry) answer) }
+        (AnswersSolve (S.holds shelf.old) problem.now (option_map (λ name. name.now) fixings.entry)
+        budget (option_map (λ name. name.now) plan.entry)) }
     ensures no { IfErr result
         (StopsSolve (S.holds shelf.old) (S.reading_faults shelf.old) (S.reading_faults shelf.new)
-        problem.now) }
+        problem.now (option_map (λ name. name.now) fixings.entry)) }
     ensures status { IfOk result (λ answer. IsAnswerStatus answer.status) }
-    ensures reads { ReadsOne problem.now (S.reading_faults shelf.old) (S.reading_faults shelf.new)
-        (S.putting_faults shelf.old) (S.putting_faults shelf.new) (S.holds shelf.old)
-        (S.holds shelf.new) (IsErrAnd result IsReadingFault) }
+    ensures reads { ReadsNames
+        (IsProblemOrFixings problem.now (option_map (λ name. name.now) fixings.entry))
+        (S.reading_faults shelf.old) (S.reading_faults shelf.new) (S.putting_faults shelf.old)
+        (S.putting_faults shelf.new) (S.holds shelf.old) (S.holds shelf.new)
+        (IsErrAnd result IsReadingFault) }
 {
-    let problem = problem_file(alloc, shelf, problem.as_str())?;
-    solve(alloc, &problem, plan)
+    match problem_file(alloc, shelf, problem.as_str()) {
+        Ok(problem) => solve_with(alloc, shelf, &problem, fixings, budget, plan),
+        Err(cause) => Err(cause),
+    }
 }
 
 /// Judges the solution of a file with fixings.
@@ -169,7 +201,15 @@ fn run_task<S: Shelf>(alloc: Global, shelf: &mut S, task: &Task) -> Result<Answe
     ensures held { (name : List ℕ) → S.holds shelf.new name ≡ S.holds shelf.old name }
 {
     match task {
-        Task::Solve { problem, plan, .. } => run_solve(alloc, shelf, problem, plan.as_ref()),
+        Task::Solve {
+            problem,
+            fixings,
+            budget,
+            plan,
+        } => {
+            let (fixings, plan) = (fixings.as_ref(), plan.as_ref());
+            run_solve(alloc, shelf, problem, fixings, *budget, plan)
+        }
         Task::Verify {
             problem,
             solution,

@@ -1,5 +1,5 @@
 -- Lines that are taken one after the other.
-use Rattle.std.proofs.Common.{◌≡◌, ℕ, zero, suc, ◌+◌, ◌-◌, ◌<◌, ◌≤◌, List, [], ◌∷◌, length, take, drop, Option, Some, None, refl, sym, subst, ap, ◌∙◌, arith}
+use Rattle.std.proofs.Common.{◌≡◌, ℕ, zero, suc, ◌+◌, ◌-◌, ◌<◌, ◌≤◌, List, [], ◌∷◌, ◌++◌, length, take, drop, Option, Some, None, refl, sym, subst, ap, ◌∙◌, arith}
 use Rattle.std.specs.Prelude.{slice_get, IfSome}
 use Rattle.disp_model.specs.declared.fixing.Change.{Change}
 use Rattle.disp_model.specs.declared.problem.Problem.{Problem}
@@ -8,7 +8,9 @@ use Rattle.fixing_files.specs.declared.take.LineNo.{LineNo}
 use Rattle.fixing_files.specs.declared.take.LineNo.TheVariants as why
 use Rattle.fixing_files.specs.declared.take.FileNo.{FileNo}
 use Rattle.fixing_files.specs.declared.take.FileNo.TheVariants.{Line, Failed, Memory}
-use Rattle.fixing_files.specs.Files.{TakesLine, TakesAll, TakesFirst, HasRead, StopsLine, StopsBy, StopsAt, StopsFirst, HasFirst, LeavesAt, Leaves, RefusesNext, RefusesEnd, RefusesFile}
+use Rattle.fixing_files.specs.Files.{TakesLine, TakesAll, TakesFirst, HasRead, StopsLine, StopsBy, StopsAt, StopsFirst, HasFirst, LeavesAt, Leaves, RefusesNext, RefusesEnd, RefusesFile, TakesChange, TakesInTurn, LineAsks, AskInTurn, FirstAsks, NotesText, NotesNext, HasNoted}
+use Rattle.disp_outside.specs.Lines.{GivesLine}
+use Rattle.fixing_lines.specs.Requests.{IsAsked}
 
 -- one more line
 pub takes_more : (problem : Problem) (old mid new : List Change) (k : ℕ) (lines : List (List ℕ)) (line : List ℕ) (rest : List (List ℕ)) → drop k lines ≡ line ∷ rest
@@ -144,6 +146,78 @@ leaves_too_many problem (Some lines) now left changes (Line n reason) (at, all) 
     go : (rest : List (List ℕ)) → drop MOST_LINES lines ≡ rest → HasFirst rest left → LeavesAt problem lines left changes n
     go [] e first = absurd first
     go (line ∷ rest) e first = record { place = MOST_LINES; counted = number; before = all; behind = rw number (first ∙ ap Some (sym (left_after MOST_LINES lines line rest e))) }
+
+-- one more change
+pub in_turn_more : (problem : Problem) (old mid new asked : List Change) (change : Change)
+    → TakesInTurn problem old asked mid → TakesChange problem mid change new
+    → TakesInTurn problem old (asked ++ change ∷ []) new
+in_turn_more problem old mid new [] change same one =
+    (new, subst (λ (m : List Change). TakesChange problem m change new) same one, refl)
+in_turn_more problem old mid new (first ∷ asked) change (next, takes, all) one =
+    (next, takes, in_turn_more problem next mid new asked change all one)
+
+-- one more line that asks
+ask_more : (k : ℕ) (lines : List (List ℕ)) (line : List ℕ) (rest : List (List ℕ))
+    (asked : List Change) (change : Change) → drop k lines ≡ line ∷ rest
+    → AskInTurn (take k lines) asked → LineAsks line change
+    → AskInTurn (take (k + 1) lines) (asked ++ change ∷ [])
+ask_more zero [] line rest asked change e all one = cc
+ask_more zero (x ∷ xs) line rest [] change e all one =
+    let first : x ≡ line = head e in
+    (rw first one, tt)
+  where
+    head : {a b : List ℕ} {xs ys : List (List ℕ)} → (a ∷ xs) ≡ (b ∷ ys) → a ≡ b
+    head e = cc
+ask_more zero (x ∷ xs) line rest (first ∷ asked) change e all one = absurd all
+ask_more (suc k) [] line rest asked change e all one = cc
+ask_more (suc k) (x ∷ xs) line rest [] change e all one = absurd all
+ask_more (suc k) (x ∷ xs) line rest (first ∷ asked) change e all one =
+    let more : suc k + 1 ≡ suc (k + 1) = omega arith in
+    rw more (all.0, ask_more k xs line rest asked change e all.1 one)
+
+-- what the text of the next line asks for is noted
+pub next_noted : (problem : Problem) (old : List Change) (told left : Option (List (List ℕ)))
+    (text : List ℕ) (new asked noted : List Change) → GivesLine told left text
+    → NotesText problem old text new asked noted → NotesNext problem old told new asked noted
+next_noted problem old None left text new asked noted gives notes =
+    record { change = notes.change; asks = tt; takes = notes.takes; noted_is = notes.noted_is }
+next_noted problem old (Some []) left text new asked noted gives notes = absurd gives
+next_noted problem old (Some (line ∷ lines)) left text new asked noted gives notes = record {
+  change = notes.change;
+  asks = (gives.1, subst (λ (t : List ℕ). IsAsked t notes.change) gives.0 notes.asks);
+  takes = notes.takes;
+  noted_is = notes.noted_is;
+}
+
+-- what is noted, one line on
+pub noted_more : (problem : Problem) (told now : Option (List (List ℕ))) (k : ℕ)
+    (old new asked noted : List Change) → HasRead problem told now k old
+    → HasNoted problem told k asked old → NotesNext problem old now new asked noted
+    → HasNoted problem told (k + 1) noted new
+noted_more problem None now k old new asked noted at (turn, all) next =
+    (rw next.noted_is (in_turn_more problem [] old new asked next.change turn next.takes), tt)
+noted_more problem (Some lines) now k old new asked noted (left, read) (turn, all) next = (
+  rw next.noted_is (in_turn_more problem [] old new asked next.change turn next.takes),
+  rw next.noted_is (go (drop k lines) refl
+      (subst (λ (n : Option (List (List ℕ))). IfSome n (λ ls. FirstAsks ls next.change)) left
+      next.asks)),
+)
+  where
+    go : (rest : List (List ℕ)) → drop k lines ≡ rest → FirstAsks rest next.change
+        → AskInTurn (take (k + 1) lines) (asked ++ next.change ∷ [])
+    go [] e one = absurd one
+    go (line ∷ rest) e one = ask_more k lines line rest asked next.change e all one
+
+-- where none is left each line has asked
+pub all_asked : (problem : Problem) (told now : Option (List (List ℕ))) (k : ℕ)
+    (changes asked : List Change) → HasRead problem told now k changes
+    → HasNoted problem told k asked changes → IfSome now (λ lines. lines ≡ [])
+    → IfSome told (λ lines. AskInTurn lines asked)
+all_asked problem None now k changes asked at noted none = tt
+all_asked problem (Some lines) now k changes asked (left, read) (turn, all) none =
+    let empty : drop k lines ≡ [] =
+    subst (λ (n : Option (List (List ℕ))). IfSome n (λ ls. ls ≡ [])) left none in
+    subst (λ (ls : List (List ℕ)). AskInTurn ls asked) (all_taken k lines empty) all
 
 -- a number from 1 on, and the lines before it
 pub next_is : (number : ℕ) → 1 ≤ number → (number - 1) + 1 ≡ number

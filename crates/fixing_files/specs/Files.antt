@@ -1,5 +1,5 @@
 -- Files of fixings: each line asks for a change, which is accepted or known.
-use Rattle.std.specs.Prelude.{◌≡◌, ℕ, ◌+◌, ◌<◌, ◌≤◌, List, [], ◌∷◌, length, take, drop, Option, Some, IfSome, slice_get}
+use Rattle.std.specs.Prelude.{◌≡◌, ℕ, ◌+◌, ◌<◌, ◌≤◌, List, [], ◌∷◌, ◌++◌, length, take, drop, Option, Some, IfSome, slice_get}
 use Rattle.disp_outside.specs.Lines.{text_of, without_end}
 use Rattle.disp_model.specs.declared.limits.TheConstants.{MOST_LINES}
 use Rattle.disp_model.specs.declared.fixing.Change.{Change}
@@ -39,6 +39,23 @@ TakesLine problem old line new = (length (without_end line) ≤ 256) × TakesTex
 abbrev pub TakesAll : Problem → List Change → List (List ℕ) → List Change → Type 0
 TakesAll problem old [] new = new ≡ old
 TakesAll problem old (line ∷ lines) new = (mid : List Change) × TakesLine problem old line mid × TakesAll problem mid lines new
+
+-- each of the changes is taken, one after the other
+abbrev pub TakesInTurn : Problem → List Change → List Change → List Change → Type 0
+TakesInTurn problem old [] new = new ≡ old
+TakesInTurn problem old (change ∷ asked) new =
+    (mid : List Change) × TakesChange problem old change mid × TakesInTurn problem mid asked new
+
+-- a line is short enough, and asks for the change
+abbrev pub LineAsks : List ℕ → Change → Type 0
+LineAsks line change = (length (without_end line) ≤ 256) × IsAsked (text_of line) change
+
+-- each line asks for its change
+abbrev pub AskInTurn : List (List ℕ) → List Change → Type 0
+AskInTurn [] [] = Unit {0}
+AskInTurn [] (change ∷ asked) = ⊥
+AskInTurn (line ∷ lines) [] = ⊥
+AskInTurn (line ∷ lines) (change ∷ asked) = LineAsks line change × AskInTurn lines asked
 
 -- why a text is not taken behind these changes
 abbrev pub StopsText : Problem → List Change → List ℕ → LineNo → Type 0
@@ -138,6 +155,32 @@ abbrev pub RefusesEnd : Option (List (List ℕ)) → Option (List (List ℕ)) �
 RefusesEnd told left (Line n reason) = (n ≡ MOST_LINES + 1) × (reason ≡ why.TooMany) × IfSome told (λ lines. HasFirst lines left)
 RefusesEnd told left Failed = Unit {0}
 RefusesEnd told left Memory = ⊥
+
+-- a text asks for a change that is taken, and it is noted
+pub record NotesText (problem : Problem) (old : List Change) (text : List ℕ) (new : List Change)
+    (asked noted : List Change) : Type 0 where
+  pub change : Change
+  pub asks : IsAsked text change
+  pub takes : TakesChange problem old change new
+  pub noted_is : noted ≡ asked ++ change ∷ []
+
+-- the first of the lines asks for the change
+abbrev pub FirstAsks : List (List ℕ) → Change → Type 0
+FirstAsks [] change = ⊥
+FirstAsks (line ∷ lines) change = LineAsks line change
+
+-- the next line asks for a change that is taken, and it is noted
+pub record NotesNext (problem : Problem) (old : List Change) (told : Option (List (List ℕ)))
+    (new : List Change) (asked noted : List Change) : Type 0 where
+  pub change : Change
+  pub asks : IfSome told (λ lines. FirstAsks lines change)
+  pub takes : TakesChange problem old change new
+  pub noted_is : noted ≡ asked ++ change ∷ []
+
+-- what the lines so far asked for is noted
+abbrev pub HasNoted : Problem → Option (List (List ℕ)) → ℕ → List Change → List Change → Type 0
+HasNoted problem told count asked changes =
+    TakesInTurn problem [] asked changes × IfSome told (λ lines. AskInTurn (take count lines) asked)
 
 -- how far reading has come: so many lines are taken, and the others are left
 abbrev pub HasRead : Problem → Option (List (List ℕ)) → Option (List (List ℕ)) → ℕ → List Change → Type 0

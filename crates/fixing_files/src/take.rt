@@ -1,8 +1,8 @@
-ghost use Rattle.std.specs.Prelude.{◌≡◌, ◌≤◌, ◌<◌, ◌↔◌, [], false, true, length, Ok, IfErr, IfSome, OnOk, OnErr, IsErrOf, MatchOption};
+ghost use Rattle.std.specs.Prelude.{◌≡◌, ◌≤◌, ◌<◌, ◌↔◌, ◌++◌, ◌∷◌, [], false, true, length, Ok, IfErr, IfSome, OnOk, OnErr, IsErrOf, MatchOption};
 ghost use Rattle.disp_model.specs.declared.limits.TheConstants.{MOST_LINES};
 ghost use Rattle.disp_model.specs.declared.fixing.Change.{Change};
 ghost use Rattle.fixing_lines.specs.Requests.{IsAsked};
-ghost use Rattle.fixing_files.specs.Files.{TakesChange, RefusesChange, TakesText, RefusesText, TakesFirst, RefusesNext, RefusesEnd, TakesAll, RefusesFile, Leaves};
+ghost use Rattle.fixing_files.specs.Files.{TakesChange, RefusesChange, TakesText, RefusesText, TakesFirst, RefusesNext, RefusesEnd, TakesAll, RefusesFile, Leaves, TakesInTurn, AskInTurn, NotesText, NotesNext};
 
 use disp_model::{Change, MOST_LINES, Memory, Refusal, Reply};
 use disp_outside::{Feed, FeedLine, LineBuf};
@@ -71,25 +71,39 @@ fn ask_for(editions: &mut Editions, change: Change, number: u64) -> Result<(), F
     }
 }
 
-/// Asks for the change of a line.
-fn take_line(editions: &mut Editions, line: &[u8], number: u64) -> Result<(), FileNo>
+/// Asks for the change of a line, and notes it.
+fn take_line(
+    editions: &mut Editions,
+    asked: &mut Vec<Change>,
+    line: &[u8],
+    number: u64,
+) -> Result<(), FileNo>
     ensures problem { editions.new.problem ≡ editions.old.problem }
     ensures ok { OnOk result
         (TakesText editions.old.problem editions.old.changes line.now editions.new.changes) }
+    ensures noted { OnOk result
+        (NotesText editions.old.problem editions.old.changes line.now editions.new.changes
+        asked.old.items asked.new.items) }
     ensures same { OnErr result (editions.new.changes ≡ editions.old.changes) }
     ensures no { IfErr result
         (RefusesText editions.old.problem editions.old.changes line.now number) }
 {
-    match change_of(line) {
-        Some(change) => ask_for(editions, change, number),
-        None => Err(FileNo::Line(number, LineNo::Unreadable)),
-    }
+    let Some(change) = change_of(line) else {
+        return Err(FileNo::Line(number, LineNo::Unreadable));
+    };
+    let Ok(()) = asked.reserve(1) else {
+        return Err(FileNo::Memory);
+    };
+    ask_for(editions, change, number)?;
+    asked.push_reserved(change);
+    Ok(())
 }
 
 /// Takes the next line, and says whether there was none.
 fn take_next<F: Feed>(
     feed: &mut F,
     editions: &mut Editions,
+    asked: &mut Vec<Change>,
     line: &mut LineBuf,
     number: u64,
 ) -> Result<bool, FileNo>
@@ -98,6 +112,10 @@ fn take_next<F: Feed>(
     ensures given { result ≡ Ok false → IfSome (F.lines feed.old) (λ lines.
         TakesFirst editions.old.problem editions.old.changes lines (F.lines feed.new)
         editions.new.changes) }
+    ensures noted { result ≡ Ok false
+        → NotesNext editions.old.problem editions.old.changes (F.lines feed.old)
+        editions.new.changes asked.old.items asked.new.items }
+    ensures quiet { result ≡ Ok true → asked.new.items ≡ asked.old.items }
     ensures open { result ≡ Ok false → F.has_ended feed.new ≡ false }
     ensures end { result ≡ Ok true
         → IfSome (F.lines feed.old) (λ lines. lines ≡ [])
@@ -113,7 +131,7 @@ fn take_next<F: Feed>(
 {
     match feed.line(line) {
         FeedLine::Got => {
-            take_line(editions, line.as_slice(), number)?;
+            take_line(editions, asked, line.as_slice(), number)?;
             Ok(false)
         }
         FeedLine::End => Ok(true),
@@ -139,7 +157,7 @@ fn see_end<F: Feed>(feed: &mut F, line: &mut LineBuf) -> Result<(), FileNo>
     }
 }
 
-/// Asks for the changes of a feed's lines, one after the other.
+/// Asks for the changes of a feed's lines, one after the other, and notes what each line asks for.
 ///
 /// # Errors
 ///
@@ -148,12 +166,21 @@ fn see_end<F: Feed>(feed: &mut F, line: &mut LineBuf) -> Result<(), FileNo>
 /// changes then are those of the lines before, and no line behind is read. `Failed` exactly where
 /// the feed failed; then, and where memory ran out, the changes are those of the first so many
 /// lines.
-pub fn take_fixings<F: Feed>(feed: &mut F, editions: &mut Editions) -> Result<(), FileNo>
+pub fn take_fixings<F: Feed>(
+    feed: &mut F,
+    editions: &mut Editions,
+    asked: &mut Vec<Change>,
+) -> Result<(), FileNo>
     requires new { editions.old.changes ≡ [] }
+    requires nothing { asked.old.items ≡ [] }
     requires open { F.has_ended feed.old ≡ false }
     ensures problem { editions.new.problem ≡ editions.old.problem }
     ensures ok { OnOk result (IfSome (F.lines feed.old) (λ lines.
         TakesAll editions.old.problem [] lines editions.new.changes)) }
+    ensures taken { OnOk result
+        (TakesInTurn editions.old.problem [] asked.new.items editions.new.changes) }
+    ensures asks { OnOk result
+        (IfSome (F.lines feed.old) (λ lines. AskInTurn lines asked.new.items)) }
     ensures few { OnOk result (IfSome (F.lines feed.old) (λ lines. length lines ≤ MOST_LINES)) }
     ensures ended { OnOk result (F.has_ended feed.new ≡ true) }
     ensures no { IfErr result (RefusesFile editions.old.problem (F.lines feed.old)) }
@@ -167,7 +194,7 @@ pub fn take_fixings<F: Feed>(feed: &mut F, editions: &mut Editions) -> Result<()
 {
     let mut line = LineBuf::new();
     for number in 1..=MOST_LINES {
-        match take_next(feed, editions, &mut line, number) {
+        match take_next(feed, editions, asked, &mut line, number) {
             Ok(false) => {}
             Ok(true) => return Ok(()),
             Err(no) => return Err(no),

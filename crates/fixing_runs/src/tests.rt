@@ -42,9 +42,29 @@ fn taken(
 ) -> Result<(Result<(), FileNo>, Vec<Fixing>), Fail> {
     let problem = one_operation(alloc)?;
     let mut editions = Editions::new(alloc, &problem)?;
+    let mut asked = Vec::new(alloc);
     let mut feed = MemFeed::new(alloc, "fixings", bytes, broken)?;
-    let answer = take_fixings(&mut feed, &mut editions);
+    let answer = take_fixings(&mut feed, &mut editions, &mut asked);
     Ok((answer, editions.fixings().to_vec(alloc)?))
+}
+
+/// How many changes are noted of a file of these bytes.
+fn noted(alloc: Global, bytes: &[u8]) -> Result<usize, Fail> {
+    let problem = one_operation(alloc)?;
+    let mut editions = Editions::new(alloc, &problem)?;
+    let mut asked = Vec::new(alloc);
+    let mut feed = MemFeed::new(alloc, "fixings", bytes, &[])?;
+    match take_fixings(&mut feed, &mut editions, &mut asked) {
+        Ok(()) => Ok(asked.len()),
+        Err(_) => Err(Fail::from("not taken")),
+    }
+}
+
+#[test]
+fn each_line_is_noted(rt: HostRuntime) -> Result<(), Fail> {
+    let alloc = rt.alloc();
+    assert_eq!(rt; noted(alloc, b"started 0 0 7\nstarted 0 0 7\nwithdraw 1\n")?, 3);
+    Ok(())
 }
 
 #[test]

@@ -3,3 +3,4 @@ mod doubles;
 mod faults;
 mod limits;
 mod refusals;
+mod searches;

@@ -102,7 +102,7 @@ fn a_plan_that_cannot_be_put_ends_the_run(rt: HostRuntime) -> Result<(), Fail> {
     let mut out = SteadySink::new(alloc);
     let done = dispatch(&rt, alloc, &words, &mut shelf, &mut out, &OpenGate);
     assert_eq!(rt; done.status, 4);
-    assert_eq!(rt; done.journal.len(), 2);
+    assert_eq!(rt; done.journal.len(), 3);
     assert_eq!(rt; out.written(), b"".as_slice());
     assert_eq!(rt; shelf.put_faults("out"), 1);
     Ok(())
@@ -135,7 +135,7 @@ fn no_plan_is_put_where_there_is_none(rt: HostRuntime) -> Result<(), Fail> {
     let mut out = SteadySink::new(alloc);
     let done = dispatch(&rt, alloc, &words, &mut shelf, &mut out, &OpenGate);
     assert_eq!(rt; done.status, 1);
-    assert_eq!(rt; done.journal.len(), 1);
+    assert_eq!(rt; done.journal.len(), 2);
     assert_eq!(rt; out.written(), b"edition 0\ninfeasible\n".as_slice());
     assert!(rt; holds(&shelf, "out", b"old"));
     Ok(())

@@ -1,4 +1,4 @@
-// What is printed for texts and words that are refused, and for problems with choices.
+// What is printed for texts and words that are refused.
 use super::doubles::solve;
 use disp_outside::OpenGate;
 use dispatch_cli::dispatch;
@@ -59,25 +59,6 @@ fn what_breaks_a_rule_is_refused(rt: HostRuntime) -> Result<(), Fail> {
         let line = format!(in rt.alloc(); "problem: {want}\n")?;
         assert_eq!(rt; status, 2, "{problem}");
         assert_eq!(rt; written.as_slice(), line.as_bytes(), "{problem}");
-    }
-    Ok(())
-}
-
-#[test]
-fn problems_with_choices_are_refused(rt: HostRuntime) -> Result<(), Fail> {
-    let rows = [
-        r#"{"trains":[[{"min_duration":10,"resources":[{"resource":"r"}],"successors":[1]},{}],[{"min_duration":4,"resources":[{"resource":"r"}],"successors":[1]},{}]],"objective":[]}"#,
-        r#"{"trains":[[{"successors":[1,2]},{"successors":[3]},{"successors":[3]},{}]],"objective":[]}"#,
-        r#"{"trains":[[{"resources":[{"resource":"r"}],"successors":[1]},{}],[{"resources":[{"resource":"r"}],"successors":[1,2]},{"successors":[3]},{"successors":[3]},{}]],"objective":[]}"#,
-    ];
-    for problem in rows {
-        let (status, written) = solve(&rt, problem.as_bytes())?;
-        assert_eq!(rt; status, 2, "{problem}");
-        assert_eq!(rt;
-            written.as_slice(),
-            b"problem: Choices\n".as_slice(),
-            "{problem}"
-        );
     }
     Ok(())
 }

@@ -1,10 +1,11 @@
-use Rattle.std.proofs.Common.{option_map, inl, length}
+use Rattle.std.proofs.Common.{option_map, inl, length, refl}
 use Rattle.std.proofs.lemmas.Result.{IfOk-weaker, IfErr-weaker}
 use Rattle.disp_model.specs.Changes.{standing_of}
 use Rattle.dispatch_cli.specs.Outside.{IsGiven, IsTreeOrPlan, IsBehindProblem}
 use Rattle.dispatch_cli.specs.Files.{AreOfEdition}
-use Rattle.dispatch_cli.proofs.Stopped.{reads_then, reads_among}
-use Rattle.dispatch_cli.proofs.Checking.{checked_file_before, edition_before, edition_of_changes, stops_by_fixings, behind_names, behind_both}
+use Rattle.command_words.specs.declared.task.Task.TheVariants.{Check}
+use Rattle.dispatch_cli.proofs.Stopped.{takes_named, stops_at_fixings, reads_then, reads_among}
+use Rattle.dispatch_cli.proofs.Checking.{checked_file_before, edition_before, edition_of_changes, behind_names, behind_both}
 use Rattle.dispatch_cli.proofs.check.check_files.Goals as goal
 
 pub returns-in-Ok-clause-ok : goal.returns-in-Ok-clause-ok
@@ -45,7 +46,10 @@ returns-in-Err-clause-no g c before first problem_name behind file =
     let holds = g.S.Shelf.holds c.args.shelf.now in
     let old = g.S.Shelf.reading_faults c.args.shelf.now in
     let new = g.S.Shelf.reading_faults c.editions_of.new.shelf in
-    stops_by_fixings before holds first old new c.args.problem.now problem_name c.args.tree.now (option_map (λ name. name.now) c.args.fixings) (option_map (λ name. name.now) c.args.plan) c.in-Err.cause behind file c.in-Err.ensures.no
+    let fixings = option_map (λ name. name.now) c.args.fixings in
+    let task = Check problem_name c.args.tree.now fixings (option_map (λ name. name.now) c.args.plan) in
+    stops_at_fixings before holds first old new task c.args.problem.now fixings c.in-Err.cause refl
+    behind (takes_named before task problem_name c.args.problem.now refl file) c.in-Err.ensures.no
 
 pub returns-in-Err-clause-reads : goal.returns-in-Err-clause-reads
 returns-in-Err-clause-reads g c =

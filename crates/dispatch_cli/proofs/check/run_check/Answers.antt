@@ -1,9 +1,10 @@
-use Rattle.std.proofs.Common.{option_map, inl}
+use Rattle.std.proofs.Common.{option_map, inl, refl}
 use Rattle.std.proofs.lemmas.Result.{IfOk-weaker, IfErr-weaker}
 use Rattle.dispatch_cli.specs.Files.{IsProblemFile}
 use Rattle.dispatch_cli.specs.Outside.{IsName, IsBehindProblem, IsOneOfFour}
-use Rattle.dispatch_cli.proofs.Stopped.{reads_of_one, reads_then, reads_among}
-use Rattle.dispatch_cli.proofs.Checking.{checked_file_before, edition_before, stops_by_problem, behind_names}
+use Rattle.command_words.specs.declared.task.Task.TheVariants.{Check}
+use Rattle.dispatch_cli.proofs.Stopped.{stops_at_problem, reads_of_one, reads_then, reads_among}
+use Rattle.dispatch_cli.proofs.Checking.{checked_file_before, edition_before, behind_names}
 use Rattle.dispatch_cli.proofs.check.run_check.Goals as goal
 
 pub returns-in-Ok-clause-ok : goal.returns-in-Ok-clause-ok
@@ -46,8 +47,11 @@ returns-in-Ok-clause-reads g c =
     reads_then (IsName c.args.problem.now) (IsBehindProblem fixings c.args.tree.now plan) _ _ _ _ _ _ _ _ _ _ _ (λ e. e) first c.check_files.ensures.reads
 
 pub returns-in-Err-clause-no : goal.returns-in-Err-clause-no
-returns-in-Err-clause-no g c = stops_by_problem (g.S.Shelf.holds c.args.shelf.now) (g.S.Shelf.reading_faults c.args.shelf.now) (g.S.Shelf.reading_faults c.problem_file.new.shelf) c.args.problem.now c.args.tree.now
-    (option_map (λ name. name.now) c.args.fixings) (option_map (λ name. name.now) c.args.plan) c.in-Err.cause (rw (← c.as_str.ensures) c.in-Err.ensures.no)
+returns-in-Err-clause-no g c = stops_at_problem (g.S.Shelf.holds c.args.shelf.now)
+    (g.S.Shelf.reading_faults c.args.shelf.now) (g.S.Shelf.reading_faults c.problem_file.new.shelf)
+    (Check c.args.problem.now c.args.tree.now (option_map (λ name. name.now) c.args.fixings)
+    (option_map (λ name. name.now) c.args.plan)) c.args.problem.now c.in-Err.cause refl
+    (rw (← c.as_str.ensures) c.in-Err.ensures.no)
 
 pub returns-in-Err-clause-reads : goal.returns-in-Err-clause-reads
 returns-in-Err-clause-reads g c =

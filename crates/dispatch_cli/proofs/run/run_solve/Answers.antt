@@ -1,18 +1,56 @@
+use Rattle.std.proofs.Common.{option_map, inl, inr}
 use Rattle.std.proofs.lemmas.Result.{IfOk-weaker, IfErr-weaker}
 use Rattle.dispatch_cli.specs.Files.{IsProblemFile}
-use Rattle.dispatch_cli.proofs.Stopped.{stops_by_choices}
+use Rattle.dispatch_cli.specs.Outside.{IsName, IsGiven, IsProblemOrFixings}
+use Rattle.dispatch_cli.proofs.Stopped.{never_falls, given_before, asked_before, reads_of_one, reads_then, reads_among}
 use Rattle.dispatch_cli.proofs.run.run_solve.Goals as goal
 
-pub returns-clause-ok : goal.returns-clause-ok
-returns-clause-ok g c = IfOk-weaker c.solve.result _ _ (λ answer h budget. record {
-  problem = c.in_ok-problem.problem;
-  file = rw (← c.as_str.ensures) c.in_ok-problem.ensures.ok;
-  solved = h budget;
-}) c.solve.ensures.ok
-
-pub returns-clause-no : goal.returns-clause-no
-returns-clause-no g c =
+pub returns-in-Ok-clause-ok : goal.returns-in-Ok-clause-ok
+returns-in-Ok-clause-ok g c =
     let holds = g.S.Shelf.holds c.args.shelf.now in
-    let file : IsProblemFile holds c.args.problem.now c.in_ok-problem.problem = rw (← c.as_str.ensures) c.in_ok-problem.ensures.ok in
-    IfErr-weaker c.solve.result _ _ (λ cause h. stops_by_choices holds (g.S.Shelf.reading_faults c.args.shelf.now) (g.S.Shelf.reading_faults c.problem_file.new.shelf) c.args.problem.now
-    c.in_ok-problem.problem cause file h) c.solve.ensures.no
+    let mid = g.S.Shelf.holds c.problem_file.new.shelf in
+    let fixings = option_map (λ name. name.now) c.args.fixings in
+    IfOk-weaker c.solve_with.result _ _ (λ answer h. record {
+      problem = c.in-Ok.problem;
+      file = rw (← c.as_str.ensures) c.in-Ok.ensures.ok;
+      asked = h.asked;
+      lines = asked_before holds mid c.in-Ok.problem fixings h.asked c.in-Ok.ensures.reads.held
+          h.lines;
+      solved = h.solved;
+    }) c.solve_with.ensures.ok
+
+pub returns-in-Ok-clause-no : goal.returns-in-Ok-clause-no
+returns-in-Ok-clause-no g c =
+    let holds = g.S.Shelf.holds c.args.shelf.now in
+    let mid_holds = g.S.Shelf.holds c.problem_file.new.shelf in
+    let old = g.S.Shelf.reading_faults c.args.shelf.now in
+    let mid = g.S.Shelf.reading_faults c.problem_file.new.shelf in
+    let new = g.S.Shelf.reading_faults c.solve_with.new.shelf in
+    let fixings = option_map (λ name. name.now) c.args.fixings in
+    let file : IsProblemFile holds c.args.problem.now c.in-Ok.problem =
+    rw (← c.as_str.ensures) c.in-Ok.ensures.ok in
+    IfErr-weaker c.solve_with.result _ _ (λ cause h. inr (
+      c.in-Ok.problem,
+      file,
+      given_before holds mid_holds old mid new c.in-Ok.problem fixings cause
+          c.in-Ok.ensures.reads.held (never_falls c.as_str.result.now old mid
+          c.in-Ok.ensures.reads.counted c.in-Ok.ensures.reads.others) h,
+    )) c.solve_with.ensures.no
+
+pub returns-in-Ok-clause-reads : goal.returns-in-Ok-clause-reads
+returns-in-Ok-clause-reads g c =
+    let fixings = option_map (λ name. name.now) c.args.fixings in
+    let first = reads_of_one c.args.problem.now _ _ _ _ _ _ _
+        (rw c.as_str.ensures at c.in-Ok.ensures.reads) in
+    reads_then (IsName c.args.problem.now) (IsGiven fixings) _ _ _ _ _ _ _ _ _ _ _ (λ e. e) first
+    c.solve_with.ensures.reads
+
+pub returns-in-Err-clause-no : goal.returns-in-Err-clause-no
+returns-in-Err-clause-no g c = inl (rw (← c.as_str.ensures) c.in-Err.ensures.no)
+
+pub returns-in-Err-clause-reads : goal.returns-in-Err-clause-reads
+returns-in-Err-clause-reads g c =
+    let fixings = option_map (λ name. name.now) c.args.fixings in
+    reads_among (IsName c.args.problem.now) (IsProblemOrFixings c.args.problem.now fixings)
+    _ _ _ _ _ _ _ (λ n e. inl e)
+    (reads_of_one c.args.problem.now _ _ _ _ _ _ _ (rw c.as_str.ensures at c.in-Err.ensures.reads))

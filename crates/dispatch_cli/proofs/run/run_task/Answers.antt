@@ -1,30 +1,17 @@
 use Rattle.std.proofs.lemmas.Result.{IfErr-weaker}
-use Rattle.dispatch_cli.proofs.Stopped.{counts_of_one, counts_of_three, reads_of_one, stops_solve, stops_verify}
+use Rattle.dispatch_cli.proofs.Stopped.{counts_of_two, counts_of_three, stops_solve, stops_verify}
 use Rattle.dispatch_cli.proofs.Checking.{counts_of_four}
 use Rattle.dispatch_cli.proofs.run.run_task.Goals as goal
 
-pub returns-in-Solve-clause-counts : goal.returns-in-Solve-clause-counts
-returns-in-Solve-clause-counts g c name = rw c.in-Solve.is (counts_of_one c.in-Solve.problem _ _ _ _ c.run_solve.ensures.reads.counted c.run_solve.ensures.reads.others name)
-
 pub returns-in-Verify-clause-counts : goal.returns-in-Verify-clause-counts
-returns-in-Verify-clause-counts g c name = rw c.in-Verify.is (rw (← c.as_ref-in-Verify.ensures.value) (counts_of_three c.in-Verify.problem c.in-Verify.solution _ _ _ c.run_verify.ensures.reads.counted c.run_verify.ensures.reads.others name))
+returns-in-Verify-clause-counts g c name = rw c.in-Verify.is (rw (← c.as_ref.ensures.value) (counts_of_three c.in-Verify.problem c.in-Verify.solution _ _ _ c.run_verify.ensures.reads.counted c.run_verify.ensures.reads.others name))
 
 pub returns-in-Verify-clause-no : goal.returns-in-Verify-clause-no
 returns-in-Verify-clause-no g c =
     let holds = g.S.Shelf.holds c.args.shelf.now in
     let old = g.S.Shelf.reading_faults c.args.shelf.now in
     let new = g.S.Shelf.reading_faults c.run_verify.new.shelf in
-    rw c.in-Verify.is (rw (← c.as_ref-in-Verify.ensures.value) (IfErr-weaker c.run_verify.result _ _ (λ cause h. stops_verify holds old new c.in-Verify.problem c.in-Verify.solution _ cause h) c.run_verify.ensures.no))
-
-pub returns-in-Solve-clause-no : goal.returns-in-Solve-clause-no
-returns-in-Solve-clause-no g c =
-    let holds = g.S.Shelf.holds c.args.shelf.now in
-    let old = g.S.Shelf.reading_faults c.args.shelf.now in
-    let new = g.S.Shelf.reading_faults c.run_solve.new.shelf in
-    rw c.in-Solve.is (IfErr-weaker c.run_solve.result _ _ (λ cause h. stops_solve holds old new c.in-Solve.problem c.in-Solve.budget _ cause h) c.run_solve.ensures.no)
-
-pub returns-in-Solve-clause-one : goal.returns-in-Solve-clause-one
-returns-in-Solve-clause-one g c = (reads_of_one c.in-Solve.problem _ _ _ _ _ _ _ c.run_solve.ensures.reads).one
+    rw c.in-Verify.is (rw (← c.as_ref.ensures.value) (IfErr-weaker c.run_verify.result _ _ (λ cause h. stops_verify holds old new c.in-Verify.problem c.in-Verify.solution _ cause h) c.run_verify.ensures.no))
 
 pub returns-in-Check-clause-counts : goal.returns-in-Check-clause-counts
 returns-in-Check-clause-counts g c name =
@@ -32,3 +19,18 @@ returns-in-Check-clause-counts g c name =
 
 pub returns-in-Check-clause-no : goal.returns-in-Check-clause-no
 returns-in-Check-clause-no g c = rw c.in-Check.is (rw (← c.as_ref-in-Check.ensures.value, ← c.as_ref-in-Check-2.ensures.value) c.run_check.ensures.no)
+
+pub returns-in-Solve-clause-counts : goal.returns-in-Solve-clause-counts
+returns-in-Solve-clause-counts g c name =
+    rw c.in-Solve.is (rw (← c.as_ref-fixings.ensures.value)
+    (counts_of_two c.in-Solve.problem _ c.in-Solve.budget _ _ _ c.run_solve.ensures.reads.counted
+    c.run_solve.ensures.reads.others name))
+
+pub returns-in-Solve-clause-no : goal.returns-in-Solve-clause-no
+returns-in-Solve-clause-no g c =
+    let holds = g.S.Shelf.holds c.args.shelf.now in
+    let old = g.S.Shelf.reading_faults c.args.shelf.now in
+    let new = g.S.Shelf.reading_faults c.run_solve.new.shelf in
+    rw c.in-Solve.is (rw (← c.as_ref-fixings.ensures.value) (IfErr-weaker c.run_solve.result _ _
+    (λ cause h. stops_solve holds old new c.in-Solve.problem _ c.in-Solve.budget _ cause h)
+    c.run_solve.ensures.no))

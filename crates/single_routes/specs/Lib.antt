@@ -1,4 +1,0 @@
-pub mod Choices
-pub mod Earliest
-pub mod Solution
-pub mod Stops
