@@ -20,7 +20,7 @@ budget = record (optional_rule (codes "budget")) { defaults = codes "1000000" âˆ
 abbrev pub solve_inputs : App
 solve_inputs =
     with_rule (with_rule (with_rule (new_app (codes "solve")) (needed_rule (codes "problem")))
-      (optional_rule (codes "fixings"))) budget
+    (optional_rule (codes "fixings"))) budget
 
 -- `solve PROBLEM [--fixings F] [--budget B] [--plan OUT]`
 abbrev pub solve : App

@@ -21,10 +21,7 @@ fn shown(alloc: Global, task: &Task) -> Result<String, Fail> {
         } => {
             let fixings = fixings.as_ref().map_or("none", |name| name.as_str());
             let plan = plan.as_ref().map_or("none", |name| name.as_str());
-            format!(in alloc;
-                "solve {} {fixings} {budget} {plan}",
-                problem.as_str()
-            )?
+            format!(in alloc; "solve {} {fixings} {budget} {plan}", problem.as_str())?
         }
         Task::Check {
             problem,

@@ -61,4 +61,4 @@ pub one_more : {X : Type 0} (xs : List X) (i : ℕ) (x : X) → i < length xs �
 one_more {X = X} xs i x within is =
     let one : suc i ≡ i + 1 = omega arith in
     ap (λ (n : ℕ). take n xs) (sym one) ∙ take-suc xs i x within
-        ∙ ap (λ (y : X). take i xs ++ y ∷ []) (sym is)
+    ∙ ap (λ (y : X). take i xs ++ y ∷ []) (sym is)

@@ -165,27 +165,27 @@ stops_at_file : (before holds : Holdings) (first old new : Counts) (task : Task)
 stops_at_file before holds first old new task problem name (Words text) named behind takes stops =
     absurd stops
 stops_at_file before holds first old new task problem name (Failed which) named behind takes
-  (is, lt) = rw is ((problem, takes), (name, named, omega (arith, behind.counted name, lt)))
+    (is, lt) = rw is ((problem, takes), (name, named, omega (arith, behind.counted name, lt)))
 stops_at_file before holds first old new task problem name (TooLong which) named behind takes stops =
     absurd stops
 stops_at_file before holds first old new task problem name (NoProblem refusal) named behind takes
-  stops = absurd stops
+    stops = absurd stops
 stops_at_file before holds first old new task problem name (NoSolution refusal) named behind takes
-  stops = absurd stops
+    stops = absurd stops
 stops_at_file before holds first old new task problem name (BadLine number reason) named behind takes
-  refused = record {
-  problem = problem;
-  takes = takes;
-  name = name;
-  named = named;
-  refused = refused_before before holds problem name number reason (behind.held name) refused;
-}
+    refused = record {
+      problem = problem;
+      takes = takes;
+      name = name;
+      named = named;
+      refused = refused_before before holds problem name number reason (behind.held name) refused;
+    }
 stops_at_file before holds first old new task problem name (NoTree refusal) named behind takes
-  stops = absurd stops
+    stops = absurd stops
 stops_at_file before holds first old new task problem name (WrongEdition one other) named behind
-  takes stops = absurd stops
+    takes stops = absurd stops
 stops_at_file before holds first old new task problem name (NoPlan refusal) named behind takes
-  stops = absurd stops
+    stops = absurd stops
 stops_at_file before holds first old new task problem name Memory named behind takes stops = tt
 
 pub stops_at_fixings : (before holds : Holdings) (first old new : Counts) (task : Task)
@@ -241,7 +241,7 @@ given_before holds mid_holds old mid new problem None cause same counted stops =
 given_before holds mid_holds old mid new problem (Some name) (Failed which) same counted (is, lt) =
     (is, omega (arith, counted name, lt))
 given_before holds mid_holds old mid new problem (Some name) (BadLine number reason) same counted
-  refused = refused_before holds mid_holds problem name number reason (same name) refused
+    refused = refused_before holds mid_holds problem name number reason (same name) refused
 given_before holds mid_holds old mid new problem (Some name) Memory same counted stops = tt
 given_before holds mid_holds old mid new problem (Some name) cause same counted stops = absurd stops
 

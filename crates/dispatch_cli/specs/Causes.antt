@@ -387,7 +387,7 @@ abbrev pub StopsSolve : Holdings → Counts → Counts → List ℕ → Option (
 StopsSolve holds old new problem fixings cause =
     StopsProblem holds old new problem cause
     ⊎ ((read : Problem) × IsProblemFile holds problem read
-      × StopsGivenFixings holds old new read fixings cause)
+    × StopsGivenFixings holds old new read fixings cause)
 
 -- a reading failed
 abbrev pub IsReadingFault : Cause → Type 0

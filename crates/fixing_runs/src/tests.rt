@@ -63,7 +63,10 @@ fn noted(alloc: Global, bytes: &[u8]) -> Result<usize, Fail> {
 #[test]
 fn each_line_is_noted(rt: HostRuntime) -> Result<(), Fail> {
     let alloc = rt.alloc();
-    assert_eq!(rt; noted(alloc, b"started 0 0 7\nstarted 0 0 7\nwithdraw 1\n")?, 3);
+    assert_eq!(rt;
+        noted(alloc, b"started 0 0 7\nstarted 0 0 7\nwithdraw 1\n")?,
+        3
+    );
     Ok(())
 }
 

@@ -1,5 +1,5 @@
 -- Lines that are entered one after the other.
-use Rattle.std.proofs.Common.{◌≡◌, ◌∙◌, ℕ, zero, suc, ◌+◌, ◌<◌, List, [], ◌∷◌, ◌++◌, length, take, drop, Option, Some, refl, sym, ap, subst, arith}
+use Rattle.std.proofs.Common.{◌≡◌, ◌∙◌, ℕ, suc, ◌+◌, List, [], ◌∷◌, ◌++◌, length, take, drop, Some, refl, sym, ap, subst, arith}
 use Rattle.std.specs.Prelude.{slice_get}
 use Rattle.std.proofs.Math.Seq.{take-suc}
 use Rattle.std.proofs.lemmas.List.{append-nil, drop_more, length-take-le}
@@ -11,7 +11,6 @@ use Rattle.disp_model.specs.declared.problem.Problem.{Problem}
 use Rattle.disp_model.specs.declared.reply.Reply.{Reply}
 use Rattle.disp_model.specs.declared.reply.Reply.TheVariants.{Accepted, Known, Refused}
 use Rattle.disp_model.specs.History.{changes_of, taken}
-use Rattle.disp_model.specs.Replies.{IsReply}
 use Rattle.disp_laws.proofs.OneReply.{one_reply}
 use Rattle.fixing_editions.specs.Edition.{changes_after}
 use Rattle.history_laws.proofs.Appended.{changes_more}
@@ -51,12 +50,12 @@ pub changes_behind : (before after : Core) (line : ℕ) (change : Change) (mid :
 changes_behind before after line change mid takes enters =
     let same : enters.reply ≡ takes.reply =
     one_reply before.problem (changes_of before.history) change enters.reply takes.reply
-        enters.reply_is takes.reply_is in
+    enters.reply_is takes.reply_is in
     ap changes_of enters.history
-        ∙ changes_more before.history (Asked 0 line change enters.reply)
-        ∙ behind (changes_of before.history) change enters.reply enters.taken
-        ∙ ap (changes_after (changes_of before.history) change) same
-        ∙ sym takes.after
+    ∙ changes_more before.history (Asked 0 line change enters.reply)
+    ∙ behind (changes_of before.history) change enters.reply enters.taken
+    ∙ ap (changes_after (changes_of before.history) change) same
+    ∙ sym takes.after
 
 -- the next one may be asked, where all that is left may
 pub first_taken : (problem : Problem) (history : List Entry) (change : Change) (rest : List Change)
@@ -107,7 +106,7 @@ lines_behind before after asked place change here all enters =
     let number : 1 + length (take place asked) ≡ place + 1 =
     omega (arith, length-take-le place asked (omega (arith, within))) in
     let one : IsAskedLine (1 + length (take place asked)) change
-        (Asked 0 (place + 1) change enters.reply) =
+    (Asked 0 (place + 1) change enters.reply) =
     (refl, sym number, refl, enters.taken) in
     subst (λ (l : List Change). AreAskedLines 1 l after.history) (sym grown)
     (subst (AreAskedLines 1 (take place asked ++ change ∷ [])) (sym enters.history)
@@ -118,11 +117,11 @@ lines_behind before after asked place change here all enters =
     taken_more {X = X} xs k x is =
         let one : suc k ≡ k + 1 = omega arith in
         ap (λ (n : ℕ). take n xs) (sym one) ∙ take-suc xs k x (slice_get_within xs k x is)
-            ∙ ap (λ (y : X). take k xs ++ y ∷ []) (get_or_from_slice_get xs k x x is)
+        ∙ ap (λ (y : X). take k xs ++ y ∷ []) (get_or_from_slice_get xs k x x is)
 
 -- the next of those that are left
 pub next_left : {X : Type 0} (xs : List X) (k : ℕ) (x : X) → slice_get xs k ≡ Some x
     → drop k xs ≡ x ∷ drop (k + 1) xs
 next_left {X = X} xs k x is =
     drop_more xs k x (slice_get_within xs k x is)
-        ∙ ap (λ (y : X). y ∷ drop (k + 1) xs) (get_or_from_slice_get xs k x x is)
+    ∙ ap (λ (y : X). y ∷ drop (k + 1) xs) (get_or_from_slice_get xs k x x is)

@@ -1,5 +1,5 @@
 -- What the mark of a legal history promises.
-use Rattle.std.proofs.Common.{◌≡◌, ◌≢◌, ◌∙◌, ℕ, ◌+◌, ◌==◌, Bool, true, List, [], ◌∷◌, ◌++◌, length, Option, Some, None, refl, sym, ap, subst, inl, inr, arith}
+use Rattle.std.proofs.Common.{◌≡◌, ◌≢◌, ◌∙◌, ℕ, ◌+◌, ◌==◌, Bool, List, [], ◌∷◌, ◌++◌, length, Option, Some, None, refl, sym, ap, subst, inl, inr, arith}
 use Rattle.std.specs.Prelude.{◌⊎◌, MatchOption, if◌then◌else◌}
 use Rattle.std.proofs.lemmas.Bool.{eq-eqb}
 use Rattle.std.proofs.lemmas.List.{append-nil, length-append}
@@ -19,7 +19,7 @@ use Rattle.disp_model.specs.declared.tree.Verdict.TheVariants.{Optimal, Infeasib
 use Rattle.disp_model.specs.Changes.{standing_of}
 use Rattle.disp_model.specs.Cost.{cost_of, IsLeast}
 use Rattle.disp_model.specs.History.{change_of, changes_of, edition_of, newest, plan_after, last_plan, mark_of_verdict, mark_after, mark_of}
-use Rattle.disp_model.specs.Legal.{IsLegal, IsLegalEntry, IsLegalVerdict, IsVerdictOf}
+use Rattle.disp_model.specs.Legal.{IsLegal, IsLegalEntry, IsLegalVerdict}
 use Rattle.disp_model.specs.Valid.{IsValid}
 use Rattle.disp_laws.proofs.TreesYes.{tree_says}
 use Rattle.history_laws.proofs.Appended.{changes_more, mark_more, plan_more}
@@ -47,7 +47,7 @@ module _ (problem : Problem) (settings : Settings) where
   quiet_says : (h : List Entry) (e : Entry) → change_of e ≡ []
       → Says problem settings (edition_of h) (mark_after (newest h) (mark_of (newest h) h) e)
       → Says problem settings (edition_of (h ++ e ∷ []))
-        (mark_of (newest (h ++ e ∷ [])) (h ++ e ∷ []))
+      (mark_of (newest (h ++ e ∷ [])) (h ++ e ∷ []))
   quiet_says h e none says =
       let same : changes_of (h ++ e ∷ []) ≡ changes_of h =
       changes_more h e ∙ ap (λ (l : List Change). changes_of h ++ l) none ∙ append-nil (changes_of h) in
@@ -83,11 +83,11 @@ module _ (problem : Problem) (settings : Settings) where
   newer h e change legal taken same stays before =
       let longer : newest (h ++ e ∷ []) ≡ newest h + 1 =
       ap (λ (l : List Change). length l) (changes_more h e)
-          ∙ length-append (changes_of h) (change_of e)
-          ∙ ap (λ (l : List Change). newest h + length l) taken in
+      ∙ length-append (changes_of h) (change_of e)
+      ∙ ap (λ (l : List Change). newest h + length l) taken in
       let working : mark_of (newest h + 1) (h ++ e ∷ []) ≡ mark.Working =
       mark_more (newest h + 1) h e ∙ stays (newest h + 1) (mark_of (newest h + 1) h)
-          ∙ (new_number problem settings h (newest h + 1) legal (omega arith)).working in
+      ∙ (new_number problem settings h (newest h + 1) legal (omega arith)).working in
       record {
         told = same_told h e same before;
         says = subst (λ (n : ℕ). Says problem settings (edition_of (h ++ e ∷ []))
@@ -123,8 +123,8 @@ module _ (problem : Problem) (settings : Settings) where
     where
       least : (last : Option (List Event × ℕ)) → last_plan h ≡ last
           → MatchOption last (legal.best ≡ None)
-            (λ p. (IsValid problem (edition_of h) p.0 × (legal.best ≡ Some p.1))
-            ⊎ ((IsValid problem (edition_of h) p.0 → ⊥) × (legal.best ≡ None)))
+          (λ p. (IsValid problem (edition_of h) p.0 × (legal.best ≡ Some p.1))
+          ⊎ ((IsValid problem (edition_of h) p.0 → ⊥) × (legal.best ≡ None)))
           → IsLeast problem (edition_of h) cost
       least None is none = absurd (unlike (sym none ∙ legal.verdict_is))
         where

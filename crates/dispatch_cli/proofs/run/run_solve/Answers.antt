@@ -41,7 +41,7 @@ pub returns-in-Ok-clause-reads : goal.returns-in-Ok-clause-reads
 returns-in-Ok-clause-reads g c =
     let fixings = option_map (λ name. name.now) c.args.fixings in
     let first = reads_of_one c.args.problem.now _ _ _ _ _ _ _
-        (rw c.as_str.ensures at c.in-Ok.ensures.reads) in
+    (rw c.as_str.ensures at c.in-Ok.ensures.reads) in
     reads_then (IsName c.args.problem.now) (IsGiven fixings) _ _ _ _ _ _ _ _ _ _ _ (λ e. e) first
     c.solve_with.ensures.reads
 

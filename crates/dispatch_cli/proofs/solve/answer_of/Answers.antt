@@ -15,7 +15,7 @@ returns-clause-ok c problem budget asked same searched =
     let best = option_map (λ p. (p.0.now, p.1)) c.best_plan-best.result in
     let best_is : best ≡ best_plan standing (last_plan c.args.core.history) =
     c.best_plan-best.ensures ∙ ap (λ (h : List Entry). best_plan standing (last_plan h))
-        (c.as_slice.ensures.value ∙ c.into_history-journal.ensures) in
+    (c.as_slice.ensures.value ∙ c.into_history-journal.ensures) in
     solved_is problem budget asked name c.args.core.history standing _ searched
     (subst (λ (p : Problem). IsStanding p c.args.core.history standing) same
     c.standing-standing.ensures)

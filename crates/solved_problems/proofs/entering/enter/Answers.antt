@@ -1,7 +1,5 @@
-use Rattle.std.proofs.Common.{◌≡◌, ◌∙◌, ◌∷◌, ◌+◌, List, Option, Some, drop, subst, refl}
-use Rattle.std.specs.Prelude.{slice_get}
+use Rattle.std.proofs.Common.{◌∙◌, ◌+◌, drop, subst}
 use Rattle.std.proofs.lemmas.Option.{slice_get-get_or}
-use Rattle.disp_model.specs.declared.fixing.Change.{Change}
 use Rattle.solved_problems.specs.Solved.{MayBeAsked}
 use Rattle.solved_problems.proofs.Lines.{first_taken, rest_taken, lines_behind, next_left}
 use Rattle.solved_problems.proofs.entering.enter.Goals as goal
