@@ -3,11 +3,11 @@ ghost use Rattle.std.specs.Prelude.{◌≡◌, ◌≢◌, ◌<◌, ◌↔◌, �
 ghost use Rattle.std.specs.Io.KnownBytes.{append_known};
 ghost use Rattle.disp_outside.specs.Lines.{feed_lines};
 
-use crate::{BrokenWrite, MemShelf, MemSink, SteadyShelf, SteadySink};
 use disp_outside::{
     Feed, FeedLine, FeedNo, FetchNo, FileShelf, Gate, LineBuf, OpenGate, Point, Shelf, Sink,
     StandardOutput, WriteNo,
 };
+use outside_in_memory::{BrokenWrite, MemShelf, MemSink, SteadyShelf, SteadySink};
 use std::alloc::Global;
 use std::test::Fail;
 use std::thread;

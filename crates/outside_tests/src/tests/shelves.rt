@@ -1,6 +1,6 @@
 // Files in memory.
-use crate::MemShelf;
 use disp_outside::{PutNo, Shelf};
+use outside_in_memory::MemShelf;
 use std::test::Fail;
 
 // The name's file is there, with these bytes.

@@ -1,6 +1,6 @@
 // Feeds in memory.
-use crate::{MemFeed, MemShelf, SteadyFeed, SteadyShelf};
 use disp_outside::{Feed, FeedLine, FeedNo, LineBuf, Shelf};
+use outside_in_memory::{MemFeed, MemShelf, SteadyFeed, SteadyShelf};
 use std::alloc::Global;
 use std::test::Fail;
 
