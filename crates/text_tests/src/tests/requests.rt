@@ -1,5 +1,6 @@
-use crate::{Request, read_request};
+// Lines of feeds as they are read.
 use disp_model::{Change, Fixing};
+use fixing_lines::{Request, read_request};
 use std::process::Abort;
 use std::test::Fail;
 

@@ -1,8 +1,8 @@
 // Faults of small trains, and the greatest cost. What a reader finds by these calls is tested
 // there.
-use crate::{first_loop, first_not_entered, first_not_left, greatest_sum};
 use disp_model::{Component, GREATEST_NUMBER, List, Operation, Train};
 use std::test::Fail;
+use train_graphs::{first_loop, first_not_entered, first_not_left, greatest_sum};
 
 #[test]
 fn a_train_with_two_exits_is_found(rt: HostRuntime) -> Result<(), Fail> {

@@ -1,4 +1,4 @@
-use crate::read_problem;
+use displib_reader::read_problem;
 use std::test::Fail;
 
 #[test]

@@ -1,14 +1,15 @@
-use crate::{push_refusal, write_entry};
+// Lines of the journal as they are written.
 use disp_model::{
     Change, Entry, Event, Fixing, List, Mark, Refusal, Reply, Standing, Unasked, Verdict,
 };
+use fixing_lines::{push_refusal, write_entry};
 use std::alloc::Global;
 use std::process::Abort;
 use std::test::Fail;
 
 /// Asserts the text of an entry.
-fn expect(rt: &impl Abort, alloc: Global, entry: &Entry, wanted: &str) -> Result<(), Fail> {
-    let bytes = write_entry(alloc, entry)?;
+fn expect(rt: &impl Abort, alloc: Global, entry: Entry, wanted: &str) -> Result<(), Fail> {
+    let bytes = write_entry(alloc, &entry)?;
     assert_eq!(rt; bytes.as_slice(), wanted.as_bytes());
     Ok(())
 }
@@ -78,19 +79,19 @@ fn a_journal_is_written_line_by_line(rt: HostRuntime) -> Result<(), Fail> {
     expect(
         &rt,
         alloc,
-        &asked(Reply::Accepted(1)),
+        asked(Reply::Accepted(1)),
         "feed 0 line 1 started 0 0 0 accepted 1\n",
     )?;
     expect(
         &rt,
         alloc,
-        &shown(None, Mark::Working),
+        shown(None, Mark::Working),
         "feed 0 line 2 show edition 1 working best none\n",
     )?;
     expect(
         &rt,
         alloc,
-        &unread(Unasked::Unreadable),
+        unread(Unasked::Unreadable),
         "feed 0 line 3 unreadable\n",
     )?;
     let mut plan = List::new(alloc);
@@ -106,7 +107,7 @@ fn a_journal_is_written_line_by_line(rt: HostRuntime) -> Result<(), Fail> {
     expect(
         &rt,
         alloc,
-        &published,
+        published,
         "plan 1 24 {\"events\":[{\"operation\":0,\"time\":0,\"train\":0},{\"operation\":1,\"time\":10,\"train\":0},{\"operation\":0,\"time\":10,\"train\":1},{\"operation\":1,\"time\":14,\"train\":1}],\"objective_value\":24}\n",
     )?;
     let settled = Entry::Settled {
@@ -114,8 +115,7 @@ fn a_journal_is_written_line_by_line(rt: HostRuntime) -> Result<(), Fail> {
         verdict: Verdict::Optimal(24),
         tree: List::new(alloc),
     };
-    expect(&rt, alloc, &settled, "settled 1 optimal 24\n")?;
-    Ok(())
+    expect(&rt, alloc, settled, "settled 1 optimal 24\n")
 }
 
 #[test]
@@ -124,38 +124,38 @@ fn the_other_words_of_the_journal(rt: HostRuntime) -> Result<(), Fail> {
     expect(
         &rt,
         alloc,
-        &asked(Reply::Known(7)),
+        asked(Reply::Known(7)),
         "feed 0 line 1 started 0 0 0 known 7\n",
     )?;
     expect(
         &rt,
         alloc,
-        &asked(Reply::Refused(Refusal::BelowLower(5))),
+        asked(Reply::Refused(Refusal::BelowLower(5))),
         "feed 0 line 1 started 0 0 0 refused BelowLower 5\n",
     )?;
     expect(
         &rt,
         alloc,
-        &asked(Reply::Refused(Refusal::NoRoute)),
+        asked(Reply::Refused(Refusal::NoRoute)),
         "feed 0 line 1 started 0 0 0 refused NoRoute\n",
     )?;
     expect(
         &rt,
         alloc,
-        &asked(Reply::Refused(Refusal::Full(65535))),
+        asked(Reply::Refused(Refusal::Full(65535))),
         "feed 0 line 1 started 0 0 0 refused Full 65535\n",
     )?;
-    expect(&rt, alloc, &unread(Unasked::Long), "feed 0 line 3 long\n")?;
+    expect(&rt, alloc, unread(Unasked::Long), "feed 0 line 3 long\n")?;
     expect(
         &rt,
         alloc,
-        &unread(Unasked::TooMany),
+        unread(Unasked::TooMany),
         "feed 0 line 3 toomany\n",
     )?;
     expect(
         &rt,
         alloc,
-        &shown(Some(24), Mark::Optimal(24)),
+        shown(Some(24), Mark::Optimal(24)),
         "feed 0 line 2 show edition 1 optimal best 24\n",
     )?;
     let stopped = Entry::Stopped {
@@ -163,13 +163,13 @@ fn the_other_words_of_the_journal(rt: HostRuntime) -> Result<(), Fail> {
         spent: 100,
         bound: 9,
     };
-    expect(&rt, alloc, &stopped, "stopped 2 spent 100 bound 9\n")?;
+    expect(&rt, alloc, stopped, "stopped 2 spent 100 bound 9\n")?;
     let infeasible = Entry::Settled {
         edition: 3,
         verdict: Verdict::Infeasible,
         tree: List::new(alloc),
     };
-    expect(&rt, alloc, &infeasible, "settled 3 infeasible\n")?;
+    expect(&rt, alloc, infeasible, "settled 3 infeasible\n")?;
     let grown = Entry::Grown {
         searcher: 0,
         edition: 0,
@@ -177,8 +177,7 @@ fn the_other_words_of_the_journal(rt: HostRuntime) -> Result<(), Fail> {
         node: 0,
         splits: List::new(alloc),
     };
-    expect(&rt, alloc, &grown, "")?;
-    Ok(())
+    expect(&rt, alloc, grown, "")
 }
 
 #[test]
@@ -187,34 +186,33 @@ fn changes_have_lines(rt: HostRuntime) -> Result<(), Fail> {
     expect(
         &rt,
         alloc,
-        &asked_not_before(Reply::Accepted(1)),
+        asked_not_before(Reply::Accepted(1)),
         "feed 0 line 1 notbefore 1 0 20 accepted 1\n",
     )?;
     expect(
         &rt,
         alloc,
-        &asked(Reply::Refused(Refusal::EarliestIs(20))),
+        asked(Reply::Refused(Refusal::EarliestIs(20))),
         "feed 0 line 1 started 0 0 0 refused EarliestIs 20\n",
     )?;
     expect(
         &rt,
         alloc,
-        &withdrawn(1, Reply::Accepted(2)),
+        withdrawn(1, Reply::Accepted(2)),
         "feed 0 line 1 withdraw 1 accepted 2\n",
     )?;
     expect(
         &rt,
         alloc,
-        &withdrawn(2, Reply::Refused(Refusal::NoSuchChange)),
+        withdrawn(2, Reply::Refused(Refusal::NoSuchChange)),
         "feed 0 line 1 withdraw 2 refused NoSuchChange\n",
     )?;
     expect(
         &rt,
         alloc,
-        &withdrawn(1, Reply::Refused(Refusal::Withdrawn(2))),
+        withdrawn(1, Reply::Refused(Refusal::Withdrawn(2))),
         "feed 0 line 1 withdraw 1 refused Withdrawn 2\n",
-    )?;
-    Ok(())
+    )
 }
 
 #[test]

@@ -1,5 +1,5 @@
-use crate::write_solution;
 use disp_model::Event;
+use solution_text::write_solution;
 use std::test::Fail;
 
 #[test]

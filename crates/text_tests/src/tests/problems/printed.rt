@@ -1,4 +1,4 @@
-use crate::{ComponentKey, Kind, ListingKey, OperationKey, Place, ProblemNo};
+use displib_reader::{ComponentKey, Kind, ListingKey, OperationKey, Place, ProblemNo};
 use std::alloc::{AllocError, Global};
 use std::error::Error;
 use std::process::Abort;
@@ -48,8 +48,7 @@ fn refusals_are_printed_with_numbers_and_places(rt: HostRuntime) -> Result<(), F
         ProblemNo::UnknownObjective(3),
         "UnknownObjective 3",
     )?;
-    expect_text(&rt, alloc, ProblemNo::Memory, "Memory")?;
-    Ok(())
+    expect_text(&rt, alloc, ProblemNo::Memory, "Memory")
 }
 
 /// The message of an error, by the bound that programs have.

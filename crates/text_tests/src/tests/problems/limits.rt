@@ -29,8 +29,7 @@ fn costs_are_limited_at_the_horizon(rt: HostRuntime) -> Result<(), Fail> {
     let two = repeated(alloc, head, piece, 2, "]}")?;
     expect(&rt, alloc, two.as_str(), "accepted")?;
     let three = repeated(alloc, head, piece, 3, "]}")?;
-    expect(&rt, alloc, three.as_str(), "TooCostly 13835058042397261827")?;
-    Ok(())
+    expect(&rt, alloc, three.as_str(), "TooCostly 13835058042397261827")
 }
 
 #[test]
@@ -51,8 +50,7 @@ fn there_are_at_most_65535_trains(rt: HostRuntime) -> Result<(), Fail> {
         65536,
         r#"],"objective":[]}"#,
     )?;
-    expect(&rt, alloc, more.as_str(), "TooMany trains 65536")?;
-    Ok(())
+    expect(&rt, alloc, more.as_str(), "TooMany trains 65536")
 }
 
 #[test]
@@ -66,8 +64,7 @@ fn there_are_at_most_1048575_operations(rt: HostRuntime) -> Result<(), Fail> {
         1048575,
         r#"]],"objective":[]}"#,
     )?;
-    expect(&rt, alloc, text.as_str(), "TooMany operations 1048576")?;
-    Ok(())
+    expect(&rt, alloc, text.as_str(), "TooMany operations 1048576")
 }
 
 #[test]
@@ -78,8 +75,7 @@ fn a_train_of_a_million_operations_is_read(rt: HostRuntime) -> Result<(), Fail> 
         write!(text, "{{\"successors\":[{next}]}},")?;
     }
     text.push_str(r#"{}]],"objective":[]}"#)?;
-    expect(&rt, alloc, text.as_str(), "accepted")?;
-    Ok(())
+    expect(&rt, alloc, text.as_str(), "accepted")
 }
 
 #[test]
@@ -92,6 +88,5 @@ fn there_are_at_most_1048575_components(rt: HostRuntime) -> Result<(), Fail> {
         1048576,
         "]}",
     )?;
-    expect(&rt, alloc, text.as_str(), "TooMany components 1048576")?;
-    Ok(())
+    expect(&rt, alloc, text.as_str(), "TooMany components 1048576")
 }
