@@ -1,4 +1,3 @@
-mod Blocks
 mod Ending
 mod Looking
 mod Picking

@@ -14,6 +14,3 @@ mod sweep;
 
 pub use child::children;
 pub use pick::{Pick, pick_fixed};
-
-#[cfg(test)]
-mod tests;

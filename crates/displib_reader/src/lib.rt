@@ -23,6 +23,3 @@ pub use fault::{Kind, ProblemNo};
 pub use laws::{answers_exclude_each_other, each_text_has_an_answer};
 pub use place::{ComponentKey, ListingKey, OperationKey, Place};
 pub use problem::read_problem;
-
-#[cfg(test)]
-mod tests;

@@ -22,6 +22,3 @@ pub use list::{NodeArcs, arcs, listed};
 pub use orders::add_order;
 pub use owns::{Own, owns_of, train_of_decision};
 pub use placed::{Placed, Placing, placing_of};
-
-#[cfg(test)]
-mod tests;

@@ -1,5 +1,4 @@
 pub mod Accepting
 mod Keeping
 mod Owning
-mod SmallProblems
 mod Standing

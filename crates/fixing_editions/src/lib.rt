@@ -12,6 +12,3 @@ mod train_fixings;
 mod withdrawal;
 
 pub use editions::Editions;
-
-#[cfg(test)]
-mod tests;

@@ -11,6 +11,3 @@ mod request;
 pub use entry::write_entry;
 pub use pieces::push_refusal;
 pub use request::{Request, read_request};
-
-#[cfg(test)]
-mod tests;

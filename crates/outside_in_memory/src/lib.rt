@@ -22,6 +22,3 @@ pub use mem_sink::MemSink;
 pub use steady_feed::SteadyFeed;
 pub use steady_shelf::SteadyShelf;
 pub use steady_sink::SteadySink;
-
-#[cfg(test)]
-mod tests;

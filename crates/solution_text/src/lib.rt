@@ -19,6 +19,3 @@ pub use laws::{answers_exclude_each_other, each_text_has_an_answer, written_is_r
 pub use place::{EventKey, SolutionPlace};
 pub use read::read_solution;
 pub use write::write_solution;
-
-#[cfg(test)]
-mod tests;

@@ -9,4 +9,3 @@ pub mod Agreed
 pub mod SoundIsValid
 pub mod ValidIsSound
 pub mod Firsts
-pub mod Chained

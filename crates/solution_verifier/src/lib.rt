@@ -16,6 +16,3 @@ mod verdict;
 
 pub use fault::Fault;
 pub use verdict::verify;
-
-#[cfg(test)]
-mod tests;

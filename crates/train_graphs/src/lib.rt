@@ -15,6 +15,3 @@ mod ranks;
 
 pub use costs::greatest_sum;
 pub use faults::{first_loop, first_not_entered, first_not_left};
-
-#[cfg(test)]
-mod tests;

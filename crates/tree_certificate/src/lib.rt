@@ -19,6 +19,3 @@ pub use fault::TreeNo;
 pub use laws::{a_text_says_one_thing, written_is_read};
 pub use read::read_tree;
 pub use write::write_tree;
-
-#[cfg(test)]
-mod tests;

@@ -1,3 +1,0 @@
-// Lines of feeds as they are read, and lines of the journal as they are written.
-mod requests;
-mod written;

@@ -1,0 +1,3 @@
+mod arcs;
+mod choices;
+mod graphs;

@@ -1,0 +1,43 @@
+// Graphs of nodes, and the decisions that tests add to them.
+ghost use Rattle.std.specs.Prelude.{◌≡◌, IfOk};
+
+use disp_model::{Decision, Op, Problem};
+use event_graph::Graph;
+use std::alloc::Global;
+use std::process::Abort;
+use std::test::Fail;
+
+/// The graph where nothing is fixed or decided.
+pub(super) fn root<'p>(alloc: Global, problem: &'p Problem) -> Result<Graph<'p>, Fail>
+    ensures { IfOk result (λ graph. graph.problem ≡ problem.now) }
+{
+    match Graph::new(alloc, problem, &[]) {
+        Ok(graph) => Ok(graph),
+        Err(_) => Err(Fail::from("no graph")),
+    }
+}
+
+/// Adds a decision that is not refused.
+pub(super) fn extend(rt: &impl Abort, graph: &mut Graph, decision: Decision)
+    ensures { graph.new.problem ≡ graph.old.problem }
+{
+    let added = graph.extend(decision);
+    assert!(rt; added.is_ok());
+}
+
+pub(super) fn op(train: u32, op: u32) -> Op {
+    Op { train, op }
+}
+
+/// The one train before the other.
+pub(super) fn order(first: u32, second: u32) -> Decision {
+    Decision::First {
+        a: op(first, 0),
+        b: op(second, 0),
+    }
+}
+
+/// The train 0 goes on from its operation 0 so.
+pub(super) fn go(next: u32) -> Decision {
+    Decision::Go { op: op(0, 0), next }
+}

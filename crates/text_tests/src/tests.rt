@@ -1,0 +1,6 @@
+mod entries;
+mod problems;
+mod requests;
+mod solutions;
+mod train_faults;
+mod trees;
