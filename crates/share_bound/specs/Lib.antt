@@ -1,0 +1,6 @@
+pub mod Times
+pub mod Prices
+pub mod Leasts
+pub mod Bases
+pub mod Components
+pub mod Shown
