@@ -22,7 +22,7 @@ use Rattle.disp_laws.proofs.Paths.{IsIn, never_again, contains_in}
 use Rattle.disp_laws.proofs.RouteSearch.{each_within}
 use Rattle.disp_laws.proofs.Shares.{sum_le, sum_plus, along_or_not, train_there}
 use Rattle.disp_laws.proofs.HorizonBounds.{AreSmall, within_horizon, lower_within, get_within}
-use Rattle.share_bound.specs.Prices.{most_own}
+use Rattle.share_bound.specs.Prices.{most_own, most_below, most_together}
 
 -- ---- sums over numbers
 
@@ -144,19 +144,13 @@ share_within node t base share over each = omega (arith, over.there.2, sum_le (c
 
 -- ---- over the first trains
 
-below : ℕ → ℕ → Component → ℕ
-below last zero c = 0
-below last (suc n) c = below last n c + most_own last n c
-
-below_none : (last n : ℕ) (c : Component) → n ≤ c.train → below last n c ≡ 0
-unfolding below
+below_none : (last n : ℕ) (c : Component) → n ≤ c.train → most_below last n c ≡ 0
 below_none last zero c le = refl
 below_none last (suc n) c le =
     let none : most_own last n c ≡ 0 = rw (ne_eqb c.train n (λ same. omega (arith, same, le))) refl in
     omega (arith, below_none last n c (omega (arith, le)), none)
 
-below_once : (last n : ℕ) (c : Component) → below last n c ≤ 2 * most_of last c
-unfolding below
+below_once : (last n : ℕ) (c : Component) → most_below last n c ≤ 2 * most_of last c
 below_once last zero c = omega arith
 below_once last (suc n) c = elim (cases_Bool (nat_eq c.train n)) [
   | inl is ↦
@@ -167,30 +161,23 @@ below_once last (suc n) c = elim (cases_Bool (nat_eq c.train n)) [
       omega (arith, none, below_once last n c)
 ]
 
--- what the first trains cost together, with the most of one more
-pub sum_below : ℕ → List Component → ℕ → ℕ
-sum_below last components n = sum_by (below last n) components
-
-pub below_zero : (last : ℕ) (components : List Component) → sum_below last components 0 ≡ 0
-unfolding sum_below below
+pub below_zero : (last : ℕ) (components : List Component) → most_together last components 0 ≡ 0
 below_zero last components = none components
   where
-    none : (components : List Component) → sum_by (below last 0) components ≡ 0
+    none : (components : List Component) → sum_by (most_below last 0) components ≡ 0
     none [] = refl
-    none (c ∷ rest) = omega (arith, sum_by-cons (below last 0) c rest, none rest)
+    none (c ∷ rest) = omega (arith, sum_by-cons (most_below last 0) c rest, none rest)
 
-pub below_more : (last : ℕ) (components : List Component) (n : ℕ) → sum_below last components (n + 1) ≡ sum_below last components n + sum_by (most_own last n) components
-unfolding sum_below below
+pub below_more : (last : ℕ) (components : List Component) (n : ℕ) → most_together last components (n + 1) ≡ most_together last components n + sum_by (most_own last n) components
 below_more last components n =
     let next : suc n ≡ n + 1 = omega arith in
-    subst (λ (m : ℕ). sum_by (below last m) components ≡ sum_by (below last n) components + sum_by (most_own last n) components) next (sym (sum_plus (below last n) (most_own last n) components))
+    subst (λ (m : ℕ). sum_by (most_below last m) components ≡ sum_by (most_below last n) components + sum_by (most_own last n) components) next (sym (sum_plus (most_below last n) (most_own last n) components))
 
 twice : (last : ℕ) (components : List Component) → sum_by (λ c. 2 * most_of last c) components ≡ 2 * sum_by (most_of last) components
 twice last [] = refl
 twice last (c ∷ rest) = rw (sum_by-cons (λ c. 2 * most_of last c) c rest, sum_by-cons (most_of last) c rest) (omega (arith, twice last rest))
 
-pub below_fits : (problem : Problem) (n : ℕ) → sum_below (horizon problem.trains) problem.components n < 2 ^ 64
-unfolding sum_below
+pub below_fits : (problem : Problem) (n : ℕ) → most_together (horizon problem.trains) problem.components n < 2 ^ 64
 below_fits problem n =
     let last = horizon problem.trains in
-    omega (arith, sum_le (below last n) (λ c. 2 * most_of last c) problem.components (λ c. below_once last n c), twice last problem.components, problem.well_formed.costs_fit)
+    omega (arith, sum_le (most_below last n) (λ c. 2 * most_of last c) problem.components (λ c. below_once last n c), twice last problem.components, problem.well_formed.costs_fit)

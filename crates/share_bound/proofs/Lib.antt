@@ -10,3 +10,4 @@ pub mod Owning
 pub mod Basing
 pub mod Examples
 pub mod Showing
+pub mod Freeing

@@ -15,11 +15,11 @@ use Rattle.disp_laws.proofs.LongestWalks.{forced_within}
 use Rattle.train_orders.proofs.Places.{get_kept, get_last}
 use Rattle.route_sets.specs.Sets.{AreAllowedRows}
 use Rattle.share_bound.specs.Times.{base_in}
-use Rattle.share_bound.specs.Prices.{most_own}
+use Rattle.share_bound.specs.Prices.{most_own, most_together}
 use Rattle.share_bound.specs.Leasts.{IsFittedShare}
-use Rattle.share_bound.specs.Bases.{AreBasesTo, IsShareWithin}
+use Rattle.share_bound.specs.Bases.{AreBasesTo, IsShareWithin, AddUpTo}
 use Rattle.share_bound.proofs.Costing.{share_carried}
-use Rattle.share_bound.proofs.Fitting.{share_within, sum_below, below_more, below_fits}
+use Rattle.share_bound.proofs.Fitting.{share_within, below_more, below_fits}
 
 -- bases of operations that are not there are their lowers
 whole_base : Node → ℕ → List ℕ → ℕ → ℕ
@@ -66,10 +66,6 @@ share_of_bases node t count bases read found are long same fitted_is = record {
     found_is = omega (arith, over.found_is, most, below_more (horizon node.problem.trains) node.problem.components t, below_fits node.problem (t + 1))
 
 -- ---- shares of the first trains
-
-pub record AddUpTo (node : Node) (n total : ℕ) : Type 0 where
-  pub adds : SharesAddUp node n total
-  pub within : total ≤ sum_below (horizon node.problem.trains) node.problem.components n
 
 pub one_more : (node : Node) (n total share : ℕ) → AddUpTo node n total → IsShareWithin node n share → AddUpTo node (n + 1) (total + share)
 one_more node n total share before is =

@@ -4,3 +4,4 @@ pub mod Leasts
 pub mod Bases
 pub mod Components
 pub mod Shown
+pub mod Free

@@ -1,5 +1,5 @@
 -- What the components of a train's operations cost at their reaches.
-use Rattle.std.specs.Prelude.{◌≡◌, ℕ, ◌+◌, ◌-◌, ◌*◌, ◌^◌, ◌<◌, ◌==◌, ◌&&◌, min, List, [], ◌∷◌, length, slice_index, sum_by, if◌then◌else◌}
+use Rattle.std.specs.Prelude.{◌≡◌, ℕ, zero, suc, ◌+◌, ◌-◌, ◌*◌, ◌^◌, ◌<◌, ◌==◌, ◌&&◌, min, List, [], ◌∷◌, length, slice_index, sum_by, if◌then◌else◌}
 use Rattle.disp_model.specs.declared.train.Operation.{Operation}
 use Rattle.disp_model.specs.declared.train.Component.{Component}
 use Rattle.disp_model.specs.declared.problem.Problem.{Problem}
@@ -35,3 +35,12 @@ HasOwn problem t components = (reach : ℕ → ℕ) (route : List ℕ) → sum_b
 -- twice what a component of a train costs at most, and nothing for one of another
 abbrev pub most_own : ℕ → ℕ → Component → ℕ
 most_own last t c = if c.train == t then 2 * most_of last c else 0
+
+-- the same for a component of the first trains, and nothing for one of another
+abbrev pub most_below : ℕ → ℕ → Component → ℕ
+most_below last zero c = 0
+most_below last (suc n) c = most_below last n c + most_own last n c
+
+-- twice what the components of the first trains cost at most
+abbrev pub most_together : ℕ → List Component → ℕ → ℕ
+most_together last components n = sum_by (most_below last n) components

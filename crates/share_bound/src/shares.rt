@@ -21,7 +21,7 @@ pub(crate) fn train_of(problem: &Problem, train: u32) -> &[Operation]
 }
 
 /// The share of a train.
-fn share_of(
+pub(crate) fn share_of(
     alloc: Global,
     problem: &Problem,
     components: &OwnComponents,

@@ -33,7 +33,7 @@ fn add_walk(alloc: Global, graph: &Graph, op: Op, walks: &mut List<List<Op>>) ->
 }
 
 /// Walks to the operations that a train must run, of so many operations that it has.
-fn walks_of(
+pub(crate) fn walks_of(
     alloc: Global,
     graph: &Graph,
     train: u32,

@@ -1,5 +1,5 @@
 -- what the trains so far add up to
-use Rattle.share_bound.proofs.Sharing.{AddUpTo}
+use Rattle.share_bound.specs.Bases.{AddUpTo}
 use Rattle.share_bound.proofs.shares.free_cost.Given as goal
 
 abbrev pub invariant-loop-train : goal.invariant-loop-train
