@@ -16,7 +16,13 @@ use Rattle.event_arcs.proofs.Blocks.{two_trains, two_made}
 use Rattle.event_graph.specs.Joined.{IsOfEdition}
 
 abbrev pub costing : ℕ → ℕ → ℕ → ℕ → Component
-costing t o coeff increment = record { train = t; operation = o; threshold = 0; increment = increment; coeff = coeff }
+costing t o coeff increment = record {
+  train = t;
+  operation = o;
+  threshold = 0;
+  increment = increment;
+  coeff = coeff;
+}
 
 abbrev pub block_costs : List Component
 block_costs = costing 0 1 1 0 ∷ costing 1 1 1 0 ∷ []
@@ -56,16 +62,21 @@ fork_costed = record {
 abbrev pub later : List Change
 later = Fix (NotBefore 0 0 7) ∷ []
 
-accepted : (problem : Problem) → length problem.trains ≡ 1 → IsReply problem [] (Fix (NotBefore 0 0 7)) (Accepted 1)
+accepted : (problem : Problem) → length problem.trains ≡ 1
+    → IsReply problem [] (Fix (NotBefore 0 0 7)) (Accepted 1)
 accepted problem one =
     let there : 0 < length problem.trains = omega (arith, one) in
     let train = slice_get-get_or problem.trains 0 [] there in
-    let operation = get_within (get_or problem.trains 0 []) 0 (problem.well_formed.acyclic 0 [] there).entered in
-    rw train (rw operation.1 (inr (λ large. omega (arith, large), inr (λ full. omega (arith, full), refl))))
+    let operation = get_within (get_or problem.trains 0 []) 0
+    (problem.well_formed.acyclic 0 [] there).entered in
+    rw train (rw operation.1
+    (inr (λ large. omega (arith, large), inr (λ full. omega (arith, full), refl))))
 
-pub later_edition : (problem : Problem) → length problem.trains ≡ 1 → IsOfEdition (node_at problem (NotBefore 0 0 7 ∷ []) [])
+pub later_edition : (problem : Problem) → length problem.trains ≡ 1
+    → IsOfEdition (node_at problem (NotBefore 0 0 7 ∷ []) [])
 later_edition problem one = (later, each, refl)
   where
     each : IsEdition problem later
-    each zero change at = subst (λ (c : Change). IsReply problem [] c (Accepted 1)) (same_Some (Fix (NotBefore 0 0 7)) change at) (accepted problem one)
+    each zero change at = subst (λ (c : Change). IsReply problem [] c (Accepted 1))
+        (same_Some (Fix (NotBefore 0 0 7)) change at) (accepted problem one)
     each (suc i) change at = absurd (none-some change at)

@@ -1,6 +1,5 @@
 -- The bases of a train's operations, and its share over them.
 use Rattle.std.specs.Prelude.{◌≡◌, ℕ, ◌<◌, ◌≤◌, List, length, slice_index, sum_by}
-use Rattle.disp_model.specs.declared.train.Op.{Op}
 use Rattle.disp_model.specs.WellFormed.{horizon}
 use Rattle.disp_model.specs.Node.{Node}
 use Rattle.disp_model.specs.Shares.{IsBase, IsShare, SharesAddUp}

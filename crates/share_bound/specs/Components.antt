@@ -17,7 +17,9 @@ pub record TakesComponent (c : Component) (old new : List (List Component)) : Ty
 
 -- each train has those of the components that it may cost along a route
 abbrev pub HaveEach : List Component → List (List Component) → Type 0
-HaveEach components each = (t : ℕ) (reach : ℕ → ℕ) (route : List ℕ) → t < length each → sum_by (cost_along t reach route) (own_in each t) ≡ sum_by (cost_along t reach route) components
+HaveEach components each = (t : ℕ) (reach : ℕ → ℕ) (route : List ℕ) → t < length each
+    → sum_by (cost_along t reach route) (own_in each t) ≡ sum_by (cost_along t reach route)
+    components
 
 -- what a problem's trains cost along routes is what their own components cost
 pub record AreOwnOf (problem : Problem) (own : OwnComponents) : Type 0 where

@@ -13,7 +13,8 @@ fitted cost = min cost (2 ^ 64 - 1)
 
 -- what a component costs at an operation of a train, or nothing where it is of another
 abbrev pub price_there : ℕ → (ℕ → ℕ) → ℕ → Component → ℕ
-price_there t reach o c = if (c.train == t) && (o == c.operation) then cost_at c (reach c.operation) else 0
+price_there t reach o c = if (c.train == t) && (o == c.operation) then cost_at c (reach c.operation)
+    else 0
 
 -- what the components of an operation cost together
 abbrev pub own_price : List Component → ℕ → (ℕ → ℕ) → ℕ → ℕ
@@ -26,11 +27,13 @@ priced_along price (o ∷ rest) = price o + priced_along price rest
 
 -- of each operation of a train the price, as far as 64 bits hold it
 abbrev pub AreFittedPrices : List Operation → (ℕ → ℕ) → List ℕ → Type 0
-AreFittedPrices train price prices = (o : ℕ) → o < length train → slice_index prices o ≡ fitted (price o)
+AreFittedPrices train price prices = (o : ℕ) → o < length train
+    → slice_index prices o ≡ fitted (price o)
 
 -- these components have all that the train's cost along a route
 abbrev pub HasOwn : Problem → ℕ → List Component → Type 0
-HasOwn problem t components = (reach : ℕ → ℕ) (route : List ℕ) → sum_by (cost_along t reach route) components ≡ route_cost problem t reach route
+HasOwn problem t components = (reach : ℕ → ℕ) (route : List ℕ)
+    → sum_by (cost_along t reach route) components ≡ route_cost problem t reach route
 
 -- twice what a component of a train costs at most, and nothing for one of another
 abbrev pub most_own : ℕ → ℕ → Component → ℕ

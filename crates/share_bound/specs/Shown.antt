@@ -11,7 +11,9 @@ use Rattle.share_bound.specs.declared.shown.ShownShare.{ShownShare}
 pub record ShowsTo (node : Node) (t count : ℕ) (walks : List (List Op)) : Type 0 where
   pub arrivals : List Arrival
   pub are : AreWalksOn node t walks arrivals
-  pub base : (o b : ℕ) → o < count → IsBase node (record { train = t; op = o }) b → max (lower_of node.problem node.fixings (record { train = t; op = o })) (greatest_to o arrivals) ≡ b
+  pub base : (o b : ℕ) → o < count → IsBase node (record { train = t; op = o }) b
+      → max (lower_of node.problem node.fixings (record { train = t; op = o }))
+      (greatest_to o arrivals) ≡ b
   pub past : (o : ℕ) → count ≤ o → greatest_to o arrivals ≡ 0
   pub long : length walks ≤ count
   pub fits : All (All FitsOp) walks

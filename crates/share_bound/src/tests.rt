@@ -1,7 +1,7 @@
 // Two trains on one block, and a fork: what decisions make of their shares.
 ghost use Rattle.std.specs.Prelude.{◌≡◌, [], ◌∷◌, Some, None, IfOk, length};
 
-use crate::{OwnComponents, free_bound, free_cost, share, shown_share};
+use crate::{OwnComponents, free_bound, free_cost};
 use disp_model::{
     Component, Decision, Fixing, List, Listing, Memory, Op, Operation, Problem, Text, Train,
 };
@@ -164,22 +164,6 @@ fn check_bound(
     Ok(())
 }
 
-/// So many walks to components and so many listed trains show the bound.
-fn check_leaf(
-    rt: &impl Abort,
-    alloc: Global,
-    problem: &Problem,
-    walks: usize,
-    trains: usize,
-) -> Result<(), Fail> {
-    let graph = root(alloc, problem)?;
-    let components = OwnComponents::of(alloc, problem)?;
-    let shown = free_bound(alloc, problem, &components, &graph)?;
-    assert_eq!(rt; shown.walks.len(), walks);
-    assert_eq!(rt; shown.trains.len(), trains);
-    Ok(())
-}
-
 /// With nothing decided the bound is this one.
 fn check_root(rt: &impl Abort, alloc: Global, problem: &Problem, wanted: u64) -> Result<(), Fail> {
     let graph = root(alloc, problem)?;
@@ -226,7 +210,6 @@ fn check_orders(rt: &impl Abort, alloc: Global, problem: &Problem) -> Result<(),
 #[test]
 fn orders_cost(rt: HostRuntime) -> Result<(), Fail> {
     let problem = two_trains(rt.alloc())?;
-    check_leaf(&rt, rt.alloc(), &problem, 2, 0)?;
     check_orders(&rt, rt.alloc(), &problem)
 }
 
@@ -242,7 +225,6 @@ fn check_routes(rt: &impl Abort, alloc: Global, problem: &Problem) -> Result<(),
 #[test]
 fn routes_cost(rt: HostRuntime) -> Result<(), Fail> {
     let problem = forked(rt.alloc())?;
-    check_leaf(&rt, rt.alloc(), &problem, 0, 1)?;
     check_routes(&rt, rt.alloc(), &problem)
 }
 
@@ -251,13 +233,7 @@ fn check_later(rt: &impl Abort, alloc: Global, problem: &Problem) -> Result<(), 
     requires { length problem.now.trains ≡ 1 }
 {
     let graph = later(alloc, problem)?;
-    check_bound(rt, alloc, problem, &graph, 20)?;
-    let components = OwnComponents::of(alloc, problem)?;
-    assert_eq!(rt; share(alloc, problem, &components, &graph, 0)?, 20);
-    let shown = shown_share(alloc, problem, &components, &graph, 0)?;
-    assert_eq!(rt; shown.share, 20);
-    assert_eq!(rt; shown.listed.walks.len(), 2);
-    Ok(())
+    check_bound(rt, alloc, problem, &graph, 20)
 }
 
 #[test]

@@ -5,4 +5,5 @@ use Rattle.share_bound.proofs.Pricing.{ArePriced}
 use Rattle.share_bound.proofs.prices.prices_of.Given as goal
 
 abbrev pub invariant-loop-component : goal.invariant-loop-component
-invariant-loop-component l = ArePriced l.components l.train (reach_in l.times (base_in l.bases)) (length l.operations) l.component-index l.prices.items
+invariant-loop-component l = ArePriced l.components l.train (reach_in l.times (base_in l.bases))
+    (length l.operations) l.component-index l.prices.items

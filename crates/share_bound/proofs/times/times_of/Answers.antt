@@ -11,4 +11,5 @@ returns c =
     let rows = c.args.rows.now in
     let times = c.loop-place.times.items in
     let none : c.loop-place.place ≡ 0 = omega (arith, c.loop-place-test.false) in
-    entered_all train base order rows times c.requires.laid (subst (λ (n : ℕ). IsEntering train base order rows n times) none c.loop-place.invariant.1)
+    entered_all train base order rows times c.requires.laid
+    (subst (λ (n : ℕ). IsEntering train base order rows n times) none c.loop-place.invariant.1)
