@@ -24,7 +24,7 @@ use Rattle.route_sets.specs.Asks.{AreAsks}
 use Rattle.route_sets.specs.Sweeps.{HasWay, IsSwept}
 use Rattle.route_sets.specs.Ways.{last_of}
 use Rattle.route_sets.specs.Marks.{IsLaid, mark_at, HasMarks}
-use Rattle.route_sets.specs.Sets.{op_of, IsMarkOf, AreRoutesOf}
+use Rattle.route_sets.specs.Sets.{op_of, IsMarkOf, AreAllowedRows, AreRoutesOf}
 use Rattle.route_sets.proofs.Walking.{IsTrimmedFor, route_is_way}
 use Rattle.route_sets.proofs.Knowing.{AreWalks, are_walks, marks_are, ordered_are, route_there, marked_forced}
 use Rattle.route_sets.proofs.Following.{begins_are, ends_are, short_are}
@@ -99,6 +99,7 @@ none_are problem fixings decisions t asks order swept routes is not_held not_lef
   begins = λ route allowed. absurd (none (route, allowed));
   ends = λ o mark at. unmarked o mark at;
   short = λ o mark at. unmarked o mark at;
+  allowed = λ left. absurd (false≢true (sym not_left ∙ left));
 }
   where
     node : Node
@@ -126,8 +127,9 @@ pub is_laid : (problem : Problem) (fixings : List Fixing) (decisions : List Deci
 is_laid problem fixings decisions t asks order swept is held = (walks problem fixings decisions t asks order swept is held).is_laid
 
 pub some_are : (problem : Problem) (fixings : List Fixing) (decisions : List Decision) (t : ℕ) (asks : List Ask) (order : List ℕ) (swept : Swept) (routes : Routes) → IsFound problem fixings decisions t asks order swept → swept.holds ≡ true
-    → routes.left ≡ true → routes.entry ≡ last_of order → HasMarks (train_at problem t) order swept.rows routes.marks.items → AreRoutesOf (node_at problem fixings decisions) t routes
-some_are problem fixings decisions t asks order swept routes is held left entry marks =
+    → routes.left ≡ true → routes.entry ≡ last_of order → HasMarks (train_at problem t) order swept.rows routes.marks.items → routes.order.items ≡ order → routes.rows ≡ swept.rows
+    → AreRoutesOf (node_at problem fixings decisions) t routes
+some_are problem fixings decisions t asks order swept routes is held left entry marks same_order same_rows =
     let are = walks problem fixings decisions t asks order swept is held in
     let node = node_at problem fixings decisions in
     record {
@@ -137,6 +139,8 @@ some_are problem fixings decisions t asks order swept routes is held left entry 
       begins = begins_are node t order swept.rows routes.entry are entry;
       ends = ends_are node t order swept.rows routes.marks.items are marks;
       short = short_are node t order swept.rows routes.marks.items are marks;
+      allowed = λ h. subst (λ (l : List ℕ). AreAllowedRows node t l routes.rows) (sym same_order)
+          (subst (λ (l : List (List ℕ)). AreAllowedRows node t order l) (sym same_rows) (record { laid = are.is_laid; walk = are.walk; route = are.route }));
     }
 
 -- ---- answers

@@ -8,7 +8,8 @@ use Rattle.disp_model.specs.Routes.{IsAllowed, HasRoute, HasOneRoute, IsForced}
 use Rattle.disp_model.specs.Arcs.{IsTrainArc, GoesTo}
 use Rattle.route_sets.specs.declared.marks.Mark.{Mark}
 use Rattle.route_sets.specs.declared.routes.Routes.{Routes}
-use Rattle.route_sets.specs.Marks.{mark_at}
+use Rattle.route_sets.specs.Ways.{IsWalk, last_of}
+use Rattle.route_sets.specs.Marks.{IsLaid, mark_at}
 
 -- an operation of a train
 abbrev pub op_of : ℕ → ℕ → Op
@@ -58,6 +59,13 @@ parting marks (suc steps) o = mark_parted o (mark_at marks o) (λ s. parting mar
 abbrev pub BeginsEach : Node → ℕ → ℕ → Type 0
 BeginsEach node t e = (route : List ℕ) → IsAllowed node t route → (rest : List ℕ) × (route ≡ e ∷ rest)
 
+-- rows of an order of a train's operations: the walks along them from the last operation of the order on are the
+-- allowed routes
+pub record AreAllowedRows (node : Node) (t : ℕ) (order : List ℕ) (rows : List (List ℕ)) : Type 0 where
+  pub laid : IsLaid (train_at node.problem t) order rows
+  pub walk : (route : List ℕ) → IsAllowed node t route → IsWalk order rows (last_of order) route
+  pub route : (route : List ℕ) → IsWalk order rows (last_of order) route → IsAllowed node t route
+
 -- what is kept of a train's routes says which are allowed at the node
 pub record AreRoutesOf (node : Node) (t : ℕ) (routes : Routes) : Type 0 where
   pub left : IsTrue routes.left ↔ HasRoute node t
@@ -66,6 +74,7 @@ pub record AreRoutesOf (node : Node) (t : ℕ) (routes : Routes) : Type 0 where
   pub begins : BeginsEach node t routes.entry
   pub ends : (o : ℕ) (mark : Mark) → mark_at routes.marks.items o ≡ Some mark → (mark.place ≡ 0) ↔ IsExit (train_at node.problem t) o
   pub short : (o : ℕ) (mark : Mark) → mark_at routes.marks.items o ≡ Some mark → mark.place < length routes.marks.items
+  pub allowed : IsTrue routes.left → AreAllowedRows node t routes.order.items routes.rows
 
 -- the one route that is allowed, or that there is no such one
 abbrev pub IsOnlyRoute : Node → ℕ → Option (List ℕ) → Type 0

@@ -22,6 +22,10 @@ pub struct Routes {
     entry: u32,
     /// The marks of the operations that each allowed route has.
     marks: Vec<Option<Mark>>,
+    /// The operations from the exit back, where some route is allowed.
+    order: Vec<u32>,
+    /// Of each of them, the operations to which allowed routes go on from it.
+    rows: List<List<u32>>,
 }
 
 /// The last operation of an order.
@@ -35,7 +39,7 @@ fn last_of(order: &[u32]) -> u32
 }
 
 impl Routes {
-    ghost use Rattle.route_sets.specs.Sets.{op_of, AreRoutesOf, follow, IsOnlyRoute, parting, IsAloneUnparted};
+    ghost use Rattle.route_sets.specs.Sets.{op_of, AreRoutesOf, AreAllowedRows, follow, IsOnlyRoute, parting, IsAloneUnparted};
 
     /// The routes of a train that the fixings and the decisions allow. Takes time linear in the
     /// operations of the train, their successors, the fixings and the decisions.
@@ -60,6 +64,8 @@ impl Routes {
                 left: false,
                 entry: 0,
                 marks,
+                order: Vec::new(alloc),
+                rows: List::new(alloc),
             });
         }
         let places = places_of(alloc, operations, &order)?;
@@ -68,6 +74,8 @@ impl Routes {
             left: true,
             entry: last_of(&order),
             marks,
+            order,
+            rows: swept.rows,
         })
     }
 
@@ -87,6 +95,24 @@ impl Routes {
             Some(mark) => *mark,
             None => None,
         }
+    }
+
+    /// The operations of the train, each behind those to which routes go on from it, so that the
+    /// exit is first and the entry last; none where no route is allowed.
+    pub fn order(&self) -> &[u32]
+        ensures { result.now ≡ self.now.order.items }
+    {
+        &self.order
+    }
+
+    /// Of each operation in that order, those to which allowed routes go on from it: the ways along
+    /// the rows from the entry are the allowed routes. An operation on no such way may have others.
+    pub fn rows(&self) -> &[List<u32>]
+        ensures kept { result.now ≡ self.now.rows }
+        ensures allowed { (node : Node) (t : ℕ) → AreRoutesOf node t self.now → HasRoute node t
+            → AreAllowedRows node t self.now.order.items self.now.rows }
+    {
+        self.rows.as_slice()
     }
 
     /// Whether some route is allowed, and each allowed route has the operation.

@@ -43,4 +43,4 @@ returns c =
     let is = found problem c.args.fixings.now c.args.decisions.now c.args.train operations c.in_ok-asks.asks.items c.deref.result.now c.in_ok-order.order.items c.deref-2.result.now c.in_ok-swept.swept e c.requires c.in_ok-asks.ensures c.in_ok-order.ensures c.deref.ensures.value c.deref-2.ensures.value c.in_ok-swept.ensures in
     let marks : HasMarks operations c.in_ok-order.order.items c.in_ok-swept.swept.rows c.in_ok-marks.marks.items = subst (λ (l : List ℕ). HasMarks operations l c.in_ok-swept.swept.rows c.in_ok-marks.marks.items) c.deref-4.ensures.value c.in_ok-marks.ensures in
     some_are problem c.args.fixings.now c.args.decisions.now c.args.train c.in_ok-asks.asks.items c.in_ok-order.order.items c.in_ok-swept.swept _ is c.if-not-swept.false refl (c.last_of.ensures ∙ ap last_of c.deref-6.ensures.value)
-    (subst (λ (l : List Operation). HasMarks l c.in_ok-order.order.items c.in_ok-swept.swept.rows c.in_ok-marks.marks.items) (sym e) marks)
+    (subst (λ (l : List Operation). HasMarks l c.in_ok-order.order.items c.in_ok-swept.swept.rows c.in_ok-marks.marks.items) (sym e) marks) refl refl

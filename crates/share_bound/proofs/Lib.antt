@@ -1,0 +1,13 @@
+pub mod Stepping
+pub mod Entering
+pub mod Pricing
+pub mod Paying
+pub mod Reaching
+pub mod Costing
+pub mod Fitting
+pub mod Sharing
+pub mod Owning
+pub mod Basing
+pub mod Examples
+pub mod Showing
+pub mod Freeing

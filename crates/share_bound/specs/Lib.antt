@@ -1,0 +1,7 @@
+pub mod Times
+pub mod Prices
+pub mod Leasts
+pub mod Bases
+pub mod Components
+pub mod Shown
+pub mod Free
