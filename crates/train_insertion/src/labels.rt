@@ -30,12 +30,12 @@ struct Step {
     before: Option<Spot>,
 }
 
-/// Whether a way is better than one that may be known: it starts earlier, or then and costs less.
+/// Whether a way is better than one that may be known: it costs less, or as much and starts earlier.
 fn is_better(label: Label, known: Option<Label>) -> bool {
     match known {
         None => true,
         Some(known) => {
-            label.time < known.time || (label.time == known.time && label.cost < known.cost)
+            label.cost < known.cost || (label.cost == known.cost && label.time < known.time)
         }
     }
 }
@@ -191,8 +191,8 @@ fn go_through(search: &mut Search<'_>) {
     }
 }
 
-/// The best run of a train in the times that are free: in each window as early as it can be, and at
-/// the exit as cheap. None, where there is none. It takes time in the windows of the operations.
+/// The best run of a train in the times that are free: in each window as cheap as it can be, and then
+/// as early. None, where there is none. It takes time in the windows of the operations.
 pub(crate) fn best_run(
     alloc: Global,
     holds: &Holds,
