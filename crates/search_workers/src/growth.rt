@@ -12,6 +12,7 @@ use disp_model::{Leaf, List, Memory, Plan, Problem, TreeNode};
 use event_graph::Graph;
 use open_nodes::Work;
 use std::alloc::Global;
+use train_insertion::Target;
 use tree_dives::{Dive, End, dive};
 
 /// What a searcher makes of a leaf.
@@ -36,6 +37,17 @@ pub(crate) fn leaf_alone(alloc: Global, leaf: Leaf) -> Result<Growth, Memory>
         bounds: List::from_vec(vec![in alloc; 0]?),
         plan: None,
     })
+}
+
+/// The target that the plan of a growth is, where it has one and there is memory for it.
+pub(crate) fn target_after(alloc: Global, problem: &Problem, growth: &Growth) -> Option<Target> {
+    match growth {
+        Growth::Subtree {
+            plan: Some(plan),
+            ..
+        } => Target::of_plan(alloc, problem, plan.as_slice()).ok(),
+        _ => None,
+    }
 }
 
 /// Whether a bound is the one there is.
@@ -79,13 +91,14 @@ fn of_dive(found: Dive, allowance: u32, bound: u64) -> Growth
     }
 }
 
-/// Grows the leaf of a work, by a dive from its node. Where the node is not reached, a leaf shows
+/// Grows the leaf of a work, by a dive from its node that follows a target. Where the node is not reached, a leaf shows
 /// that it is dead.
 pub(crate) fn grow(
     alloc: Global,
     problem: &Problem,
     graph: &mut Graph,
     work: &Work,
+    target: &Target,
 ) -> Result<Growth, Memory>
     requires problem { graph.old.problem ≡ problem.now }
     requires edition { IsOfEdition graph.old }
@@ -97,6 +110,6 @@ pub(crate) fn grow(
     if let Some(leaf) = go_to(graph, work.decisions.as_slice())? {
         return leaf_alone(alloc, leaf);
     }
-    let found = dive(alloc, problem, graph, work.best, work.allowance)?;
+    let found = dive(alloc, problem, graph, work.best, work.allowance, target)?;
     Ok(of_dive(found, work.allowance, work.bound))
 }

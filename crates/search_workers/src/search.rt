@@ -7,7 +7,7 @@ ghost use Rattle.node_leaves.specs.Shown.{IsDeadLeaf};
 ghost use Rattle.search_workers.specs.declared.growth.Growth.TheVariants.{Subtree};
 ghost use Rattle.search_workers.specs.Searched.{GoesOn, IsClosed, IsOfNewest};
 
-use crate::growth::{Growth, grow, leaf_alone};
+use crate::growth::{Growth, grow, leaf_alone, target_after};
 use crate::hand_in::hand_in;
 use crate::turn::{Turn, next_turn};
 use crate::walk::refused_leaf;
@@ -15,6 +15,7 @@ use disp_model::{Copied, Leaf, Memory, Problem};
 use dispatch_core::Core;
 use event_graph::Graph;
 use std::alloc::Global;
+use train_insertion::{INSERTIONS, Target, target};
 
 /// A copy of a leaf, with the bound 0.
 fn copy_alone(alloc: Global, leaf: &Leaf) -> Result<Growth, Memory>
@@ -23,12 +24,23 @@ fn copy_alone(alloc: Global, leaf: &Leaf) -> Result<Growth, Memory>
     leaf_alone(alloc, leaf.copy()?)
 }
 
-/// Takes a leaf of the newest edition and grows it. Says whether the edition is closed.
+/// Makes the plan of a growth the target, where it has one.
+fn aim_at(alloc: Global, problem: &Problem, aim: &mut Target, growth: &Result<Growth, Memory>) {
+    if let Ok(growth) = growth {
+        if let Some(target) = target_after(alloc, problem, growth) {
+            *aim = target;
+        }
+    }
+}
+
+/// Takes a leaf of the newest edition and grows it, along a target; a plan that is found is the
+/// target from then on. Says whether the edition is closed.
 fn round(
     alloc: Global,
     problem: &Problem,
     core: &mut Core,
     graph: &mut Graph,
+    aim: &mut Target,
 ) -> Result<bool, Memory>
     requires problem { core.old.problem ≡ problem.now }
     requires rule { core.old.settings.rule ≡ Fixed }
@@ -39,7 +51,8 @@ fn round(
 {
     match next_turn(alloc, core)? {
         Turn::Work(work) => {
-            let growth = grow(alloc, problem, graph, &work);
+            let growth = grow(alloc, problem, graph, &work, aim);
+            aim_at(alloc, problem, aim, &growth);
             hand_in(alloc, core, work, growth)?;
             Ok(false)
         }
@@ -74,6 +87,7 @@ fn rounds(
     problem: &Problem,
     core: &mut Core,
     graph: &mut Graph,
+    aim: &mut Target,
 ) -> Result<(), Memory>
     requires problem { core.old.problem ≡ problem.now }
     requires rule { core.old.settings.rule ≡ Fixed }
@@ -82,7 +96,7 @@ fn rounds(
     ensures closed { OnOk result (IsClosed core.new) }
 {
     for _ in 0..u64::MAX {
-        if round(alloc, problem, core, graph)? {
+        if round(alloc, problem, core, graph, aim)? {
             return Ok(());
         }
     }
@@ -106,7 +120,8 @@ fn rounds_of_dead(alloc: Global, core: &mut Core, leaf: &Leaf) -> Result<(), Mem
 }
 
 /// Searches the newest edition of a core on one thread, by the fixed rule, until it is settled or
-/// stopped. The problem is the core's.
+/// stopped. The problem is the core's. It goes down along a target, which is the best plan once one
+/// is found.
 ///
 /// # Errors
 ///
@@ -120,8 +135,9 @@ pub fn search_alone(alloc: Global, problem: &Problem, core: &mut Core) -> Result
 {
     let _edition = core.edition();
     let fixings = core.fixings(alloc)?;
+    let mut aim = target(alloc, problem, fixings.as_slice(), INSERTIONS)?;
     match Graph::new(alloc, problem, fixings.as_slice()) {
-        Ok(mut graph) => rounds(alloc, problem, core, &mut graph),
+        Ok(mut graph) => rounds(alloc, problem, core, &mut graph, &mut aim),
         Err(no) => rounds_of_dead(alloc, core, &refused_leaf(no)?),
     }
 }

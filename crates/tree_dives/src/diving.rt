@@ -15,6 +15,7 @@ use disp_model::{List, Memory, Problem};
 use event_graph::Graph;
 use node_leaves::leaf_of;
 use std::alloc::Global;
+use train_insertion::Target;
 
 /// The subtree, where no place is left to be filled.
 fn whole(halves: Halves, end: End) -> Result<Dive, Memory>
@@ -53,6 +54,7 @@ fn dive_down(
     graph: &mut Graph,
     best: Option<u64>,
     allowance: u32,
+    target: &Target,
 ) -> Result<Dive, Memory>
     requires { graph.old.problem ≡ problem.now }
     ensures below { IsBelowNode graph.old graph.new }
@@ -65,7 +67,7 @@ fn dive_down(
     for _ in 0..allowance {
         match stage_of(alloc, problem, graph, best)? {
             Stage::Branch(choice) => {
-                if !go_down(alloc, problem, graph, &mut halves, choice)? {
+                if !go_down(alloc, problem, graph, &mut halves, choice, target)? {
                     return whole(halves, End::Closed);
                 }
             }
@@ -79,9 +81,9 @@ fn dive_down(
 }
 
 /// Branches at the node of a graph, follows one child and branches there, and so on, at most so
-/// often. The child that costs least is followed; the others become leaves. It ends earlier at a
-/// node that is dead, or whose bound is not below the best cost, or where nothing is picked. The
-/// graph is as before.
+/// often. The child that the target takes is followed, or else the one that costs least; the others
+/// become leaves. It ends earlier at a node that is dead, or whose bound is not below the best cost,
+/// or where nothing is picked. The graph is as before.
 ///
 /// # Errors
 ///
@@ -92,13 +94,14 @@ pub fn dive(
     graph: &mut Graph,
     best: Option<u64>,
     allowance: u32,
+    target: &Target,
 ) -> Result<Dive, Memory>
     requires { graph.old.problem ≡ problem.now }
     ensures same { graph.new ≡ graph.old }
     ensures dive { IfOk result (IsDive graph.old best allowance) }
 {
     let depth = graph.decisions().len();
-    let dive = dive_down(alloc, problem, graph, best, allowance);
+    let dive = dive_down(alloc, problem, graph, best, allowance, target);
     rewind(graph, depth);
     dive
 }

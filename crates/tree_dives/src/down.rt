@@ -11,6 +11,7 @@ use disp_model::{Choice, Decision, Memory, Problem};
 use event_graph::{ExtendNo, Graph};
 use node_leaves::child_leaf;
 use std::alloc::Global;
+use train_insertion::Target;
 
 /// A subtree of which one place is still to be filled: its nodes before that place, and those
 /// behind it, the last one first.
@@ -42,6 +43,7 @@ pub(crate) fn go_down(
     graph: &mut Graph,
     halves: &mut Halves,
     choice: Choice,
+    target: &Target,
 ) -> Result<bool, Memory>
     requires { graph.old.problem ≡ problem.now }
     ensures below { IsBelowNode graph.old graph.new }
@@ -50,7 +52,7 @@ pub(crate) fn go_down(
 {
     let children = children(alloc, problem, choice)?;
     push_branch(&mut halves.before, choice, children.len() as u32)?;
-    let place = preferred(problem, graph, children.as_slice());
+    let place = preferred(problem, graph, target, children.as_slice());
     let (first, rest) = children.as_slice().split_at(place);
     let left = leaves_of(alloc, problem, graph, first)?;
     append(&mut halves.before, left)?;

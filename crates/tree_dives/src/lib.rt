@@ -3,7 +3,7 @@
 //! `dive` branches at the node of a graph, follows one child and branches there, and so on, until
 //! its allowance is spent, the child is dead or costs too much, or nothing is picked there, so that
 //! the earliest plan is valid. The other children become leaves with their bounds. The graph is as
-//! before then.
+//! before then. Which child is followed is advice of a target, and nothing rests on it.
 #![tactic(auto)]
 
 mod diving;

@@ -1,8 +1,9 @@
-ghost use Rattle.std.specs.Prelude.{◌≡◌, ◌≤◌, length};
+ghost use Rattle.std.specs.Prelude.{◌≡◌, ◌≤◌, length, IfSome};
 
 use cost_bound::cost;
 use disp_model::{Decision, Problem};
 use event_graph::Graph;
+use train_insertion::Target;
 
 /// What the child costs to which a decision leads, where it is not dead. The graph is as before.
 fn child_cost(problem: &Problem, graph: &mut Graph, decision: Decision) -> Option<u64>
@@ -20,9 +21,35 @@ fn child_cost(problem: &Problem, graph: &mut Graph, decision: Decision) -> Optio
     cost
 }
 
+/// Whether a target decides so. Where it has not both operations of an order, or they start at one
+/// time, it decides neither way.
+fn is_aimed_at(target: &Target, decision: Decision) -> bool {
+    match decision {
+        Decision::Go { op, next } => target.next_of(op) == Some(next),
+        Decision::First { a, b } => match (target.start_of(a), target.start_of(b)) {
+            (Some(first), Some(second)) => first < second,
+            _ => false,
+        },
+        Decision::Run(op) => target.start_of(op).is_some(),
+        Decision::Skip(_) => false,
+    }
+}
+
+/// The place of the first child that a target takes.
+fn aimed(target: &Target, children: &[Decision]) -> Option<usize>
+    ensures { IfSome result (λ place. place ≤ length children.now) }
+{
+    for (place, decision) in children.iter().enumerate() {
+        if is_aimed_at(target, *decision) {
+            return Some(place);
+        }
+    }
+    None
+}
+
 /// The place of the child that costs least among those that are not dead, the first one of several,
 /// or 0. The graph is as before.
-pub(crate) fn preferred(problem: &Problem, graph: &mut Graph, children: &[Decision]) -> usize
+fn cheapest(problem: &Problem, graph: &mut Graph, children: &[Decision]) -> usize
     requires { graph.old.problem ≡ problem.now }
     ensures same { graph.new ≡ graph.old }
     ensures within { result ≤ length children.now }
@@ -38,4 +65,22 @@ pub(crate) fn preferred(problem: &Problem, graph: &mut Graph, children: &[Decisi
         }
     }
     found
+}
+
+/// The place of the child that a target takes. Where it takes none, that of the child that costs
+/// least among those that are not dead, the first one of several, or 0. The graph is as before.
+pub(crate) fn preferred(
+    problem: &Problem,
+    graph: &mut Graph,
+    target: &Target,
+    children: &[Decision],
+) -> usize
+    requires { graph.old.problem ≡ problem.now }
+    ensures same { graph.new ≡ graph.old }
+    ensures within { result ≤ length children.now }
+{
+    match aimed(target, children) {
+        Some(place) => place,
+        None => cheapest(problem, graph, children),
+    }
 }

@@ -7,6 +7,7 @@ use event_graph::Graph;
 use std::alloc::Global;
 use std::process::Abort;
 use std::test::Fail;
+use train_insertion::Target;
 
 /// An operation that may start until a time, lasts so long, holds resources, and goes on so.
 fn lasting(
@@ -117,7 +118,8 @@ fn check(
     wanted: &str,
 ) -> Result<(), Fail> {
     let mut graph = root(alloc, problem)?;
-    let found = dive(alloc, problem, &mut graph, best, allowance)?;
+    let target = Target::none(alloc);
+    let found = dive(alloc, problem, &mut graph, best, allowance, &target)?;
     assert_eq!(rt; shown(alloc, &found)?.as_str(), wanted);
     assert_eq!(rt; graph.decisions().len(), 0);
     Ok(())

@@ -1,0 +1,22 @@
+/// Numbers that look drawn by chance, the same in each run.
+#[derive(Drop)]
+pub(crate) struct Draw {
+    state: u64,
+}
+
+impl Draw {
+    /// The first of the numbers.
+    pub(crate) fn new() -> Draw {
+        Draw { state: 1 }
+    }
+
+    /// The next number, below a count; 0 where the count is 0.
+    pub(crate) fn below(&mut self, count: usize) -> usize {
+        self.state = self
+            .state
+            .wrapping_mul(6364136223846793005)
+            .wrapping_add(1442695040888963407);
+        let number = (self.state >> 33) as usize;
+        number.checked_rem(count).unwrap_or(0)
+    }
+}
