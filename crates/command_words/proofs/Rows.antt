@@ -1,7 +1,8 @@
 -- What clap's getters read, by the rows of its matches.
 use Rattle.std.specs.Prelude.{◌≡◌, ℕ, List, Option, Some, None, option_map, Box}
 use Rattle.std.specs.Box.{box_value}
-use Rattle.std.proofs.Common.{Global, ap}
+use Rattle.std.proofs.Common.{Global, ap, refl}
+use Rattle.std.proofs.lemmas.Option.{same_Some}
 use Rattle.clap.specs.Words.{Row, subcommand_rows, subcommand_rows_of, subcommand_name_of}
 use Rattle.clap.specs.declared.parser.matches.ArgMatches.{ArgMatches}
 use Rattle.clap.specs.declared.parser.matches.ArgMatches.TheViews.{out-ArgMatches, out-SubCommand}
@@ -23,3 +24,11 @@ name_is m name rows e = go (out-ArgMatches m).subcommand e
     go : (found : Option (Box SubCommand Global)) → subcommand_rows found ≡ Some (name, rows) → option_map (λ b. (out-SubCommand (box_value b)).name.now) found ≡ Some name
     go None e = cc
     go (Some b) e = ap (option_map (λ p. p.0)) e
+
+-- the subcommand that was met, where its name and its rows are known
+pub named_rows : (m : ArgMatches) (name : List ℕ) (rows : List Row) → subcommand_name_of m ≡ Some name → option_map (λ p. p.1) (subcommand_rows (out-ArgMatches m).subcommand) ≡ Some rows → subcommand_rows_of m ≡ Some (name, rows)
+named_rows m name rows named are = go (out-ArgMatches m).subcommand named are
+  where
+    go : (found : Option (Box SubCommand Global)) → option_map (λ b. (out-SubCommand (box_value b)).name.now) found ≡ Some name → option_map (λ p. p.1) (subcommand_rows found) ≡ Some rows → subcommand_rows found ≡ Some (name, rows)
+    go None named are = cc
+    go (Some b) named are = rw (same_Some _ _ named, same_Some _ _ are) refl

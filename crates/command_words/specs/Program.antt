@@ -22,9 +22,14 @@ solve_inputs =
     with_rule (with_rule (with_rule (new_app (codes "solve")) (needed_rule (codes "problem")))
     (optional_rule (codes "fixings"))) budget
 
--- `solve PROBLEM [--fixings F] [--budget B] [--plan OUT]`
+-- `--rule`: a text
+abbrev pub rule : Rule
+rule = optional_rule (codes "rule")
+
+-- `solve PROBLEM [--fixings F] [--budget B] [--rule RULE] [--plan OUT] [--tree OUT]`
 abbrev pub solve : App
-solve = with_rule solve_inputs (optional_rule (codes "plan"))
+solve = with_rule (with_rule (with_rule solve_inputs rule) (optional_rule (codes "plan")))
+    (optional_rule (codes "tree"))
 
 -- `verify PROBLEM SOLUTION [--fixings F]`
 abbrev pub verify : App

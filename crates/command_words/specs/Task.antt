@@ -2,9 +2,12 @@
 use Rattle.std.specs.Prelude.{◌≡◌, ◌⊎◌, ℕ, ◌<◌, ◌^◌, List, [], Option, Some, None, codes, unwrap_or}
 use Rattle.std.specs.Str.Parse.{IsNumeral, digits_value, without_leading_plus}
 use Rattle.clap.specs.Words.{Row, subcommand_of, first_of, one_of, fault_of}
+use Rattle.disp_model.specs.declared.settings.Rule.{Rule}
+use Rattle.disp_model.specs.declared.settings.Rule.TheVariants.{Fixed, Free}
 use Rattle.command_words.specs.Program.{program}
 use Rattle.command_words.specs.declared.read.WordsNo.{WordsNo}
 use Rattle.command_words.specs.declared.read.WordsNo.TheVariants.{Refused, Memory}
+use Rattle.command_words.specs.declared.task.SolveTask.{SolveTask}
 use Rattle.command_words.specs.declared.task.Task.{Task}
 use Rattle.command_words.specs.declared.task.Task.TheVariants.{Solve, Verify, Check}
 
@@ -27,20 +30,30 @@ abbrev pub IsBudget : Option (List ℕ) → ℕ → Type 0
 IsBudget None n = n ≡ 1000000
 IsBudget (Some text) n = IsNumberText text n ⊎ (((m : ℕ) → IsNumberText text m → ⊥) × (n ≡ 1000000))
 
+-- the rule that a text names, and the free one where there is none
+abbrev pub IsRuleText : Option (List ℕ) → Rule → Type 0
+IsRuleText None rule = rule ≡ Free
+IsRuleText (Some text) rule = ((text ≡ codes "fixed") × (rule ≡ Fixed)) ⊎ ((text ≡ codes "free") × (rule ≡ Free))
+
+-- a text that names no rule
+abbrev pub NamesNoRule : Option (List ℕ) → Type 0
+NamesNoRule text = (rule : Rule) → IsRuleText text rule → ⊥
+
 -- the name that clap finds for an argument that must be given (the empty one where it finds none, which it always does)
 abbrev pub name_found : List ℕ → List Row → List ℕ
 name_found id rows = unwrap_or (first_of id rows) []
 
 -- the values that clap finds for `solve`
-pub record IsSolve (words : List (List ℕ)) (problem : List ℕ) (fixings : Option (List ℕ)) (budget : ℕ)
-    (plan : Option (List ℕ)) : Type 0 where
+pub record IsSolve (words : List (List ℕ)) (task : SolveTask) : Type 0 where
   pub taken : AreTaken words
   pub rows : List Row
   pub named : Names words (codes "solve") rows
-  pub problem_is : problem ≡ name_found (codes "problem") rows
-  pub fixings_is : fixings ≡ first_of (codes "fixings") rows
-  pub budget_is : IsBudget (one_of (codes "budget") rows) budget
-  pub plan_is : plan ≡ first_of (codes "plan") rows
+  pub problem_is : task.problem ≡ name_found (codes "problem") rows
+  pub fixings_is : task.fixings ≡ first_of (codes "fixings") rows
+  pub budget_is : IsBudget (one_of (codes "budget") rows) task.budget
+  pub rule_is : IsRuleText (first_of (codes "rule") rows) task.rule
+  pub plan_is : task.plan ≡ first_of (codes "plan") rows
+  pub tree_is : task.tree ≡ first_of (codes "tree") rows
 
 -- the values that clap finds for `verify`
 pub record IsVerify (words : List (List ℕ)) (problem solution : List ℕ) (fixings : Option (List ℕ)) : Type 0 where
@@ -63,15 +76,21 @@ pub record IsCheck (words : List (List ℕ)) (problem tree : List ℕ) (fixings 
 
 -- the words ask for the task
 abbrev pub IsTask : List (List ℕ) → Task → Type 0
-IsTask words (Solve problem fixings budget plan) = IsSolve words problem fixings budget plan
+IsTask words (Solve task) = IsSolve words task
 IsTask words (Verify problem solution fixings) = IsVerify words problem solution fixings
 IsTask words (Check problem tree fixings plan) = IsCheck words problem tree fixings plan
 
--- clap finds fault with the words
-abbrev pub AreRefused : List (List ℕ) → Type 0
-AreRefused words = AreTaken words → ⊥
+-- the words ask for `solve` by a rule that there is not
+pub record AskForNoRule (words : List (List ℕ)) : Type 0 where
+  pub rows : List Row
+  pub named : Names words (codes "solve") rows
+  pub no_rule : NamesNoRule (first_of (codes "rule") rows)
 
--- words are refused only where clap finds fault with them
+-- clap finds fault with the words, or they name a rule that there is not
+abbrev pub AreRefused : List (List ℕ) → Type 0
+AreRefused words = (AreTaken words → ⊥) ⊎ AskForNoRule words
+
+-- words are refused only where they are to be
 abbrev pub Denies : List (List ℕ) → WordsNo → Type 0
 Denies words (Refused text) = AreRefused words
 Denies words Memory = Unit {0}

@@ -1,7 +1,7 @@
 ghost use Rattle.std.specs.Prelude.{◌≡◌, IfOk, false};
 ghost use Rattle.clap.specs.Words.{app_of, rule_of};
 ghost use Rattle.clap.specs.declared.builder.command.Command.TheViews.{out-Command as fields_of};
-ghost use Rattle.command_words.specs.Program.{needed_rule, optional_rule, budget, solve, verify, check, first_commands, program};
+ghost use Rattle.command_words.specs.Program.{needed_rule, optional_rule, budget, rule, solve_inputs, solve, verify, check, first_commands, program};
 
 use clap::{Arg, Command, value_parser};
 use std::alloc::{AllocError, Global};
@@ -33,17 +33,35 @@ fn budget<'a>(alloc: Global) -> Arg<'a>
         .help("How often the search may branch")
 }
 
-/// `solve`, with its arguments.
-fn solve<'a>(alloc: Global) -> Result<Command<'a>, AllocError>
-    ensures app { IfOk result (λ c. app_of c ≡ solve) }
+/// By which rule the search branches. Which texts name one is tested behind clap.
+fn rule<'a>(alloc: Global) -> Arg<'a>
+    ensures rule { rule_of result ≡ rule }
+    ensures own { result.global ≡ false }
+{
+    optional_rule(alloc, "rule", "RULE").help("How the search branches: fixed or free")
+}
+
+/// `solve`, with what it reads.
+fn solve_inputs<'a>(alloc: Global) -> Result<Command<'a>, AllocError>
+    ensures app { IfOk result (λ c. app_of c ≡ solve_inputs) }
     ensures own { IfOk result (λ c. (fields_of c).has_globals ≡ false) }
 {
     Command::new(alloc, "solve")
         .about("Finds a plan of least cost")
         .arg(needed_rule(alloc, "problem", "PROBLEM"))?
         .arg(optional_rule(alloc, "fixings", "F"))?
-        .arg(budget(alloc))?
-        .arg(optional_rule(alloc, "plan", "OUT"))
+        .arg(budget(alloc))
+}
+
+/// `solve`, with its arguments.
+fn solve<'a>(alloc: Global) -> Result<Command<'a>, AllocError>
+    ensures app { IfOk result (λ c. app_of c ≡ solve) }
+    ensures own { IfOk result (λ c. (fields_of c).has_globals ≡ false) }
+{
+    solve_inputs(alloc)?
+        .arg(rule(alloc))?
+        .arg(optional_rule(alloc, "plan", "OUT"))?
+        .arg(optional_rule(alloc, "tree", "OUT"))
 }
 
 /// `verify`, with its arguments.

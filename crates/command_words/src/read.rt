@@ -1,13 +1,13 @@
-ghost use Rattle.std.specs.Prelude.{◌≡◌, ℕ, List, IfOk, IfErr, map, option_map, string_bytes, codes};
+ghost use Rattle.std.specs.Prelude.{◌≡◌, ℕ, List, IfOk, IfErr, MatchOption, map, option_map, string_bytes, codes};
 ghost use Rattle.clap.specs.Words.{found_of, rows_of, subcommand_rows_of, subcommand_of, fault_of, first_of, one_of, HasKind};
 ghost use Rattle.command_words.specs.Program.{program};
-ghost use Rattle.command_words.specs.Task.{IsTask, AreTaken, Names, Denies, IsBudget, name_found};
+ghost use Rattle.command_words.specs.Task.{IsTask, AreTaken, Names, AskForNoRule, Denies, IsBudget, IsRuleText, NamesNoRule, name_found};
 
 use crate::program::program;
-use crate::task::Task;
+use crate::task::{SolveTask, Task};
 use clap::error::ErrorKind;
 use clap::{ArgMatches, Error};
-use disp_model::Text;
+use disp_model::{Rule, Text};
 use std::alloc::{AllocError, Global};
 
 /// Why the words ask for nothing.
@@ -87,17 +87,60 @@ fn optional_name(alloc: Global, found: &ArgMatches, id: &str) -> Result<Option<T
     }
 }
 
+/// The rule that a text names. Where there is no text it is the free one.
+fn rule_named(text: Option<&str>) -> Option<Rule>
+    ensures { MatchOption result (NamesNoRule (option_map (λ t. t.now) text.entry))
+        (IsRuleText (option_map (λ t. t.now) text.entry)) }
+{
+    let Some(text) = text else {
+        return Some(Rule::Free);
+    };
+    if text == "fixed" {
+        return Some(Rule::Fixed);
+    }
+    if text == "free" {
+        return Some(Rule::Free);
+    }
+    None
+}
+
+/// By which rule the search branches, where the words name one that there is.
+fn rule(found: &ArgMatches) -> Option<Rule>
+    ensures { MatchOption result (NamesNoRule (first_of (codes "rule") (rows_of (found_of found.now))))
+        (IsRuleText (first_of (codes "rule") (rows_of (found_of found.now)))) }
+{
+    rule_named(value(found, "rule"))
+}
+
+/// The refusal of a rule that there is not.
+fn no_rule(alloc: Global) -> WordsNo
+    ensures { (words : List (List ℕ)) → AskForNoRule words → Denies words result }
+{
+    let line = "error: a value of '--rule <RULE>' is one of: fixed, free\n";
+    match String::from_str(alloc, line) {
+        Ok(text) => WordsNo::Refused(Text::from_string(text)),
+        Err(_) => WordsNo::Memory,
+    }
+}
+
 /// What is asked of `solve`.
 fn solve(alloc: Global, found: &ArgMatches) -> Result<Task, WordsNo>
-    ensures ok { IfOk result (λ task. (words : List (List ℕ)) → AreTaken words → Names words (codes "solve") (rows_of (found_of found.now)) → IsTask words task) }
-    ensures err { IfErr result (λ no. no ≡ WordsNo.Memory) }
+    ensures ok { IfOk result (λ task. (words : List (List ℕ)) → AreTaken words
+        → Names words (codes "solve") (rows_of (found_of found.now)) → IsTask words task) }
+    ensures err { IfErr result (λ no. (words : List (List ℕ))
+        → Names words (codes "solve") (rows_of (found_of found.now)) → Denies words no) }
 {
-    Ok(Task::Solve {
+    let Some(rule) = rule(found) else {
+        return Err(no_rule(alloc));
+    };
+    Ok(Task::Solve(SolveTask {
         problem: name(alloc, found, "problem")?,
         fixings: optional_name(alloc, found, "fixings")?,
         budget: budget(found),
+        rule,
         plan: optional_name(alloc, found, "plan")?,
-    })
+        tree: optional_name(alloc, found, "tree")?,
+    }))
 }
 
 /// What is asked of `verify`.
@@ -148,8 +191,8 @@ fn task(alloc: Global, matches: &ArgMatches) -> Result<Task, WordsNo>
 ///
 /// # Errors
 ///
-/// `Refused` where clap finds fault with the words, a call for help included, with clap's own text;
-/// `Memory` may come whatever the words are.
+/// `Refused` where clap finds fault with the words, a call for help included, with clap's own text,
+/// and where the words name a rule that there is not; `Memory` may come whatever the words are.
 pub fn read_words(alloc: Global, words: &[String]) -> Result<Task, WordsNo>
     ensures ok { IfOk result (λ task. IsTask (map (λ word. string_bytes word) words.now) task) }
     ensures refused { IfErr result (Denies (map (λ word. string_bytes word) words.now)) }

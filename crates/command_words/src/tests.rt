@@ -1,5 +1,6 @@
 // Words are read as clap reads them.
 use crate::{Task, WordsNo, read_words};
+use disp_model::Rule;
 use std::alloc::Global;
 use std::test::Fail;
 
@@ -13,15 +14,16 @@ fn words(alloc: Global, line: &str) -> Result<Vec<String>, Fail> {
 
 fn shown(alloc: Global, task: &Task) -> Result<String, Fail> {
     let text = match task {
-        Task::Solve {
-            problem,
-            fixings,
-            budget,
-            plan,
-        } => {
-            let fixings = fixings.as_ref().map_or("none", |name| name.as_str());
-            let plan = plan.as_ref().map_or("none", |name| name.as_str());
-            format!(in alloc; "solve {} {fixings} {budget} {plan}", problem.as_str())?
+        Task::Solve(task) => {
+            let fixings = task.fixings.as_ref().map_or("none", |name| name.as_str());
+            let plan = task.plan.as_ref().map_or("none", |name| name.as_str());
+            let tree = task.tree.as_ref().map_or("none", |name| name.as_str());
+            let (problem, budget) = (task.problem.as_str(), task.budget);
+            let rule = match task.rule {
+                Rule::Fixed => "fixed",
+                Rule::Free => "free",
+            };
+            format!(in alloc; "solve {problem} {fixings} {budget} {rule} {plan} {tree}")?
         }
         Task::Check {
             problem,
@@ -74,19 +76,23 @@ fn words_have_their_values(rt: HostRuntime) -> Result<(), Fail> {
     let alloc = rt.alloc();
     assert_eq!(rt;
         read(alloc, "solve P --budget 7 --plan=OUT")?.as_str(),
-        "solve P none 7 OUT"
+        "solve P none 7 free OUT none"
     );
     assert_eq!(rt;
         read(alloc, "solve --plan OUT P --fixings F")?.as_str(),
-        "solve P F 1000000 OUT"
+        "solve P F 1000000 free OUT none"
     );
     assert_eq!(rt;
         read(alloc, "solve P --budget 4294967295")?.as_str(),
-        "solve P none 4294967295 none"
+        "solve P none 4294967295 free none none"
     );
     assert_eq!(rt;
-        read(alloc, "solve P --budget 0")?.as_str(),
-        "solve P none 0 none"
+        read(alloc, "solve P --budget 0 --tree T")?.as_str(),
+        "solve P none 0 free none T"
+    );
+    assert_eq!(rt;
+        read(alloc, "solve P --rule fixed")?.as_str(),
+        "solve P none 1000000 fixed none none"
     );
     assert_eq!(rt; read(alloc, "verify P S")?.as_str(), "verify P S none");
     assert_eq!(rt;
@@ -121,6 +127,7 @@ fn other_words_are_refused(rt: HostRuntime) -> Result<(), Fail> {
     let none = Vec::new(alloc);
     assert!(rt; read_words(alloc, &none).is_err());
     assert!(rt; is_refused(alloc, "solve", "<PROBLEM>")?);
+    assert!(rt; is_refused(alloc, "solve P --rule best", "fixed, free")?);
     assert!(rt; is_refused(alloc, "solve P Q", "unexpected argument 'Q'")?);
     assert!(rt; is_refused(alloc, "solve P --budget -1", "unexpected argument '-1'")?);
     assert!(rt; is_refused(alloc, "solve P --budget x", "invalid value 'x'")?);

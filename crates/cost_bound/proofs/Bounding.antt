@@ -29,14 +29,14 @@ use Rattle.cost_bound.proofs.Walking.{walk_there}
 
 -- ---- one walk more
 
-costs_end : (node : Node) (walks : List ComponentWalk) (w : ComponentWalk) (sum cost : ℕ) → WalksCost node walks sum → WalkCosts node w cost → WalksCost node (walks ++ w ∷ []) (sum + cost)
+pub costs_end : (node : Node) (walks : List ComponentWalk) (w : ComponentWalk) (sum cost : ℕ) → WalksCost node walks sum → WalkCosts node w cost → WalksCost node (walks ++ w ∷ []) (sum + cost)
 costs_end node [] w sum cost is costs = (cost, 0, costs, refl, omega (arith, is))
 costs_end node (v ∷ walks) w sum cost is costs = (is.0, is.1 + cost, is.2, costs_end node walks w is.1 cost is.3 costs, omega (arith, is.4))
 
 below_at : (walks : List ComponentWalk) (count i : ℕ) (v : ComponentWalk) → All (λ w. w.component < count) walks → slice_get walks i ≡ Some v → v.component < count
 below_at walks count i v below at = subst (λ (w : ComponentWalk). w.component < count) (get_or_from_slice_get walks i v v at) (below i v (slice_get_within walks i v at))
 
-order_end : (walks : List ComponentWalk) (w : ComponentWalk) (count : ℕ) → AreInOrder walks → All (λ v. v.component < count) walks → w.component ≡ count → AreInOrder (walks ++ w ∷ [])
+pub order_end : (walks : List ComponentWalk) (w : ComponentWalk) (count : ℕ) → AreInOrder walks → All (λ v. v.component < count) walks → w.component ≡ count → AreInOrder (walks ++ w ∷ [])
 order_end walks w count order below is i j v x lt one other = elim (get_push_cases walks w x j other) [
   | inl there ↦ elim (get_push_cases walks w v i one) [
     | inl here ↦ order i j v x lt here there

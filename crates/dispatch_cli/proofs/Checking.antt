@@ -21,8 +21,8 @@ use Rattle.dispatch_cli.specs.declared.cause.Input.TheVariants as input
 use Rattle.dispatch_cli.specs.Outside.{Holdings, Counts, ReadsOne, ReadsNames, IsBehind, IsName, IsGiven, IsOneOfFour}
 use Rattle.dispatch_cli.specs.Files.{IsProblemFile, IsTreeFile, IsPlanFile, AreFixings, AreOfEdition, AreChangesTaken, HasFixings}
 use Rattle.dispatch_cli.specs.Answers.{IsCheckedWithPlan, IsCheckedFile}
-use Rattle.dispatch_cli.specs.Causes.{StopsProblem, StopsGivenFixings, StopsTree, StopsGivenPlan, StopsTask, TakesProblem, TakesTree, CountsTask, input_name}
-use Rattle.dispatch_cli.proofs.Stopped.{file_before, bad_before, lines_before, refused_before, long_before, reads_of_one, reads_among}
+use Rattle.dispatch_cli.specs.Causes.{StopsTree, StopsGivenPlan, StopsTask, TakesProblem, TakesTree, CountsTask, input_name}
+use Rattle.dispatch_cli.proofs.Stopped.{file_before, bad_before, lines_before, long_before, reads_of_one, reads_among}
 
 -- ---- what was read behind another reading, which changed no file
 

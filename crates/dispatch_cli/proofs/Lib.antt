@@ -1,4 +1,7 @@
 mod Printed
 mod Searched
+mod Shown
 mod Stopped
 mod Checking
+mod Puttings
+mod Ended

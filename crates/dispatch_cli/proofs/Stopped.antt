@@ -1,12 +1,12 @@
 -- What stopped a run, from one call to the next.
-use Rattle.std.proofs.Common.{◌≡◌, ◌≢◌, ◌⊎◌, ◌≤◌, ◌<◌, ℕ, Bool, true, false, List, [], Option, Some, None, refl, ap, inl, inr, sym, subst, length, ◌∙◌, arith}
+use Rattle.std.proofs.Common.{◌≡◌, ◌≢◌, ◌⊎◌, ◌≤◌, ◌<◌, ℕ, Bool, true, false, List, Option, Some, None, refl, ap, inl, inr, sym, subst, length, ◌∙◌, arith}
 use Rattle.std.specs.Prelude.{IfSome, IsSomeAnd}
 use Rattle.std.specs.Bool.{Decides}
 use Rattle.std.specs.Str.{bytes_eq}
 use Rattle.std.proofs.lemmas.Slice.Eq.{bytes_eq-Decides}
-use Rattle.disp_model.specs.declared.entry.Entry.{Entry}
 use Rattle.disp_model.specs.declared.problem.Problem.{Problem}
 use Rattle.disp_model.specs.declared.limits.TheConstants.{MOST_FILE_BYTES}
+use Rattle.command_words.specs.declared.task.SolveTask.{SolveTask}
 use Rattle.command_words.specs.declared.task.Task.{Task}
 use Rattle.command_words.specs.declared.task.Task.TheVariants.{Solve, Verify}
 use Rattle.command_words.specs.Task.{IsTask}
@@ -14,18 +14,15 @@ use Rattle.dispatch_cli.specs.declared.answer.Answer.{Answer}
 use Rattle.dispatch_cli.specs.declared.cause.Cause.{Cause}
 use Rattle.dispatch_cli.specs.declared.cause.Cause.TheVariants.{Words, Failed, TooLong, NoProblem, NoSolution, BadLine, NoTree, WrongEdition, NoPlan, Memory}
 use Rattle.dispatch_cli.specs.declared.cause.Input.TheVariants as input
-use Rattle.dispatch_cli.specs.Outside.{Holdings, Counts, Outside, IsFile, HoldsTooMuch, ReadsOne, ReadsNames, IsBehind, IsName, IsProblemOrFixings, IsOneOfThree}
+use Rattle.dispatch_cli.specs.Outside.{Holdings, Counts, IsFile, HoldsTooMuch, ReadsOne, ReadsNames, IsBehind, IsName, IsProblemOrFixings, IsOneOfThree}
 use Rattle.dispatch_cli.specs.Files.{IsProblemFile, IsRefusedLine, AreAsked, AreFixings, HasFixings}
 use Rattle.disp_outside.specs.Lines.{HasLinesOf}
 use Rattle.disp_model.specs.declared.fixing.Change.{Change}
 use Rattle.disp_model.specs.declared.fixing.Fixing.{Fixing}
 use Rattle.fixing_files.specs.declared.take.LineNo.{LineNo}
 use Rattle.dispatch_cli.specs.declared.cause.Input.{Input}
-use Rattle.dispatch_cli.specs.Answers.{IsAnswer, IsJudgedFile}
-use Rattle.dispatch_cli.specs.Causes.{StopsProblem, StopsSolve, StopsSolution, StopsFixings, StopsGivenFixings, StopsJudging, StopsVerify, IsWant, IsBadFile, input_name, TakesProblem, StopsTask, StopsRun, CountsTask, status_of}
-use Rattle.std.specs.List.{concat}
-use Rattle.dispatch_cli.specs.declared.answer.Put.{Put}
-use Rattle.dispatch_cli.specs.Endings.{EndsFailed, GivesUp, PutsNothing, PutKeeps, PutFails, WriteFails, WriteGivesUp, PutGivesUp, Halts, ReadsWell}
+use Rattle.dispatch_cli.specs.Answers.{IsJudgedFile}
+use Rattle.dispatch_cli.specs.Causes.{StopsProblem, StopsSolve, StopsSolution, StopsFixings, StopsGivenFixings, StopsJudging, StopsVerify, IsWant, IsBadFile, input_name, TakesProblem, StopsTask, StopsRun, CountsTask}
 
 different : false ≡ true → ⊥
 different e = cc
@@ -39,17 +36,18 @@ never_falls one old new counted others name = go (bytes_eq name one) (bytes_eq-D
     go false unlike = omega (arith, others name (λ e. different (unlike.1 e)))
 
 -- where the files of a problem to be solved are read, the counts of other names stay
-pub counts_of_two : (problem : List ℕ) (fixings : Option (List ℕ)) (budget : ℕ)
-    (plan : Option (List ℕ)) (old new : Counts) → ((name : List ℕ) → old name ≤ new name)
-    → ((other : List ℕ) → (IsProblemOrFixings problem fixings other → ⊥) → new other ≡ old other)
-    → (name : List ℕ) → CountsTask (Solve problem fixings budget plan) old new name
-counts_of_two problem fixings budget plan old new counted others name = record {
+pub counts_of_two : (task : SolveTask) (old new : Counts)
+    → ((name : List ℕ) → old name ≤ new name)
+    → ((other : List ℕ) → (IsProblemOrFixings task.problem task.fixings other → ⊥)
+    → new other ≡ old other)
+    → (name : List ℕ) → CountsTask (Solve task) old new name
+counts_of_two task old new counted others name = record {
   never_falls = counted name;
   stays = λ unread. others name (given unread);
 }
   where
-    given : ((which : Input) → input_name (Solve problem fixings budget plan) which ≡ Some name → ⊥)
-        → IsProblemOrFixings problem fixings name → ⊥
+    given : ((which : Input) → input_name (Solve task) which ≡ Some name → ⊥)
+        → IsProblemOrFixings task.problem task.fixings name → ⊥
     given unread (inl e) = unread input.Problem (ap Some (sym e))
     given unread (inr e) = unread input.Fixings e
 
@@ -199,16 +197,15 @@ stops_at_fixings before holds first old new task problem (Some name) cause named
     stops_at_file before holds first old new task problem name cause named behind takes stops
 
 -- what stopped the solving of a problem's file is what stopped its task
-pub stops_solve : (holds : Holdings) (old new : Counts) (problem : List ℕ)
-    (fixings : Option (List ℕ)) (budget : ℕ) (plan : Option (List ℕ)) (cause : Cause)
-    → StopsSolve holds old new problem fixings cause
-    → StopsTask holds old new (Solve problem fixings budget plan) cause
-stops_solve holds old new problem fixings budget plan cause (inl stops) =
-    stops_at_problem holds old new (Solve problem fixings budget plan) problem cause refl stops
-stops_solve holds old new problem fixings budget plan cause (inr (read, file, stops)) =
-    stops_at_fixings holds holds old old new (Solve problem fixings budget plan) read fixings cause
+pub stops_solve : (holds : Holdings) (old new : Counts) (task : SolveTask) (cause : Cause)
+    → StopsSolve holds old new task.problem task.fixings cause
+    → StopsTask holds old new (Solve task) cause
+stops_solve holds old new task cause (inl stops) =
+    stops_at_problem holds old new (Solve task) task.problem cause refl stops
+stops_solve holds old new task cause (inr (read, file, stops)) =
+    stops_at_fixings holds holds old old new (Solve task) read task.fixings cause
     refl (record { held = λ name. refl; counted = λ name. omega arith })
-    (takes_named holds (Solve problem fixings budget plan) problem read refl file) stops
+    (takes_named holds (Solve task) task.problem read refl file) stops
 
 -- want of memory stops it too
 pub want_stops : (holds : Holdings) (old new : Counts) (problem : Problem)
@@ -345,91 +342,3 @@ stops_task words holds old new task (NoTree refusal) asked stops = record { task
 stops_task words holds old new task (WrongEdition named wanted) asked stops = record { task = task; asked = asked; stops = stops }
 stops_task words holds old new task (NoPlan refusal) asked stops = record { task = task; asked = asked; stops = stops }
 stops_task words holds old new task Memory asked stops = tt
-
--- a putting or a write of an answer failed; between the run and the putting no count of puttings changed
-pub fails_of_answer : (words : List (List ℕ)) (old mid new : Outside) (answer : Answer) (journal : List Entry) → IsAnswer words old.holds answer → journal ≡ answer.journal
-    → ReadsWell old new → ((name : List ℕ) → mid.putting name ≡ old.putting name) → mid.faults ≡ old.faults → mid.written ≡ old.written → PutFails answer mid new ⊎ WriteFails answer mid new → EndsFailed words old new journal
-fails_of_answer words old mid new answer journal is_answer same read puttings faults written (inl h) = inr (inl (record {
-  answer = answer;
-  is_answer = is_answer;
-  journal_is = same;
-  put = h.put;
-  put_is = h.put_is;
-  fault = rw (← puttings h.put.name) h.fault;
-  nothing = h.nothing ∙ written;
-  counted = h.counted ∙ faults;
-  read = read;
-}))
-fails_of_answer words old mid new answer journal is_answer same read puttings faults written (inr h) = inr (inr (record {
-  answer = answer;
-  is_answer = is_answer;
-  journal_is = same;
-  put = h.put;
-  fault = rw (← faults) h.fault;
-  part = rw (← written) h.part;
-  read = read;
-}))
-
--- what a name kept behind the run it kept from the start
-kept_before : (put : Option Put) (old mid new : Holdings) → ((name : List ℕ) → mid name ≡ old name) → PutKeeps put mid new → PutKeeps put old new
-kept_before None old mid new same h = h
-kept_before (Some put) old mid new same h = h ∙ same put.name
-
--- memory ran out at the putting or the writing of an answer; the run before it changed no file and wrote nothing
-pub gives_up_of_answer : (words : List (List ℕ)) (old mid new : Outside) (answer : Answer) (journal : List Entry) → IsAnswer words old.holds answer → journal ≡ answer.journal
-    → ReadsWell old new → ((name : List ℕ) → mid.holds name ≡ old.holds name) → mid.written ≡ old.written → WriteGivesUp answer mid new ⊎ PutGivesUp answer mid new → GivesUp words old new journal
-gives_up_of_answer words old mid new answer journal is_answer same read held written (inl h) = record {
-  text = concat answer.lines;
-  due = inl (record { answer = answer; is_answer = is_answer; text_is = refl; journal_is = same; put = h.put; read = read });
-  between = h.writes.between;
-  part = rw (← written) h.writes.part;
-  memory = h.writes.memory;
-}
-gives_up_of_answer words old mid new answer journal is_answer same read held written (inr h) = record {
-  text = [];
-  due = inr (inl (record { answer = answer; is_answer = is_answer; text_is = refl; journal_is = same; kept = kept_before answer.put old.holds mid.holds new.holds held h.kept; read = read }));
-  between = h.writes.between;
-  part = rw (← written) h.writes.part;
-  memory = h.writes.memory;
-}
-
-not_two : ◌≡◌ {A = ℕ} 2 4 → ⊥
-not_two e = cc
-
-not_five : ◌≡◌ {A = ℕ} 5 4 → ⊥
-not_five e = cc
-
--- of the causes a reading's fault alone has the status 4
-pub fails_of_stop : (words : List (List ℕ)) (old new : Outside) (cause : Cause) (journal : List Entry) (status : ℕ) → StopsRun words old.holds old.reading new.reading cause
-    → Halts old.faults new.faults old.written new.written cause status → PutsNothing old new → journal ≡ [] → status ≡ 4 → EndsFailed words old new journal
-fails_of_stop words old new cause journal status stops halts puts none is = go cause stops halts halts.statuses
-  where
-    two : (status ≡ 2) ⊎ (status ≡ 5) → EndsFailed words old new journal
-    two (inl e) = absurd (not_two (sym e ∙ is))
-    two (inr e) = absurd (not_five (sym e ∙ is))
-
-    go : (cause : Cause) → StopsRun words old.holds old.reading new.reading cause → Halts old.faults new.faults old.written new.written cause status
-        → (status ≡ status_of cause) ⊎ (status ≡ 5) → EndsFailed words old new journal
-    go (Failed which) stops halts e = inl (record {
-      which = which;
-      stops = stops;
-      journal_is = none;
-      part = halts.part (λ five. not_five (sym five ∙ is));
-      whole = halts.whole (λ five. not_five (sym five ∙ is));
-      puts = puts;
-    })
-    go (Words text) stops halts e = two e
-    go (TooLong which) stops halts e = two e
-    go (NoProblem refusal) stops halts e = two e
-    go (NoSolution refusal) stops halts e = two e
-    go (BadLine number reason) stops halts e = two e
-    go (NoTree refusal) stops halts e = two e
-    go (WrongEdition named wanted) stops halts e = two e
-    go (NoPlan refusal) stops halts e = two e
-    go Memory stops halts (inl e) = absurd (not_five (sym e ∙ is))
-    go Memory stops halts (inr e) = absurd (not_five (sym e ∙ is))
-
--- what was read without a fault was read well, and nothing is read behind it
-pub read_well : (old mid new : Counts) (Fault : Type 0) → ((name : List ℕ) → old name ≤ mid name) → ((name : List ℕ) → old name < mid name → Fault) → (Fault → ⊥) → ((name : List ℕ) → new name ≡ mid name)
-    → (name : List ℕ) → new name ≡ old name
-read_well old mid new Fault counted fault none same name = same name ∙ omega (arith, counted name, (λ (lt : old name < mid name). none (fault name lt)))

@@ -1,7 +1,8 @@
 -- What the program finds for words, from the files of a shelf.
-use Rattle.std.specs.Prelude.{◌≡◌, ◌⊎◌, ℕ, List, [], ◌∷◌, Option, Some, None, option_map, option_and_then}
+use Rattle.std.specs.Prelude.{◌≡◌, ◌⊎◌, ℕ, List, [], ◌∷◌, ◌++◌, Option, Some, None, option_map, option_and_then}
 use Rattle.disp_model.specs.declared.plan.Event.{Event}
 use Rattle.disp_model.specs.declared.fixing.Fixing.{Fixing}
+use Rattle.disp_model.specs.declared.entry.Entry.{Entry}
 use Rattle.disp_model.specs.declared.entry.Mark.{Mark}
 use Rattle.disp_model.specs.declared.entry.Mark.TheVariants as mark
 use Rattle.disp_model.specs.declared.entry.Standing.{Standing}
@@ -9,7 +10,6 @@ use Rattle.disp_model.specs.declared.problem.Problem.{Problem}
 use Rattle.disp_model.specs.declared.tree.TreeNode.{TreeNode}
 use Rattle.disp_model.specs.declared.tree.Verdict.{Verdict}
 use Rattle.disp_model.specs.declared.tree.Verdict.TheVariants as verdict
-use Rattle.disp_model.specs.declared.settings.Rule.TheVariants.{Fixed}
 use Rattle.disp_model.specs.History.{edition_of, last_plan, IsStanding}
 use Rattle.disp_model.specs.declared.fixing.Change.{Change}
 use Rattle.disp_model.specs.declared.settings.Settings.{Settings}
@@ -20,14 +20,17 @@ use Rattle.tree_checker.specs.declared.why.Checked.TheVariants.{Accepted, Refuse
 use Rattle.tree_checker.specs.Checks.{IsChecked}
 use Rattle.solved_problems.specs.Promised.{Promises}
 use Rattle.solved_problems.specs.Solved.{IsSearched}
+use Rattle.command_words.specs.declared.task.SolveTask.{SolveTask}
 use Rattle.command_words.specs.declared.task.Task.{Task}
 use Rattle.command_words.specs.declared.task.Task.TheVariants.{Solve, Verify, Check}
+use Rattle.command_words.specs.Settings.{settings_of}
 use Rattle.command_words.specs.Task.{IsTask}
 use Rattle.dispatch_cli.specs.declared.answer.Answer.{Answer}
 use Rattle.dispatch_cli.specs.declared.answer.Put.{Put}
-use Rattle.dispatch_cli.specs.Outside.{Holdings, HoldsBytes}
+use Rattle.dispatch_cli.specs.Outside.{Holdings}
 use Rattle.dispatch_cli.specs.Files.{IsProblemFile, IsSolutionFile, AreAsked, AreFixings, AreOfEdition, IsTreeFile, IsPlanFile}
-use Rattle.dispatch_cli.specs.Texts.{answer_lines, plan_line, valid_line, fault_line, accepted_line, refused_line, plan_fault_line, no_plan_line}
+use Rattle.dispatch_cli.specs.Settled.{settled_tree, ShowsMark}
+use Rattle.dispatch_cli.specs.Texts.{answer_lines, plan_line, tree_file, valid_line, fault_line, accepted_line, refused_line, plan_fault_line, no_plan_line}
 
 -- the status for a mark
 abbrev pub status_of_mark : Mark → ℕ
@@ -36,41 +39,53 @@ status_of_mark (mark.Optimal cost) = 0
 status_of_mark mark.Infeasible = 1
 status_of_mark (mark.Stopped spent bound) = 3
 
--- the plan is to be put under a name, where both are there
-abbrev pub put_of : Option (List ℕ) → Option (List Event × ℕ) → Option Put
-put_of None plan = None
-put_of (Some name) plan = option_map (λ p. record { name = name; bytes = plan_line p }) plan
+-- a text is to be put under a name, where both are there
+abbrev pub put_under : Option (List ℕ) → Option (List ℕ) → List Put
+put_under None text = []
+put_under (Some name) None = []
+put_under (Some name) (Some text) = record { name = name; bytes = text } ∷ []
 
--- what a search by the fixed rule is given
-abbrev pub fixed_settings : ℕ → Settings
-fixed_settings budget = record { budget = budget; rule = Fixed }
+-- the plan is to be put where there is one, and behind it the tree where the edition is settled
+abbrev pub puts_of : SolveTask → ℕ → Option (List Event × ℕ) → Option (Verdict × List TreeNode)
+    → List Put
+puts_of task edition plan settled =
+    put_under task.plan (option_map plan_line plan)
+    ++ put_under task.tree (option_map (tree_file edition) settled)
 
 -- the plan of the best cost, where there is one
 abbrev pub best_plan : Standing → Option (List Event × ℕ) → Option (List Event × ℕ)
 best_plan standing last = option_and_then (λ cost. last) standing.best
 
--- the problem is solved with the changes that are asked: the journal is a legal history, which
--- begins with these and was searched until the edition is closed; its mark promises what it says, and
--- the lines are those for where the search stands
-pub record IsSolved (problem : Problem) (budget : ℕ) (asked : List Change) (plan : Option (List ℕ))
-    (answer : Answer) : Type 0 where
-  pub searched : IsSearched problem (fixed_settings budget) asked answer.journal
+-- where the search of a problem stands, with the changes that are asked: the journal is a legal history,
+-- which begins with these and was searched until the edition is closed; its mark promises what it says,
+-- and where it tells a verdict a tree shows that
+pub record IsFinished (problem : Problem) (settings : Settings) (asked : List Change)
+    (journal : List Entry) (standing : Standing) : Type 0 where
+  pub searched : IsSearched problem settings asked journal
+  pub stands : IsStanding problem journal standing
+  pub promise : Promises problem settings (edition_of journal) standing.mark
+  pub shown : ShowsMark problem (edition_of journal) standing.mark
+      (settled_tree standing.edition journal)
+
+-- the problem is solved with the changes that are asked: the lines are those for where the search
+-- stands, and the plan and the tree are to be put
+pub record IsSolved (problem : Problem) (task : SolveTask) (asked : List Change) (answer : Answer) :
+    Type 0 where
   pub standing : Standing
-  pub standing_is : IsStanding problem answer.journal standing
-  pub promise : Promises problem (fixed_settings budget) (edition_of answer.journal) standing.mark
+  pub finished : IsFinished problem (settings_of task) asked answer.journal standing
   pub status : answer.status ≡ status_of_mark standing.mark
   pub lines : answer.lines
       ≡ answer_lines standing (best_plan standing (last_plan answer.journal)) standing.mark
-  pub put : answer.put ≡ put_of plan (best_plan standing (last_plan answer.journal))
+  pub puts : answer.puts ≡ puts_of task standing.edition
+      (best_plan standing (last_plan answer.journal)) (settled_tree standing.edition answer.journal)
 
 -- the named files are a problem's and fixings', if they are given, and the problem is solved
-pub record AnswersSolve (holds : Holdings) (name : List ℕ) (fixings : Option (List ℕ)) (budget : ℕ)
-    (plan : Option (List ℕ)) (answer : Answer) : Type 0 where
+pub record AnswersSolve (holds : Holdings) (task : SolveTask) (answer : Answer) : Type 0 where
   pub problem : Problem
-  pub file : IsProblemFile holds name problem
+  pub file : IsProblemFile holds task.problem problem
   pub asked : List Change
-  pub lines : AreAsked holds problem fixings asked
-  pub solved : IsSolved problem budget asked plan answer
+  pub lines : AreAsked holds problem task.fixings asked
+  pub solved : IsSolved problem task asked answer
 
 -- the plan is valid, costs so much, and a stated cost is that
 pub record SaysValid (problem : Problem) (fixings : List Fixing) (plan : List Event) (stated : Option ℕ) (status : ℕ) (lines : List (List ℕ)) : Type 0 where
@@ -89,7 +104,7 @@ pub record SaysFault (problem : Problem) (fixings : List Fixing) (plan : List Ev
 -- a plan with a stated cost is judged
 pub record IsJudged (problem : Problem) (fixings : List Fixing) (plan : List Event) (stated : Option ℕ) (answer : Answer) : Type 0 where
   pub journal : answer.journal ≡ []
-  pub put : answer.put ≡ None
+  pub puts : answer.puts ≡ []
   pub says : SaysValid problem fixings plan stated answer.status answer.lines ⊎ SaysFault problem fixings plan stated answer.status answer.lines
 
 -- the named files are a problem's, fixings', if they are given, and a solution's, which is judged
@@ -137,7 +152,7 @@ SaysChecked problem fixings verdict plan (Refused node why) status lines = (stat
 -- a tree is checked for its verdict, and where it is accepted the plan is judged
 pub record IsTreeChecked (problem : Problem) (fixings : List Fixing) (verdict : Verdict) (tree : List TreeNode) (plan : Option (List Event × Option ℕ)) (answer : Answer) : Type 0 where
   pub journal : answer.journal ≡ []
-  pub put : answer.put ≡ None
+  pub puts : answer.puts ≡ []
   pub checked : Checked
   pub is_checked : IsChecked problem fixings verdict tree checked
   pub says : SaysChecked problem fixings verdict plan checked answer.status answer.lines
@@ -158,7 +173,7 @@ pub record AnswersCheck (holds : Holdings) (problem_name tree_name : List ℕ) (
   pub checked : IsTreeChecked problem fixings verdict tree plan answer
 
 abbrev pub AnswersTask : Holdings → Task → Answer → Type 0
-AnswersTask holds (Solve problem fixings budget plan) answer = AnswersSolve holds problem fixings budget plan answer
+AnswersTask holds (Solve task) answer = AnswersSolve holds task answer
 AnswersTask holds (Verify problem solution fixings) answer = AnswersVerify holds problem solution fixings answer
 AnswersTask holds (Check problem tree fixings plan) answer = AnswersCheck holds problem tree fixings plan answer
 
@@ -168,35 +183,30 @@ pub record IsAnswer (words : List (List ℕ)) (holds : Holdings) (answer : Answe
   pub asked : IsTask words task
   pub answers : AnswersTask holds task answer
 
--- what was to be put is held, as far as is told
-abbrev pub IsPut : Option Put → Holdings → Type 0
-IsPut None holds = Unit {0}
-IsPut (Some put) holds = HoldsBytes holds put.name put.bytes
-
--- the answer puts something under the name
-abbrev pub PutsUnder : List ℕ → Option Put → Type 0
-PutsUnder name None = ⊥
-PutsUnder name (Some put) = put.name ≡ name
+-- one of these puts is under the name
+abbrev pub PutsUnder : List ℕ → List Put → Type 0
+PutsUnder name [] = ⊥
+PutsUnder name (put ∷ puts) = (put.name ≡ name) ⊎ PutsUnder name puts
 
 -- the words give the name to be written, and there is something to put under it
 pub record IsDuePut (words : List (List ℕ)) (holds : Holdings) (name : List ℕ) : Type 0 where
   pub answer : Answer
   pub is_answer : IsAnswer words holds answer
-  pub under : PutsUnder name answer.put
+  pub under : PutsUnder name answer.puts
 
 -- ---- for private clauses
 
 -- so it is with the changes that lines of a file ask for, if there is one
-pub record IsSolvedWith (holds : Holdings) (problem : Problem) (budget : ℕ)
-    (fixings plan : Option (List ℕ)) (answer : Answer) : Type 0 where
+pub record IsSolvedWith (holds : Holdings) (problem : Problem) (task : SolveTask) (answer : Answer) :
+    Type 0 where
   pub asked : List Change
-  pub lines : AreAsked holds problem fixings asked
-  pub solved : IsSolved problem budget asked plan answer
+  pub lines : AreAsked holds problem task.fixings asked
+  pub solved : IsSolved problem task asked answer
 
 -- the answer is one line and a status
 pub record IsOneLine (line : List ℕ) (status : ℕ) (answer : Answer) : Type 0 where
   pub journal : answer.journal ≡ []
-  pub put : answer.put ≡ None
+  pub puts : answer.puts ≡ []
   pub lines : answer.lines ≡ line ∷ []
   pub status_is : answer.status ≡ status
 
@@ -216,14 +226,14 @@ pub record IsJudgedBy (holds : Holdings) (problem : Problem) (fixings_name : Opt
 -- the answer is two lines and a status
 pub record IsTwoLines (first second : List ℕ) (status : ℕ) (answer : Answer) : Type 0 where
   pub journal : answer.journal ≡ []
-  pub put : answer.put ≡ None
+  pub puts : answer.puts ≡ []
   pub lines : answer.lines ≡ first ∷ second ∷ []
   pub status_is : answer.status ≡ status
 
 -- the tree is accepted, and this is said of the plan
 pub record IsAcceptedWith (verdict : Verdict) (said : Option (List ℕ)) (answer : Answer) : Type 0 where
   pub journal : answer.journal ≡ []
-  pub put : answer.put ≡ None
+  pub puts : answer.puts ≡ []
   pub status_is : answer.status ≡ accepted_status said
   pub lines_are : answer.lines ≡ accepted_lines verdict said
 

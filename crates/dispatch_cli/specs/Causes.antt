@@ -3,7 +3,7 @@ use Rattle.std.specs.Prelude.{◌≡◌, ◌≢◌, ◌⊎◌, ℕ, ◌<◌, ◌
 use Rattle.disp_model.specs.declared.problem.Problem.{Problem}
 use Rattle.displib_reader.specs.declared.fault.ProblemNo.{ProblemNo}
 use Rattle.displib_reader.specs.declared.fault.ProblemNo.TheVariants as problem_no
-use Rattle.displib_reader.specs.Outcome.{IsReadAs, IsRefused}
+use Rattle.displib_reader.specs.Outcome.{IsRefused}
 use Rattle.displib_reader.specs.Why.{why_text}
 use Rattle.solution_text.specs.Why.{solution_why_text}
 use Rattle.solution_text.specs.Reading.{IsRefusedSolution}
@@ -99,11 +99,11 @@ status_of Memory = 5
 
 -- the name that a task gives for an input
 abbrev pub input_name : Task → Input → Option (List ℕ)
-input_name (Solve problem fixings budget plan) input.Problem = Some problem
-input_name (Solve problem fixings budget plan) input.Solution = None
-input_name (Solve problem fixings budget plan) input.Fixings = fixings
-input_name (Solve problem fixings budget plan) input.Tree = None
-input_name (Solve problem fixings budget plan) input.Plan = None
+input_name (Solve task) input.Problem = Some task.problem
+input_name (Solve task) input.Solution = None
+input_name (Solve task) input.Fixings = task.fixings
+input_name (Solve task) input.Tree = None
+input_name (Solve task) input.Plan = None
 input_name (Verify problem solution fixings) input.Problem = Some problem
 input_name (Verify problem solution fixings) input.Solution = Some solution
 input_name (Verify problem solution fixings) input.Fixings = fixings

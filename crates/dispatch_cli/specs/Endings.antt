@@ -1,5 +1,5 @@
 -- How a run of the program ends.
-use Rattle.std.specs.Prelude.{◌≡◌, ◌≢◌, ◌⊎◌, ℕ, ◌<◌, ◌≤◌, List, [], Option, Some, None}
+use Rattle.std.specs.Prelude.{◌≡◌, ◌≢◌, ◌⊎◌, ℕ, ◌<◌, ◌≤◌, List, [], ◌∷◌, ◌++◌, Option}
 use Rattle.std.specs.List.{concat}
 use Rattle.disp_outside.specs.Sink.{WritesPart}
 use Rattle.disp_model.specs.declared.entry.Entry.{Entry}
@@ -8,18 +8,48 @@ use Rattle.dispatch_cli.specs.declared.answer.Put.{Put}
 use Rattle.dispatch_cli.specs.declared.cause.Cause.{Cause}
 use Rattle.dispatch_cli.specs.declared.cause.Cause.TheVariants.{Failed, Memory}
 use Rattle.dispatch_cli.specs.declared.cause.Input.{Input}
-use Rattle.dispatch_cli.specs.Outside.{Outside, Holdings, Counts, Writes}
-use Rattle.dispatch_cli.specs.Answers.{IsAnswer, IsPut, IsDuePut, PutsUnder}
+use Rattle.dispatch_cli.specs.Outside.{Outside, Holdings, HoldsBytes, Counts, Writes}
+use Rattle.dispatch_cli.specs.Answers.{IsAnswer, IsDuePut, PutsUnder}
 use Rattle.dispatch_cli.specs.Causes.{StopsRun, IsReadingFault, line_of, due_line, status_of}
 
--- status 0 or 1: what was to be put is held, and the lines of the answer were written
+-- what names hold behind these puts, one after the other, as far as is told: each put's name its bytes,
+-- unless a later one is under the same name
+abbrev pub HoldTexts : List Put → Holdings → Type 0
+HoldTexts [] holds = Unit {0}
+HoldTexts (put ∷ puts) holds =
+    ((PutsUnder put.name puts → ⊥) → HoldsBytes holds put.name put.bytes) × HoldTexts puts holds
+
+-- and every other name what it held
+pub record StandsAfter (puts : List Put) (old new : Holdings) : Type 0 where
+  pub texts : HoldTexts puts new
+  pub others : (name : List ℕ) → (PutsUnder name puts → ⊥) → new name ≡ old name
+
+-- so many of these puts were done
+pub record PutsSome (puts : List Put) (old new : Holdings) : Type 0 where
+  pub done : List Put
+  pub put : Put
+  pub rest : List Put
+  pub parts : puts ≡ done ++ put ∷ rest
+  pub stands : StandsAfter done old new
+
+-- and the next one failed, which was counted under its name: there may be anything now, and all other
+-- names hold what they held before it
+pub record PutMisses (puts : List Put) (old new : Holdings) (old_counts new_counts : Counts) :
+    Type 0 where
+  pub before : Holdings
+  pub some : PutsSome puts old before
+  pub held : (name : List ℕ) → name ≢ some.put.name → new name ≡ before name
+  pub fault : old_counts some.put.name < new_counts some.put.name
+  pub counts : (name : List ℕ) → name ≢ some.put.name → new_counts name ≡ old_counts name
+
+-- status 0, 1 or 3: what was to be put is held, and the lines of the answer were written
 pub record EndsAnswered (words : List (List ℕ)) (old new : Outside) (status : ℕ) (journal : List Entry) : Type 0 where
   pub answer : Answer
   pub is_answer : IsAnswer words old.holds answer
   pub status_is : status ≡ answer.status
   pub journal_is : journal ≡ answer.journal
   pub written : Writes old.written new.written (concat answer.lines)
-  pub put : IsPut answer.put new.holds
+  pub puts : StandsAfter answer.puts old.holds new.holds
 
 -- every name holds what it held, and no putting failed
 pub record PutsNothing (old new : Outside) : Type 0 where
@@ -49,14 +79,12 @@ pub record CannotRead (words : List (List ℕ)) (old new : Outside) (journal : L
 abbrev pub ReadsWell : Outside → Outside → Type 0
 ReadsWell old new = (name : List ℕ) → new.reading name ≡ old.reading name
 
--- the plan could not be put, and nothing was written
+-- something could not be put, and nothing was put or written behind it
 pub record CannotPut (words : List (List ℕ)) (old new : Outside) (journal : List Entry) : Type 0 where
   pub answer : Answer
   pub is_answer : IsAnswer words old.holds answer
   pub journal_is : journal ≡ answer.journal
-  pub put : Put
-  pub put_is : answer.put ≡ Some put
-  pub fault : old.putting put.name < new.putting put.name
+  pub misses : PutMisses answer.puts old.holds new.holds old.putting new.putting
   pub nothing : new.written ≡ old.written
   pub counted : new.faults ≡ old.faults
   pub read : ReadsWell old new
@@ -66,7 +94,7 @@ pub record CannotWrite (words : List (List ℕ)) (old new : Outside) (journal : 
   pub answer : Answer
   pub is_answer : IsAnswer words old.holds answer
   pub journal_is : journal ≡ answer.journal
-  pub put : IsPut answer.put new.holds
+  pub puts : StandsAfter answer.puts old.holds new.holds
   pub fault : old.faults < new.faults
   pub part : WritesPart old.written new.written (concat answer.lines)
   pub read : ReadsWell old new
@@ -75,27 +103,22 @@ pub record CannotWrite (words : List (List ℕ)) (old new : Outside) (journal : 
 abbrev pub EndsFailed : List (List ℕ) → Outside → Outside → List Entry → Type 0
 EndsFailed words old new journal = CannotRead words old new journal ⊎ (CannotPut words old new journal ⊎ CannotWrite words old new journal)
 
--- there is something to put, and its name holds what it held
-abbrev pub PutKeeps : Option Put → Holdings → Holdings → Type 0
-PutKeeps None old new = ⊥
-PutKeeps (Some put) old new = new put.name ≡ old put.name
-
 -- the lines of an answer are due, and what was to be put is held
 pub record IsDueAnswer (words : List (List ℕ)) (old new : Outside) (text : List ℕ) (journal : List Entry) : Type 0 where
   pub answer : Answer
   pub is_answer : IsAnswer words old.holds answer
   pub text_is : text ≡ concat answer.lines
   pub journal_is : journal ≡ answer.journal
-  pub put : IsPut answer.put new.holds
+  pub puts : StandsAfter answer.puts old.holds new.holds
   pub read : ReadsWell old new
 
--- nothing is due, since what was to be put of an answer is not, and its name holds what it held
+-- nothing is due, since not all that was to be put of an answer is
 pub record IsDueUnput (words : List (List ℕ)) (old new : Outside) (text : List ℕ) (journal : List Entry) : Type 0 where
   pub answer : Answer
   pub is_answer : IsAnswer words old.holds answer
   pub text_is : text ≡ []
   pub journal_is : journal ≡ answer.journal
-  pub kept : PutKeeps answer.put old.holds new.holds
+  pub some : PutsSome answer.puts old.holds new.holds
   pub read : ReadsWell old new
 
 -- the line for what stopped the run is due, or nothing where that was want of memory
@@ -150,26 +173,24 @@ pub record Halts (old_faults new_faults : ℕ) (old new : Option (List ℕ)) (ca
 
 -- a putting failed, and nothing was written
 pub record PutFails (answer : Answer) (old new : Outside) : Type 0 where
-  pub put : Put
-  pub put_is : answer.put ≡ Some put
-  pub fault : old.putting put.name < new.putting put.name
+  pub misses : PutMisses answer.puts old.holds new.holds old.putting new.putting
   pub nothing : new.written ≡ old.written
   pub counted : new.faults ≡ old.faults
 
 -- what was to be put is held, and a write failed
 pub record WriteFails (answer : Answer) (old new : Outside) : Type 0 where
-  pub put : IsPut answer.put new.holds
+  pub puts : StandsAfter answer.puts old.holds new.holds
   pub fault : old.faults < new.faults
   pub part : WritesPart old.written new.written (concat answer.lines)
 
 -- what was to be put is held, and memory ran out
 pub record WriteGivesUp (answer : Answer) (old new : Outside) : Type 0 where
-  pub put : IsPut answer.put new.holds
+  pub puts : StandsAfter answer.puts old.holds new.holds
   pub writes : WritesThenGivesUp old.written new.written (concat answer.lines)
 
 -- memory ran out at the putting
 pub record PutGivesUp (answer : Answer) (old new : Outside) : Type 0 where
-  pub kept : PutKeeps answer.put old.holds new.holds
+  pub some : PutsSome answer.puts old.holds new.holds
   pub writes : WritesThenGivesUp old.written new.written []
 
 -- how the putting and the writing of an answer end
@@ -177,19 +198,14 @@ pub record Publishes (answer : Answer) (old new : Outside) (status : ℕ) : Type
   pub counted : old.faults ≤ new.faults
   pub statuses : (status ≡ answer.status) ⊎ ((status ≡ 4) ⊎ (status ≡ 5))
   pub written : status ≢ 4 → status ≢ 5 → Writes old.written new.written (concat answer.lines)
-  pub put : status ≢ 4 → status ≢ 5 → IsPut answer.put new.holds
+  pub puts : status ≢ 4 → status ≢ 5 → StandsAfter answer.puts old.holds new.holds
   pub quiet : status ≢ 4 → status ≢ 5 → new.faults ≡ old.faults
   pub failed : status ≡ 4 → PutFails answer old new ⊎ WriteFails answer old new
   pub memory : status ≡ 5 → WriteGivesUp answer old new ⊎ PutGivesUp answer old new
 
--- a name of which nothing is put keeps its count of failed puttings, and what it holds; its count never falls, and rises
--- only where a putting failed
-pub record PutsOnly (put : Option Put) (old_holds new_holds : Holdings) (old_counts new_counts : Counts) (name : List ℕ) : Type 0 where
+-- a name under which nothing is put keeps its count of failed puttings, and what it holds; its count
+-- never falls
+pub record PutsOnly (puts : List Put) (old_holds new_holds : Holdings) (old_counts new_counts : Counts) (name : List ℕ) : Type 0 where
   pub never_falls : old_counts name ≤ new_counts name
-  pub stays : (PutsUnder name put → ⊥) → new_counts name ≡ old_counts name
-  pub held : (PutsUnder name put → ⊥) → new_holds name ≡ old_holds name
-
--- the putting failed, and it was counted under its name
-abbrev pub PutMisses : Option Put → Counts → Counts → Type 0
-PutMisses None old new = ⊥
-PutMisses (Some put) old new = old put.name < new put.name
+  pub stays : (PutsUnder name puts → ⊥) → new_counts name ≡ old_counts name
+  pub held : (PutsUnder name puts → ⊥) → new_holds name ≡ old_holds name

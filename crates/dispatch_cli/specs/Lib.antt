@@ -1,6 +1,7 @@
 pub mod Outside
 pub mod Files
 pub mod Texts
+pub mod Settled
 pub mod Answers
 pub mod Causes
 pub mod Endings

@@ -9,8 +9,10 @@ use Rattle.disp_model.specs.declared.problem.Problem.{Problem}
 use Rattle.solution_text.specs.Texts.{solution_text}
 use Rattle.solution_verifier.specs.declared.fault.Fault.{Fault}
 use Rattle.solution_verifier.specs.FaultText.{with_numbers, fault_text}
+use Rattle.disp_model.specs.declared.tree.TreeNode.{TreeNode}
 use Rattle.disp_model.specs.declared.tree.Verdict.{Verdict}
 use Rattle.disp_model.specs.declared.tree.Verdict.TheVariants as verdict
+use Rattle.tree_certificate.specs.TreeTexts.{tree_text}
 use Rattle.tree_checker.specs.declared.why.Why.{Why}
 use Rattle.tree_checker.specs.declared.why.Why.TheVariants.{BadName, BadChoice, HasRoute, NotCycle, EmptyWalk, NotForced, BadArc, NotLate, RepeatedComponent, RepeatedTrain, WrongTrain, WrongEnd, NoVerdict, BelowCost}
 
@@ -21,6 +23,10 @@ line text = text ++ codes "\n"
 -- the solution of a plan with its cost, as a file or a line
 abbrev pub plan_line : List Event × ℕ → List ℕ
 plan_line plan = line (solution_text plan.0 plan.1)
+
+-- the text of the tree of an edition, as a file
+abbrev pub tree_file : ℕ → Verdict × List TreeNode → List ℕ
+tree_file edition settled = tree_text edition settled.0 settled.1
 
 -- the line of a plan, where there is one
 abbrev pub plan_lines : Option (List Event × ℕ) → List (List ℕ)

@@ -14,8 +14,8 @@ pub struct Put {
 pub struct Answer {
     /// The history of the search.
     pub journal: List<Entry>,
-    /// What is to be put before the lines are written, if anything.
-    pub put: Option<Put>,
+    /// What is to be put before the lines are written, in this order.
+    pub puts: List<Put>,
     /// The lines to be written, each with its end.
     pub lines: List<List<u8>>,
     /// The status with which the program is to end.

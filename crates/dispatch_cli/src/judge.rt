@@ -16,7 +16,7 @@ pub(crate) fn one_line(alloc: Global, line: List<u8>, status: u8) -> Result<Answ
     lines.push(line)?;
     Ok(Answer {
         journal: List::new(alloc),
-        put: None,
+        puts: List::new(alloc),
         lines,
         status,
     })

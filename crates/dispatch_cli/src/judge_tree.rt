@@ -22,7 +22,7 @@ fn two_lines(alloc: Global, first: List<u8>, second: List<u8>, status: u8) -> Re
     lines.push(second)?;
     Ok(Answer {
         journal: List::new(alloc),
-        put: None,
+        puts: List::new(alloc),
         lines,
         status,
     })

@@ -12,6 +12,7 @@ mod cause;
 mod check;
 mod done;
 mod input;
+mod journal;
 mod judge;
 mod judge_tree;
 mod lines;

@@ -1,8 +1,8 @@
-ghost use Rattle.std.specs.Prelude.{◌≡◌, ◌≢◌, ◌≤◌, ◌<◌, ◌⊎◌, ℕ, List, IsOk, IsErrOf, option_map, map, string_bytes};
+ghost use Rattle.std.specs.Prelude.{◌≡◌, ◌≢◌, ◌≤◌, ◌<◌, ◌⊎◌, ℕ, List, OnOk, IsErrOf, map, string_bytes};
 ghost use Rattle.dispatch_cli.specs.Outside.{FailsOfOne, outside};
-ghost use Rattle.dispatch_cli.specs.Answers.{IsPut, IsDuePut};
+ghost use Rattle.dispatch_cli.specs.Answers.{IsDuePut};
 ghost use Rattle.dispatch_cli.specs.Causes.{CountsReading, IsAnswerStatus};
-ghost use Rattle.dispatch_cli.specs.Endings.{EndsAnswered, EndsRefused, EndsFailed, GivesUp, CountsPutting, Publishes, PutsOnly, PutMisses, PutKeeps};
+ghost use Rattle.dispatch_cli.specs.Endings.{EndsAnswered, EndsRefused, EndsFailed, GivesUp, CountsPutting, Publishes, PutsOnly, PutMisses, PutsSome, StandsAfter};
 
 use crate::answer::{Answer, Put};
 use crate::done::Done;
@@ -11,26 +11,26 @@ use crate::run::run;
 use disp_outside::{Gate, PutNo, Shelf, Sink};
 use std::alloc::Global;
 
-/// Puts what is to be put.
-fn put<S: Shelf>(alloc: Global, shelf: &mut S, put: Option<&Put>) -> Result<(), PutNo>
-    ensures ok { IsOk result → IsPut (option_map (λ p. p.now) put.entry) (S.holds shelf.new) }
+/// Puts one text after the other, up to the first that is not put.
+fn put_all<S: Shelf>(alloc: Global, shelf: &mut S, puts: &[Put]) -> Result<(), PutNo>
+    ensures ok { OnOk result (StandsAfter puts.now (S.holds shelf.old) (S.holds shelf.new)) }
     ensures failed { IsErrOf result PutNo.Failed
-        → PutMisses (option_map (λ p. p.now) put.entry) (S.putting_faults shelf.old)
-        (S.putting_faults shelf.new) }
+        → PutMisses puts.now (S.holds shelf.old) (S.holds shelf.new)
+        (S.putting_faults shelf.old) (S.putting_faults shelf.new) }
     ensures memory { IsErrOf result PutNo.Memory
-        → PutKeeps (option_map (λ p. p.now) put.entry) (S.holds shelf.old) (S.holds shelf.new) }
+        → PutsSome puts.now (S.holds shelf.old) (S.holds shelf.new) }
     ensures risen { (name : List ℕ) → S.putting_faults shelf.old name
         < S.putting_faults shelf.new name → IsErrOf result PutNo.Failed }
     ensures others { (name : List ℕ)
-        → PutsOnly (option_map (λ p. p.now) put.entry) (S.holds shelf.old) (S.holds shelf.new)
+        → PutsOnly puts.now (S.holds shelf.old) (S.holds shelf.new)
         (S.putting_faults shelf.old) (S.putting_faults shelf.new) name }
     ensures readings { (name : List ℕ) → S.reading_faults shelf.new name
         ≡ S.reading_faults shelf.old name }
 {
-    match put {
-        Some(put) => shelf.put(alloc, put.name.as_str(), put.bytes.as_slice()),
-        None => Ok(()),
+    for due in puts {
+        shelf.put(alloc, due.name.as_str(), due.bytes.as_slice())?;
     }
+    Ok(())
 }
 
 /// Puts what is to be put, and then writes the lines of an answer.
@@ -44,12 +44,12 @@ fn publish<S: Shelf, O: Sink>(alloc: Global, shelf: &mut S, out: &mut O, answer:
     ensures risen { (name : List ℕ) → S.putting_faults shelf.old name
         < S.putting_faults shelf.new name → result ≡ 4 }
     ensures others { (name : List ℕ)
-        → PutsOnly answer.now.put (S.holds shelf.old) (S.holds shelf.new)
+        → PutsOnly answer.now.puts (S.holds shelf.old) (S.holds shelf.new)
         (S.putting_faults shelf.old) (S.putting_faults shelf.new) name }
     ensures readings { (name : List ℕ) → S.reading_faults shelf.new name
         ≡ S.reading_faults shelf.old name }
 {
-    match put(alloc, shelf, answer.put.as_ref()) {
+    match put_all(alloc, shelf, answer.puts.as_slice()) {
         Ok(()) => finish(out, answer.lines.as_slice(), answer.status),
         Err(PutNo::Failed) => 4,
         Err(PutNo::Memory) => give_up(out),
@@ -61,15 +61,16 @@ fn publish<S: Shelf, O: Sink>(alloc: Global, shelf: &mut S, out: &mut O, answer:
 /// `solve PROBLEM` reads the file of that name from the shelf, with `--fixings F` what the lines of
 /// another ask for, and searches with at most so many branchings as `--budget B` says. It writes to
 /// the sink the edition, the verdict, and the best plan, where there is one, one line each; with
-/// `--plan OUT` that plan is put under that name before. What is refused is told in one line; for
-/// refused words that is clap's text. `verify PROBLEM SOLUTION` judges a solution, and `check
+/// `--plan OUT` that plan is put under that name before, and with `--tree OUT` the tree that shows
+/// the verdict, where the search came to one. What is refused is told in one line; for refused
+/// words that is clap's text. `verify PROBLEM SOLUTION` judges a solution, and `check
 /// PROBLEM TREE` a tree and, with `--plan P`, a plan behind it; both read fixings with `--fixings
 /// F`. The gate is not used so far.
 ///
 /// The status is 0 where a plan of least cost was found, a solution is valid or a tree is accepted,
 /// 1 where no plan is valid, a solution has a fault, or a tree is refused, 2 where the words or a
 /// file are refused, 3 where the budget is spent before the search ended, 4 where a reading of a
-/// file, the putting of the plan or a write failed, and 5 where memory ran out.
+/// file, a putting of the plan or the tree, or a write failed, and 5 where memory ran out.
 pub fn dispatch<R, S: Shelf, O: Sink, G: Gate>(
     _rt: &R,
     alloc: Global,
@@ -82,7 +83,8 @@ pub fn dispatch<R, S: Shelf, O: Sink, G: Gate>(
         ⊎ ((result.status ≡ 2) ⊎ ((result.status ≡ 4) ⊎ (result.status ≡ 5))) }
 
     // An answer's journal is legal; an optimal plan is valid and none costs less; an infeasible
-    // problem has no valid plan; where it is unfinished the whole budget is spent.
+    // problem has no valid plan; the tree that is put shows that; where it is unfinished the whole
+    // budget is spent.
     ensures answered { IsAnswerStatus result.status
         → EndsAnswered (map (λ word. string_bytes word) words.now)
         (outside (S.holds shelf.old) (S.reading_faults shelf.old) (S.putting_faults shelf.old)

@@ -10,7 +10,7 @@ use crate::check::run_check;
 use crate::input::{asked_of, fixings_file, problem_file, solution_file};
 use crate::judge::judge;
 use crate::solve::solve;
-use command_words::{Task, WordsNo, read_words};
+use command_words::{SolveTask, Task, WordsNo, read_words};
 use disp_model::{Fixing, Problem, Text};
 use disp_outside::Shelf;
 use std::alloc::Global;
@@ -32,52 +32,38 @@ fn solve_with<S: Shelf>(
     alloc: Global,
     shelf: &mut S,
     problem: &Problem,
-    fixings: Option<&Text>,
-    budget: u32,
-    plan: Option<&Text>,
+    task: &SolveTask,
 ) -> Result<Answer, Cause>
-    ensures ok { IfOk result
-        (IsSolvedWith (S.holds shelf.old) problem.now budget
-        (option_map (λ name. name.now) fixings.entry) (option_map (λ name. name.now) plan.entry)) }
+    ensures ok { IfOk result (IsSolvedWith (S.holds shelf.old) problem.now task.now) }
     ensures no { IfErr result
         (StopsGivenFixings (S.holds shelf.old) (S.reading_faults shelf.old)
-        (S.reading_faults shelf.new) problem.now (option_map (λ name. name.now) fixings.entry)) }
+        (S.reading_faults shelf.new) problem.now task.now.fixings) }
     ensures status { IfOk result (λ answer. IsAnswerStatus answer.status) }
-    ensures reads { ReadsNames (IsGiven (option_map (λ name. name.now) fixings.entry))
+    ensures reads { ReadsNames (IsGiven task.now.fixings)
         (S.reading_faults shelf.old) (S.reading_faults shelf.new) (S.putting_faults shelf.old)
         (S.putting_faults shelf.new) (S.holds shelf.old) (S.holds shelf.new)
         (IsErrAnd result IsReadingFault) }
 {
-    match asked_of(alloc, shelf, problem, fixings) {
-        Ok(asked) => solve(alloc, problem, budget, asked.as_slice(), plan),
+    match asked_of(alloc, shelf, problem, task.fixings.as_ref()) {
+        Ok(asked) => solve(alloc, problem, asked.as_slice(), task),
         Err(cause) => Err(cause),
     }
 }
 
 /// Solves the problem of a file with the fixings of another.
-fn run_solve<S: Shelf>(
-    alloc: Global,
-    shelf: &mut S,
-    problem: &Text,
-    fixings: Option<&Text>,
-    budget: u32,
-    plan: Option<&Text>,
-) -> Result<Answer, Cause>
-    ensures ok { IfOk result
-        (AnswersSolve (S.holds shelf.old) problem.now (option_map (λ name. name.now) fixings.entry)
-        budget (option_map (λ name. name.now) plan.entry)) }
+fn run_solve<S: Shelf>(alloc: Global, shelf: &mut S, task: &SolveTask) -> Result<Answer, Cause>
+    ensures ok { IfOk result (AnswersSolve (S.holds shelf.old) task.now) }
     ensures no { IfErr result
         (StopsSolve (S.holds shelf.old) (S.reading_faults shelf.old) (S.reading_faults shelf.new)
-        problem.now (option_map (λ name. name.now) fixings.entry)) }
+        task.now.problem task.now.fixings) }
     ensures status { IfOk result (λ answer. IsAnswerStatus answer.status) }
-    ensures reads { ReadsNames
-        (IsProblemOrFixings problem.now (option_map (λ name. name.now) fixings.entry))
+    ensures reads { ReadsNames (IsProblemOrFixings task.now.problem task.now.fixings)
         (S.reading_faults shelf.old) (S.reading_faults shelf.new) (S.putting_faults shelf.old)
         (S.putting_faults shelf.new) (S.holds shelf.old) (S.holds shelf.new)
         (IsErrAnd result IsReadingFault) }
 {
-    match problem_file(alloc, shelf, problem.as_str()) {
-        Ok(problem) => solve_with(alloc, shelf, &problem, fixings, budget, plan),
+    match problem_file(alloc, shelf, task.problem.as_str()) {
+        Ok(problem) => solve_with(alloc, shelf, &problem, task),
         Err(cause) => Err(cause),
     }
 }
@@ -201,15 +187,7 @@ fn run_task<S: Shelf>(alloc: Global, shelf: &mut S, task: &Task) -> Result<Answe
     ensures held { (name : List ℕ) → S.holds shelf.new name ≡ S.holds shelf.old name }
 {
     match task {
-        Task::Solve {
-            problem,
-            fixings,
-            budget,
-            plan,
-        } => {
-            let (fixings, plan) = (fixings.as_ref(), plan.as_ref());
-            run_solve(alloc, shelf, problem, fixings, *budget, plan)
-        }
+        Task::Solve(task) => run_solve(alloc, shelf, task),
         Task::Verify {
             problem,
             solution,

@@ -1,55 +1,26 @@
-ghost use Rattle.std.specs.Prelude.{◌≡◌, ◌≢◌, ◌∷◌, ◌++◌, ℕ, List, [], IfOk, IfErr, option_map};
+ghost use Rattle.std.specs.Prelude.{◌≡◌, ◌≢◌, ◌∷◌, ◌++◌, List, [], OnOk, IfOk, IfErr, option_map};
+ghost use Rattle.command_words.specs.Settings.{settings_of};
 ghost use Rattle.disp_model.specs.declared.entry.Mark.TheVariants.{Working};
 ghost use Rattle.disp_model.specs.declared.fixing.Change.{Change as ChangeOf};
 ghost use Rattle.disp_model.specs.declared.problem.Problem.{Problem as ProblemOf};
-ghost use Rattle.disp_model.specs.History.{newest, mark_of, plan_after, last_plan};
+ghost use Rattle.disp_model.specs.History.{newest, mark_of};
 ghost use Rattle.solved_problems.specs.Solved.{IsSearched, MayBeAsked};
-ghost use Rattle.dispatch_cli.specs.Answers.{IsSolved, best_plan, put_of, fixed_settings, status_of_mark};
+ghost use Rattle.dispatch_cli.specs.Answers.{IsSolved, put_under, puts_of, status_of_mark};
 ghost use Rattle.dispatch_cli.specs.Causes.{IsAnswerStatus, IsWant};
-ghost use Rattle.dispatch_cli.specs.Texts.{edition_line, plan_lines, answer_lines};
+ghost use Rattle.dispatch_cli.specs.Texts.{edition_line, plan_line, plan_lines, answer_lines, tree_file};
 
 use crate::answer::{Answer, Put};
 use crate::cause::Cause;
+use crate::journal::{best_plan, settled_tree};
 use crate::lines::{edition_line, infeasible_line, optimal_line, plan_line, unfinished_line};
+use command_words::SolveTask;
 use disp_model::{
-    Change, Copied, Entry, List, Mark, Memory, Plan, Problem, Rule, Settings, Standing, Text,
+    Change, Copied, List, Mark, Memory, Plan, Problem, Standing, Text, Tree, Verdict,
 };
 use dispatch_core::Core;
 use solved_problems::solve as solve_problem;
 use std::alloc::Global;
-
-/// A plan and its cost, of this entry or of those before it.
-fn plan_after<'a>(before: Option<(&'a Plan, u64)>, entry: &'a Entry) -> Option<(&'a Plan, u64)>
-    ensures { option_map (λ p. (p.0.now, p.1)) result
-        ≡ plan_after (option_map (λ p. (p.0.now, p.1)) before.entry) entry.now }
-{
-    match entry {
-        Entry::Published { plan, cost, .. } => Some((plan, *cost)),
-        _ => before,
-    }
-}
-
-/// The last published plan, and its cost.
-fn last_plan(journal: &[Entry]) -> Option<(&Plan, u64)>
-    ensures { option_map (λ p. (p.0.now, p.1)) result ≡ last_plan journal.now }
-{
-    let mut last = None;
-    for entry in journal {
-        last = plan_after(last, entry);
-    }
-    last
-}
-
-/// The plan of the best cost, where there is one.
-fn best_plan<'a>(standing: &Standing, journal: &'a [Entry]) -> Option<(&'a Plan, u64)>
-    ensures { option_map (λ p. (p.0.now, p.1)) result
-        ≡ best_plan standing.now (last_plan journal.now) }
-{
-    match standing.best {
-        Some(_) => last_plan(journal),
-        None => None,
-    }
-}
+use tree_certificate::write_tree;
 
 /// The lines of an edition, of its verdict, and of a plan where there is one.
 fn lines_with(
@@ -91,22 +62,72 @@ fn lines_of(
     }
 }
 
-/// What is to be put of a plan.
-fn put_of(
+/// Adds what is to be put of a plan, where it is asked for and there is one.
+fn push_plan(
     alloc: Global,
+    puts: &mut List<Put>,
     name: Option<&Text>,
     plan: Option<(&Plan, u64)>,
-) -> Result<Option<Put>, Memory>
-    ensures { IfOk result (λ put. put ≡ put_of (option_map (λ n. n.now) name.entry)
-        (option_map (λ p. (p.0.now, p.1)) plan.entry)) }
+) -> Result<(), Memory>
+    ensures { OnOk result
+        (puts.new ≡ puts.old ++ put_under (option_map (λ n. n.now) name.entry)
+        (option_map plan_line (option_map (λ p. (p.0.now, p.1)) plan.entry))) }
 {
     match (name, plan) {
-        (Some(name), Some((plan, cost))) => Ok(Some(Put {
+        (Some(name), Some((plan, cost))) => puts.push(Put {
             name: name.copy()?,
             bytes: plan_line(alloc, plan.as_slice(), cost)?,
-        })),
-        _ => Ok(None),
+        }),
+        _ => Ok(()),
     }
+}
+
+/// The text of the tree of an edition, as a file.
+fn tree_file(alloc: Global, edition: u32, verdict: Verdict, tree: &Tree) -> Result<List<u8>, Memory>
+    ensures { IfOk result (λ bytes. bytes ≡ tree_file edition (verdict, tree.now)) }
+{
+    let text = write_tree(alloc, edition, &verdict, tree)?;
+    let bytes = text.as_str().as_bytes().to_vec(alloc)?;
+    Ok(List::from_vec(bytes))
+}
+
+/// Adds what is to be put of a tree, where it is asked for and there is one.
+fn push_tree(
+    alloc: Global,
+    puts: &mut List<Put>,
+    name: Option<&Text>,
+    edition: u32,
+    settled: Option<(Verdict, &Tree)>,
+) -> Result<(), Memory>
+    ensures { OnOk result
+        (puts.new ≡ puts.old ++ put_under (option_map (λ n. n.now) name.entry)
+        (option_map (tree_file edition) (option_map (λ s. (s.0, s.1.now)) settled.entry))) }
+{
+    match (name, settled) {
+        (Some(name), Some((verdict, tree))) => puts.push(Put {
+            name: name.copy()?,
+            bytes: tree_file(alloc, edition, verdict, tree)?,
+        }),
+        _ => Ok(()),
+    }
+}
+
+/// What is to be put: the plan, and behind it the tree.
+fn puts_of(
+    alloc: Global,
+    task: &SolveTask,
+    edition: u32,
+    plan: Option<(&Plan, u64)>,
+    settled: Option<(Verdict, &Tree)>,
+) -> Result<List<Put>, Memory>
+    ensures { IfOk result (λ puts. puts ≡ puts_of task.now edition
+        (option_map (λ p. (p.0.now, p.1)) plan.entry)
+        (option_map (λ s. (s.0, s.1.now)) settled.entry)) }
+{
+    let mut puts = List::new(alloc);
+    push_plan(alloc, &mut puts, task.plan.as_ref(), plan)?;
+    push_tree(alloc, &mut puts, task.tree.as_ref(), edition, settled)?;
+    Ok(puts)
 }
 
 /// The status for a mark.
@@ -124,21 +145,22 @@ fn status_of(mark: Mark) -> u8
 }
 
 /// The answer for a core whose newest edition is closed.
-fn answer_of(alloc: Global, core: Core, plan: Option<&Text>) -> Result<Answer, Memory>
+fn answer_of(alloc: Global, core: Core, task: &SolveTask) -> Result<Answer, Memory>
     requires closed { mark_of (newest core.history) core.history ≢ Working }
-    ensures ok { (problem : ProblemOf) (budget : ℕ) (asked : List ChangeOf)
-        → core.problem ≡ problem → IsSearched problem (fixed_settings budget) asked core.history
-        → IfOk result (IsSolved problem budget asked (option_map (λ n. n.now) plan.entry)) }
+    ensures ok { (problem : ProblemOf) (asked : List ChangeOf) → core.problem ≡ problem
+        → IsSearched problem (settings_of task.now) asked core.history
+        → IfOk result (IsSolved problem task.now asked) }
     ensures status { IfOk result (λ answer. IsAnswerStatus answer.status) }
 {
     let standing = core.standing();
     let journal = core.into_history();
     let best = best_plan(&standing, journal.as_slice());
+    let settled = settled_tree(standing.edition, journal.as_slice());
     let lines = lines_of(alloc, &standing, best)?;
-    let put = put_of(alloc, plan, best)?;
+    let puts = puts_of(alloc, task, standing.edition, best, settled)?;
     Ok(Answer {
         journal: List::from_vec(journal),
-        put,
+        puts,
         lines,
         status: status_of(standing.mark),
     })
@@ -148,20 +170,14 @@ fn answer_of(alloc: Global, core: Core, plan: Option<&Text>) -> Result<Answer, M
 pub(crate) fn solve(
     alloc: Global,
     problem: &Problem,
-    budget: u32,
     asked: &[Change],
-    plan: Option<&Text>,
+    task: &SolveTask,
 ) -> Result<Answer, Cause>
     requires { MayBeAsked problem.now [] asked.now }
-    ensures ok { IfOk result
-        (IsSolved problem.now budget asked.now (option_map (λ n. n.now) plan.entry)) }
+    ensures ok { IfOk result (IsSolved problem.now task.now asked.now) }
     ensures no { IfErr result IsWant }
     ensures status { IfOk result (λ answer. IsAnswerStatus answer.status) }
 {
-    let settings = Settings {
-        budget,
-        rule: Rule::Fixed,
-    };
-    let core = solve_problem(alloc, problem, settings, asked)?;
-    Ok(answer_of(alloc, core, plan)?)
+    let core = solve_problem(alloc, problem, task.settings(), asked)?;
+    Ok(answer_of(alloc, core, task)?)
 }

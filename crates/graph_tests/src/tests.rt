@@ -1,3 +1,4 @@
 mod arcs;
 mod choices;
 mod graphs;
+mod leaves;

@@ -1,6 +1,7 @@
 //! The cell.
 ghost use Rattle.std.specs.Prelude.{◌≡◌};
 
+use crate::packing::{NEWEST, OPENING};
 use crate::pass::{CellPass, Known};
 use crate::{Memory, answer_of, code_of};
 use atomic_table::{Join, Play, Split, Table, TableRule};
@@ -60,9 +61,6 @@ pub struct Least<A: Allocator = Global> {
     ghost no_slot: { table.shared.table_id.slots ≡ 0 },
 }
 
-// A new cell: edition 0, and no cost.
-const OPENING: u64 = (1 << 63) - 1;
-
 impl<A: Allocator> Least<A> {
     ghost use Rattle.std.specs.Prelude.{◌≡◌, ℕ, ◌≤◌, IfOk};
     ghost use Rattle.incumbent_cell.specs.Code.{packed, edition_in, code_cost};
@@ -104,7 +102,7 @@ impl<A: Allocator> Least<A> {
     /// Makes the cell's code the least of itself and the code of this cost, in one step.
     pub fn put(&self, pass: &mut CellPass, edition: u32, cost: u64)
         requires cell { own_cell pass.old ≡ cell_of self.now }
-        requires edition { edition ≤ 65535 }
+        requires edition { edition ≤ NEWEST }
         ensures cell { own_cell pass.new ≡ own_cell pass.old }
         ensures known { known pass.new ≡ with_put (known pass.old) (packed edition cost) }
     {

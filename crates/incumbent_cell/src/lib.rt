@@ -7,6 +7,7 @@
 #![tactic(auto)]
 
 mod cell;
+pub mod laws;
 mod packing;
 mod pass;
 

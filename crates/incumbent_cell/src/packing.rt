@@ -9,14 +9,18 @@ pub const NEWEST: u32 = 65535;
 /// From this cost on, 2^47 - 1, a code tells no cost from another.
 pub const SATURATED: u64 = (1 << 47) - 1;
 
-const SPAN: u64 = 1 << 47;
+/// The codes of one edition.
+pub(crate) const SPAN: u64 = 1 << 47;
+
+/// The code of a new cell: edition 0, and no cost.
+pub(crate) const OPENING: u64 = (1 << 63) - 1;
 
 /// The code of a cost in an edition.
 pub fn code_of(edition: u32, cost: u64) -> u64
-    requires { edition ≤ 65535 }
+    requires { edition ≤ NEWEST }
     ensures value { result ≡ packed edition cost }
     ensures bound { result < 2 ^ 63 }
-    ensures order { (other_edition other_cost : ℕ) → other_edition ≤ 65535
+    ensures order { (other_edition other_cost : ℕ) → other_edition ≤ NEWEST
         → (result ≤ packed other_edition other_cost)
         ↔ IsNoWorse edition cost other_edition other_cost }
 {
@@ -27,7 +31,7 @@ pub fn code_of(edition: u32, cost: u64) -> u64
 pub fn answer_of(code: u64) -> (u32, Option<u64>)
     requires { code < 2 ^ 63 }
     ensures value { result ≡ (edition_in code, code_cost code) }
-    ensures undoes { (edition cost : ℕ) → edition ≤ 65535 → code ≡ packed edition cost → result
+    ensures undoes { (edition cost : ℕ) → edition ≤ NEWEST → code ≡ packed edition cost → result
         ≡ (edition, told_cost cost) }
 {
     let cost = code % SPAN;

@@ -1,1 +1,2 @@
+pub mod Reckoned
 pub mod Shown

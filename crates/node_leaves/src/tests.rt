@@ -1,8 +1,8 @@
 // A train of one operation, which may start from 5 on, but until 4 only; and no train at all.
 ghost use Rattle.std.specs.Prelude.{◌≡◌, IfOk};
 
-use crate::{NodeLeaf, child_leaf, leaf_of};
-use disp_model::{Decision, Leaf, List, Memory, Op, Operation, Problem};
+use crate::{NodeLeaf, Reckoning, child_leaf, leaf_of};
+use disp_model::{Decision, Leaf, List, Memory, Op, Operation, Problem, Rule};
 use event_graph::Graph;
 use std::alloc::Global;
 use std::process::Abort;
@@ -44,7 +44,7 @@ fn root<'p>(alloc: Global, problem: &'p Problem) -> Result<Graph<'p>, Fail>
 /// The kind of a leaf, and its bound.
 fn shown(leaf: &NodeLeaf) -> (&'static str, u64) {
     match leaf {
-        NodeLeaf::Open(bound) => ("open", bound.cost),
+        NodeLeaf::Open { bound, .. } => ("open", *bound),
         NodeLeaf::Dead(Leaf::NoRoute) => ("no route", 0),
         NodeLeaf::Dead(Leaf::Cycle(_)) => ("cycle", 0),
         NodeLeaf::Dead(Leaf::Late(_)) => ("late", 0),
@@ -57,13 +57,16 @@ fn check(
     rt: &impl Abort,
     alloc: Global,
     problem: &Problem,
+    rule: Rule,
     wanted: &str,
     skipped: &str,
 ) -> Result<(), Fail> {
     let mut graph = root(alloc, problem)?;
-    assert_eq!(rt; shown(&leaf_of(alloc, problem, &graph)?), (wanted, 0));
+    let reckoning = Reckoning::new(alloc, problem, rule)?;
+    let leaf = leaf_of(alloc, problem, &reckoning, &graph)?;
+    assert_eq!(rt; shown(&leaf), (wanted, 0));
     let decision = Decision::Skip(Op { train: 0, op: 0 });
-    let child = child_leaf(alloc, problem, &mut graph, decision)?;
+    let child = child_leaf(alloc, problem, &reckoning, &mut graph, decision)?;
     assert_eq!(rt; shown(&child), (skipped, 0));
     assert_eq!(rt; graph.decisions().len(), 0);
     Ok(())
@@ -71,6 +74,10 @@ fn check(
 
 #[test]
 fn nodes_are_dead_or_have_bounds(rt: HostRuntime) -> Result<(), Fail> {
-    check(&rt, rt.alloc(), &alone(rt.alloc())?, "late", "no route")?;
-    check(&rt, rt.alloc(), &empty(rt.alloc()), "open", "open")
+    let (train, none) = (alone(rt.alloc())?, empty(rt.alloc()));
+    for rule in [Rule::Fixed, Rule::Free] {
+        check(&rt, rt.alloc(), &train, rule, "late", "no route")?;
+        check(&rt, rt.alloc(), &none, rule, "open", "open")?;
+    }
+    Ok(())
 }

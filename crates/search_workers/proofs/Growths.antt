@@ -6,7 +6,7 @@ use Rattle.std.proofs.lemmas.Option.{none-some, same_Some}
 use Rattle.disp_model.specs.declared.fixing.Fixing.{Fixing}
 use Rattle.disp_model.specs.declared.plan.Event.{Event}
 use Rattle.disp_model.specs.declared.problem.Problem.{Problem}
-use Rattle.disp_model.specs.declared.settings.Rule.TheVariants.{Fixed}
+use Rattle.disp_model.specs.declared.settings.Rule.{Rule}
 use Rattle.disp_model.specs.declared.tree.Leaf.{Leaf as TreeLeaf}
 use Rattle.disp_model.specs.declared.tree.TreeNode.TheVariants.{Leaf}
 use Rattle.disp_model.specs.WellFormed.{horizon}
@@ -41,33 +41,33 @@ plan_within node best bounds plan (changes, edition, standing) ends =
         (within_horizon ends.here reached.0 e.time small ends.earliest.no_cycle reached.3)
 
 -- a leaf that shows that the node is dead
-pub alone_grows : (node : Node) (best : Option ℕ) (allowance bound : ℕ) (leaf : TreeLeaf) → IsDeadLeaf node leaf
-    → (grown : Growth) → grown ≡ growth.Subtree (Leaf leaf ∷ []) (0 ∷ []) None → IsGrownOf node best allowance bound grown
-alone_grows node best allowance bound leaf is grown same =
-    subst (IsGrownOf node best allowance bound) (sym same) (leaf_alone best node leaf 0 (keeps node (Dead leaf) is), omega arith, λ found none. absurd (none-some found none))
+pub alone_grows : (rule : Rule) (node : Node) (best : Option ℕ) (allowance bound : ℕ) (leaf : TreeLeaf) → IsDeadLeaf node leaf
+    → (grown : Growth) → grown ≡ growth.Subtree (Leaf leaf ∷ []) (0 ∷ []) None → IsGrownOf rule node best allowance bound grown
+alone_grows rule node best allowance bound leaf is grown same =
+    subst (IsGrownOf rule node best allowance bound) (sym same) (leaf_alone rule best node leaf 0 (keeps rule node (Dead leaf) is), omega arith, λ found none. absurd (none-some found none))
 
-module _ (node : Node) (best : Option ℕ) (allowance bound : ℕ) (dive : Dive) (is : IsDive node best allowance dive) where
-  pub without_plan : IsGrownOf node best allowance bound (growth.Subtree dive.nodes dive.bounds None)
+module _ (rule : Rule) (node : Node) (best : Option ℕ) (allowance bound : ℕ) (dive : Dive) (is : IsDive rule node best allowance dive) where
+  pub without_plan : IsGrownOf rule node best allowance bound (growth.Subtree dive.nodes dive.bounds None)
   without_plan = (is.grows, is.few, λ found none. absurd (none-some found none))
 
-  pub with_plan : IsOfEdition node → (plan : List Event) → dive.end ≡ ends.Plan plan → IsGrownOf node best allowance bound (growth.Subtree dive.nodes dive.bounds (Some plan))
+  pub with_plan : IsOfEdition node → (plan : List Event) → dive.end ≡ ends.Plan plan → IsGrownOf rule node best allowance bound (growth.Subtree dive.nodes dive.bounds (Some plan))
   with_plan edition plan end = (is.grows, is.few, λ found same. subst (IsPlanAt node) (same_Some plan found same) here)
     where
       in_plan : EndsInPlan node best dive.bounds plan
-      in_plan = subst (λ (e : End). IsEndOf node best allowance dive.nodes dive.bounds e) end is.ends
+      in_plan = subst (λ (e : End). IsEndOf rule node best allowance dive.nodes dive.bounds e) end is.ends
 
       here : IsPlanAt node plan
       here = record { valid = in_plan.valid; within = plan_within node best dive.bounds plan edition in_plan }
 
   -- the leaf stays with its bound
-  pub stays_examined : dive.end ≡ ends.Open → allowance ≡ 0 → dive.bounds ≡ bound ∷ [] → IsExamined Fixed node bound
+  pub stays_examined : dive.end ≡ ends.Open → allowance ≡ 0 → dive.bounds ≡ bound ∷ [] → IsExamined rule node bound
   stays_examined end none only =
-      let open_end = subst (λ (e : End). IsEndOf node best allowance dive.nodes dive.bounds e) end is.ends in
+      let open_end = subst (λ (e : End). IsEndOf rule node best allowance dive.nodes dive.bounds e) end is.ends in
       let stays = open_end.1 none in
       let same : stays.helps.bound ≡ bound = ap (λ (l : List ℕ). get_or l 0 0) (sym stays.bounds_are ∙ only) in
       record {
         alive = stays.helps.alive;
-        bound_is = subst (λ (b : ℕ). IsBound node Fixed b) same stays.helps.bound_is;
+        bound_is = subst (λ (b : ℕ). IsBound node rule b) same stays.helps.bound_is;
         choice = stays.choice;
         picked = stays.helps.picked;
       }

@@ -1,7 +1,7 @@
 -- What a searcher makes of a work.
 use Rattle.std.specs.Prelude.{◌≡◌, ℕ, ◌≤◌, List, [], ◌∷◌, All, Option, Some}
 use Rattle.disp_model.specs.declared.plan.Event.{Event}
-use Rattle.disp_model.specs.declared.settings.Rule.TheVariants.{Fixed}
+use Rattle.disp_model.specs.declared.settings.Rule.{Rule}
 use Rattle.disp_model.specs.WellFormed.{horizon}
 use Rattle.disp_model.specs.Node.{Node}
 use Rattle.disp_model.specs.Valid.{IsValid}
@@ -17,8 +17,8 @@ pub record IsPlanAt (node : Node) (plan : List Event) : Type 0 where
 
 -- a subtree for the node by no more branches than were allowed, with a plan that is valid there if one was found; or the
 -- node is examined, and this is its bound
-abbrev pub IsGrownOf : Node → Option ℕ → ℕ → ℕ → Growth → Type 0
-IsGrownOf node best allowance bound (growth.Subtree nodes bounds plan) =
-    Grows Fixed best (node ∷ []) nodes bounds × (branches nodes ≤ allowance)
+abbrev pub IsGrownOf : Rule → Node → Option ℕ → ℕ → ℕ → Growth → Type 0
+IsGrownOf rule node best allowance bound (growth.Subtree nodes bounds plan) =
+    Grows rule best (node ∷ []) nodes bounds × (branches nodes ≤ allowance)
     × ((found : List Event) → plan ≡ Some found → IsPlanAt node found)
-IsGrownOf node best allowance bound growth.Examined = IsExamined Fixed node bound
+IsGrownOf rule node best allowance bound growth.Examined = IsExamined rule node bound

@@ -1,7 +1,9 @@
 ghost use Rattle.std.specs.Prelude.{◌≡◌, ◌↔◌, ℕ, IsTrue, IfOk, [], ◌∷◌, Option, None};
 ghost use Rattle.disp_model.specs.declared.tree.TreeNode.TheVariants.{Leaf as LeafNode};
+ghost use Rattle.disp_model.specs.declared.settings.Rule.{Rule as RuleOf};
 ghost use Rattle.disp_model.specs.Node.{Node, node_at};
 ghost use Rattle.event_graph.specs.Joined.{IsOfEdition};
+ghost use Rattle.node_leaves.specs.Reckoned.{ReckonsFor};
 ghost use Rattle.tree_dives.specs.Dives.{IsDive};
 ghost use Rattle.search_workers.specs.declared.growth.Growth.TheVariants.{Subtree};
 ghost use Rattle.search_workers.specs.Grown.{IsGrownOf};
@@ -10,10 +12,11 @@ ghost use Rattle.search_workers.specs.Walks.{IsBeside};
 use crate::walk::go_to;
 use disp_model::{Leaf, List, Memory, Plan, Problem, TreeNode};
 use event_graph::Graph;
+use node_leaves::Reckoning;
 use open_nodes::Work;
 use std::alloc::Global;
 use train_insertion::Target;
-use tree_dives::{Dive, End, dive};
+use tree_dives::{Dive, End, Guide, dive};
 
 /// What a searcher makes of a leaf.
 #[derive(Drop)]
@@ -63,8 +66,9 @@ fn is_only(bounds: &[u64], bound: u64) -> bool
 /// What a dive makes of a leaf with a kept bound.
 #[tactic(auto, using(crate::proofs::Growths::without_plan, crate::proofs::Growths::stays_examined))]
 fn of_dive(found: Dive, allowance: u32, bound: u64) -> Growth
-    ensures { (node : Node) (best : Option ℕ) → IsOfEdition node
-        → IsDive node best allowance found → IsGrownOf node best allowance bound result }
+    ensures { (rule : RuleOf) (node : Node) (best : Option ℕ) → IsOfEdition node
+        → IsDive rule node best allowance found
+        → IsGrownOf rule node best allowance bound result }
 {
     let Dive { nodes, bounds, end } = found;
     match end {
@@ -91,25 +95,35 @@ fn of_dive(found: Dive, allowance: u32, bound: u64) -> Growth
     }
 }
 
-/// Grows the leaf of a work, by a dive from its node that follows a target. Where the node is not reached, a leaf shows
-/// that it is dead.
+/// Grows the leaf of a work, by a dive from its node along a guide. Where the node is not reached, a
+/// leaf shows that it is dead.
 pub(crate) fn grow(
     alloc: Global,
     problem: &Problem,
+    reckoning: &Reckoning,
     graph: &mut Graph,
     work: &Work,
-    target: &Target,
+    guide: &mut Guide,
 ) -> Result<Growth, Memory>
     requires problem { graph.old.problem ≡ problem.now }
     requires edition { IsOfEdition graph.old }
+    requires reckons { ReckonsFor problem.now reckoning.now }
     ensures beside { IsBeside graph.old graph.new }
-    ensures grown { IfOk result (IsGrownOf
+    ensures grown { IfOk result (IsGrownOf reckoning.now.rule
         (node_at graph.old.problem graph.old.fixings work.now.decisions) work.now.best
         work.now.allowance work.now.bound) }
 {
     if let Some(leaf) = go_to(graph, work.decisions.as_slice())? {
         return leaf_alone(alloc, leaf);
     }
-    let found = dive(alloc, problem, graph, work.best, work.allowance, target)?;
+    let found = dive(
+        alloc,
+        problem,
+        reckoning,
+        graph,
+        work.best,
+        work.allowance,
+        guide,
+    )?;
     Ok(of_dive(found, work.allowance, work.bound))
 }

@@ -1,6 +1,5 @@
 ghost use Rattle.std.specs.Prelude.{◌≡◌, ◌≤◌, All, List, Some, IfOk};
 ghost use Rattle.disp_model.specs.declared.plan.Event.{Event};
-ghost use Rattle.disp_model.specs.declared.settings.Rule.TheVariants.{Fixed};
 ghost use Rattle.disp_model.specs.WellFormed.{horizon};
 ghost use Rattle.disp_model.specs.History.{newest};
 ghost use Rattle.dispatch_core.specs.Asked.{IsGrowth};
@@ -28,9 +27,8 @@ fn give_back(alloc: Global, core: &mut Core, work: Work)
 
 /// Gives a work back as examined.
 fn give_back_examined(alloc: Global, core: &mut Core, work: Work) -> Result<(), Memory>
-    requires rule { core.old.settings.rule ≡ Fixed }
     requires newest { work.edition ≡ newest core.old.history }
-    requires examined { IsExamined Fixed (node_of core.old work) work.bound }
+    requires examined { IsExamined core.old.settings.rule (node_of core.old work) work.bound }
     ensures { GoesOn core.old core.new }
 {
     let event = CoreEvent::GiveBack {
@@ -76,9 +74,9 @@ fn publish(alloc: Global, core: &mut Core, plan: Option<Plan>) -> Result<(), Mem
 
 /// Tells the core what a work came to.
 fn tell_growth(alloc: Global, core: &mut Core, work: Work, growth: Growth) -> Result<(), Memory>
-    requires rule { core.old.settings.rule ≡ Fixed }
     requires newest { work.edition ≡ newest core.old.history }
-    requires grown { IsGrownOf (node_of core.old work) work.best work.allowance work.bound growth }
+    requires grown { IsGrownOf core.old.settings.rule (node_of core.old work) work.best
+        work.allowance work.bound growth }
     ensures { GoesOn core.old core.new }
 {
     match growth {
@@ -106,10 +104,10 @@ pub(crate) fn hand_in(
     work: Work,
     growth: Result<Growth, Memory>,
 ) -> Result<(), Memory>
-    requires rule { core.old.settings.rule ≡ Fixed }
     requires newest { work.edition ≡ newest core.old.history }
     requires grown { IfOk growth
-        (IsGrownOf (node_of core.old work) work.best work.allowance work.bound) }
+        (IsGrownOf core.old.settings.rule (node_of core.old work) work.best work.allowance
+        work.bound) }
     ensures { GoesOn core.old core.new }
 {
     match growth {

@@ -1,8 +1,8 @@
 ghost use Rattle.std.specs.Prelude.{◌≡◌, [], ◌∷◌, IfOk, OnOk, None, true};
-ghost use Rattle.disp_model.specs.declared.settings.Rule.TheVariants.{Fixed};
 ghost use Rattle.disp_model.specs.declared.tree.TreeNode.TheVariants.{Leaf as LeafNode};
 ghost use Rattle.disp_model.specs.History.{edition_of};
 ghost use Rattle.disp_model.specs.Node.{node_at};
+ghost use Rattle.node_leaves.specs.Reckoned.{ReckonsFor};
 ghost use Rattle.node_leaves.specs.Shown.{IsDeadLeaf};
 ghost use Rattle.search_workers.specs.declared.growth.Growth.TheVariants.{Subtree};
 ghost use Rattle.search_workers.specs.Searched.{GoesOn, IsClosed, IsOfNewest};
@@ -11,11 +11,13 @@ use crate::growth::{Growth, grow, leaf_alone, target_after};
 use crate::hand_in::hand_in;
 use crate::turn::{Turn, next_turn};
 use crate::walk::refused_leaf;
-use disp_model::{Copied, Leaf, Memory, Problem};
+use disp_model::{Copied, Fixing, Leaf, Memory, Problem, Rule};
 use dispatch_core::Core;
 use event_graph::Graph;
+use node_leaves::Reckoning;
 use std::alloc::Global;
-use train_insertion::{INSERTIONS, Target, target};
+use train_insertion::{INSERTIONS, target};
+use tree_dives::Guide;
 
 /// A copy of a leaf, with the bound 0.
 fn copy_alone(alloc: Global, leaf: &Leaf) -> Result<Growth, Memory>
@@ -25,25 +27,27 @@ fn copy_alone(alloc: Global, leaf: &Leaf) -> Result<Growth, Memory>
 }
 
 /// Makes the plan of a growth the target, where it has one.
-fn aim_at(alloc: Global, problem: &Problem, aim: &mut Target, growth: &Result<Growth, Memory>) {
+fn aim_at(alloc: Global, problem: &Problem, guide: &mut Guide, growth: &Result<Growth, Memory>) {
     if let Ok(growth) = growth {
         if let Some(target) = target_after(alloc, problem, growth) {
-            *aim = target;
+            guide.aim_at(target);
         }
     }
 }
 
-/// Takes a leaf of the newest edition and grows it, along a target; a plan that is found is the
+/// Takes a leaf of the newest edition and grows it, along a guide; a plan that is found is its
 /// target from then on. Says whether the edition is closed.
 fn round(
     alloc: Global,
     problem: &Problem,
+    reckoning: &Reckoning,
     core: &mut Core,
     graph: &mut Graph,
-    aim: &mut Target,
+    guide: &mut Guide,
 ) -> Result<bool, Memory>
     requires problem { core.old.problem ≡ problem.now }
-    requires rule { core.old.settings.rule ≡ Fixed }
+    requires reckons { ReckonsFor problem.now reckoning.now }
+    requires rule { core.old.settings.rule ≡ reckoning.now.rule }
     requires newest { IsOfNewest core.old graph.old }
     ensures on { GoesOn core.old core.new }
     ensures newest { IsOfNewest core.new graph.new }
@@ -51,8 +55,9 @@ fn round(
 {
     match next_turn(alloc, core)? {
         Turn::Work(work) => {
-            let growth = grow(alloc, problem, graph, &work, aim);
-            aim_at(alloc, problem, aim, &growth);
+            let growth = grow(alloc, problem, reckoning, graph, &work, guide);
+            guide.count_dive();
+            aim_at(alloc, problem, guide, &growth);
             hand_in(alloc, core, work, growth)?;
             Ok(false)
         }
@@ -64,7 +69,6 @@ fn round(
 /// The same where the root of the newest edition is dead, as this leaf shows: then so is the node
 /// of each leaf.
 fn round_of_dead(alloc: Global, core: &mut Core, leaf: &Leaf) -> Result<bool, Memory>
-    requires rule { core.old.settings.rule ≡ Fixed }
     requires dead { IsDeadLeaf (node_at core.old.problem (edition_of core.old.history) [])
         leaf.now }
     ensures on { GoesOn core.old core.new }
@@ -85,18 +89,20 @@ fn round_of_dead(alloc: Global, core: &mut Core, leaf: &Leaf) -> Result<bool, Me
 fn rounds(
     alloc: Global,
     problem: &Problem,
+    reckoning: &Reckoning,
     core: &mut Core,
     graph: &mut Graph,
-    aim: &mut Target,
+    guide: &mut Guide,
 ) -> Result<(), Memory>
     requires problem { core.old.problem ≡ problem.now }
-    requires rule { core.old.settings.rule ≡ Fixed }
+    requires reckons { ReckonsFor problem.now reckoning.now }
+    requires rule { core.old.settings.rule ≡ reckoning.now.rule }
     requires newest { IsOfNewest core.old graph.old }
     ensures on { GoesOn core.old core.new }
     ensures closed { OnOk result (IsClosed core.new) }
 {
     for _ in 0..u64::MAX {
-        if round(alloc, problem, core, graph, aim)? {
+        if round(alloc, problem, reckoning, core, graph, guide)? {
             return Ok(());
         }
     }
@@ -105,7 +111,6 @@ fn rounds(
 
 /// The same where the root of the newest edition is dead, as this leaf shows.
 fn rounds_of_dead(alloc: Global, core: &mut Core, leaf: &Leaf) -> Result<(), Memory>
-    requires rule { core.old.settings.rule ≡ Fixed }
     requires dead { IsDeadLeaf (node_at core.old.problem (edition_of core.old.history) [])
         leaf.now }
     ensures on { GoesOn core.old core.new }
@@ -119,25 +124,45 @@ fn rounds_of_dead(alloc: Global, core: &mut Core, leaf: &Leaf) -> Result<(), Mem
     Err(Memory)
 }
 
-/// Searches the newest edition of a core on one thread, by the fixed rule, until it is settled or
-/// stopped. The problem is the core's. It goes down along a target, which is the best plan once one
+/// How bounds are reckoned by a rule.
+fn reckon(alloc: Global, problem: &Problem, rule: Rule) -> Result<Reckoning, Memory>
+    ensures rule { IfOk result (λ reckoning. reckoning.rule ≡ rule) }
+    ensures reckons { IfOk result (ReckonsFor problem.now) }
+{
+    Reckoning::new(alloc, problem, rule)
+}
+
+/// A guide along the target of a problem under fixings.
+fn guide_to(alloc: Global, problem: &Problem, fixings: &[Fixing]) -> Result<Guide, Memory> {
+    let target = target(alloc, problem, fixings, INSERTIONS)?;
+    Guide::new(alloc, problem, target)
+}
+
+/// Searches the newest edition of a core on one thread until it is settled or stopped. The problem
+/// is the core's, and so is the rule by which it branches. It goes down along a target, which is the best plan once one
 /// is found.
 ///
 /// # Errors
 ///
 /// `Memory` where memory runs out; the core is sound then too. (It is also the answer after 2^64
 /// rounds, which are never reached.)
-pub fn search_alone(alloc: Global, problem: &Problem, core: &mut Core) -> Result<(), Memory>
+pub fn search_alone(
+    alloc: Global,
+    problem: &Problem,
+    rule: Rule,
+    core: &mut Core,
+) -> Result<(), Memory>
     requires problem { core.old.problem ≡ problem.now }
-    requires rule { core.old.settings.rule ≡ Fixed }
+    requires rule { core.old.settings.rule ≡ rule }
     ensures goes_on { GoesOn core.old core.new }
     ensures closed { OnOk result (IsClosed core.new) }
 {
     let _edition = core.edition();
     let fixings = core.fixings(alloc)?;
-    let mut aim = target(alloc, problem, fixings.as_slice(), INSERTIONS)?;
+    let reckoning = reckon(alloc, problem, rule)?;
+    let mut guide = guide_to(alloc, problem, fixings.as_slice())?;
     match Graph::new(alloc, problem, fixings.as_slice()) {
-        Ok(mut graph) => rounds(alloc, problem, core, &mut graph, &mut aim),
+        Ok(mut graph) => rounds(alloc, problem, &reckoning, core, &mut graph, &mut guide),
         Err(no) => rounds_of_dead(alloc, core, &refused_leaf(no)?),
     }
 }

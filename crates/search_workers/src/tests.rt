@@ -89,15 +89,13 @@ fn check(
     rt: &impl Abort,
     alloc: Global,
     problem: &Problem,
+    rule: Rule,
     budget: u32,
     wanted: &str,
 ) -> Result<(), Fail> {
-    let settings = Settings {
-        budget,
-        rule: Rule::Fixed,
-    };
+    let settings = Settings { budget, rule };
     let mut core = Core::new(alloc, problem, settings, 1, 1)?;
-    search_alone(alloc, problem, &mut core)?;
+    search_alone(alloc, problem, rule, &mut core)?;
     let mut text = String::new(alloc);
     for entry in core.history() {
         text.push_str(shown(alloc, entry)?.as_str())?;
@@ -107,8 +105,11 @@ fn check(
 }
 
 fn check_fork(rt: &impl Abort, alloc: Global, problem: &Problem) -> Result<(), Fail> {
-    check(rt, alloc, problem, 0, "grown 0\nstopped 0 3\n")?;
-    check(rt, alloc, problem, 1, "grown 1\npublished 5\noptimal 5\n")
+    let found = "grown 1\npublished 5\noptimal 5\n";
+    check(rt, alloc, problem, Rule::Fixed, 0, "grown 0\nstopped 0 3\n")?;
+    check(rt, alloc, problem, Rule::Fixed, 1, found)?;
+    check(rt, alloc, problem, Rule::Free, 0, "grown 0\nstopped 0 5\n")?;
+    check(rt, alloc, problem, Rule::Free, 1, found)
 }
 
 #[test]

@@ -11,8 +11,9 @@ use std::alloc::Global;
 /// The number of the one searcher.
 pub(crate) const SEARCHER: u32 = 0;
 
-/// How many branches a searcher asks for at a time.
-const WANTED: u32 = 32;
+/// How many branches a searcher asks for at a time: as many as a dive may need to reach a plan. A
+/// dive that is cut off goes on where the core says, which may be beside the target.
+const WANTED: u32 = 65_536;
 
 /// What there is for a searcher to do.
 #[derive(Drop)]

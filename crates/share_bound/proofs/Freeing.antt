@@ -25,7 +25,7 @@ use Rattle.share_bound.specs.Free.{IsFreeBound, AreListedTo}
 use Rattle.share_bound.proofs.Sharing.{one_more}
 use Rattle.share_bound.proofs.Showing.{shown_is}
 
-shares_end : (node : Node) (trains : List TrainWalks) (listed : TrainWalks) (sum share : ℕ)
+pub shares_end : (node : Node) (trains : List TrainWalks) (listed : TrainWalks) (sum share : ℕ)
     → SharesCost node trains sum → ShowsShare node listed share
     → SharesCost node (trains ++ listed ∷ []) (sum + share)
 shares_end node [] listed sum share is shows = (share, 0, shows, refl, omega (arith, is))
@@ -37,13 +37,13 @@ shares_end node (x ∷ trains) listed sum share is shows = (
   omega (arith, is.4),
 )
 
-first_at : (trains : List TrainWalks) (n i : ℕ) (listed : TrainWalks)
+pub first_at : (trains : List TrainWalks) (n i : ℕ) (listed : TrainWalks)
     → All (λ x. x.train < n) trains → slice_get trains i ≡ Some listed → listed.train < n
 first_at trains n i listed first at = subst (λ (x : TrainWalks). x.train < n)
     (get_or_from_slice_get trains i listed listed at)
     (first i listed (slice_get_within trains i listed at))
 
-distinct_end : (trains : List TrainWalks) (listed : TrainWalks) (n : ℕ) → HaveDistinctTrains trains
+pub distinct_end : (trains : List TrainWalks) (listed : TrainWalks) (n : ℕ) → HaveDistinctTrains trains
     → All (λ x. x.train < n) trains → listed.train ≡ n → HaveDistinctTrains (trains ++ listed ∷ [])
 distinct_end trains listed n distinct first is i j s u less one other same = elim
     (get_push_cases trains listed u j other) [

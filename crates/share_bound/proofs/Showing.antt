@@ -22,7 +22,7 @@ use Rattle.share_bound.proofs.Costing.{share_carried}
 
 -- ---- one walk more
 
-walks_end : (node : Node) (t : ℕ) (walks : List (List Op)) (arrivals : List Arrival)
+pub walks_end : (node : Node) (t : ℕ) (walks : List (List Op)) (arrivals : List Arrival)
     (walk : List Op) (arrival : Arrival) → AreWalksOn node t walks arrivals
     → EndsIn walk (record { train = t; op = arrival.operation }) → IsWalk node walk arrival.total
     → AreWalksOn node t (walks ++ walk ∷ []) (arrivals ++ arrival ∷ [])
@@ -40,7 +40,7 @@ choose : (P : ℕ → Type 0) (b : Bool) (x y : ℕ) → (b ≡ true → P x) �
 choose P true x y here there = here refl
 choose P false x y here there = there refl
 
-greatest_same : (o : ℕ) (arrivals : List Arrival) (arrival : Arrival) → arrival.operation ≡ o
+pub greatest_same : (o : ℕ) (arrivals : List Arrival) (arrival : Arrival) → arrival.operation ≡ o
     → greatest_to o (arrivals ++ arrival ∷ []) ≡ max (greatest_to o arrivals) arrival.total
 greatest_same o [] arrival same = rw (eq-eqb arrival.operation o same) (omega arith)
 greatest_same o (a ∷ arrivals) arrival same = by (nat_eq a.operation o)
@@ -54,7 +54,7 @@ greatest_same o (a ∷ arrivals) arrival same = by (nat_eq a.operation o)
     by true later = omega (arith, later)
     by false later = later
 
-greatest_other : (o : ℕ) (arrivals : List Arrival) (arrival : Arrival) → (arrival.operation ≡ o → ⊥)
+pub greatest_other : (o : ℕ) (arrivals : List Arrival) (arrival : Arrival) → (arrival.operation ≡ o → ⊥)
     → greatest_to o (arrivals ++ arrival ∷ []) ≡ greatest_to o arrivals
 greatest_other o [] arrival other = rw (ne_eqb arrival.operation o other) refl
 greatest_other o (a ∷ arrivals) arrival other = ap
@@ -62,7 +62,7 @@ greatest_other o (a ∷ arrivals) arrival other = ap
     (greatest_other o arrivals arrival other)
 
 -- the lower of a forced operation is no more than its longest
-lower_short : (node : Node) (o : Op) (total : ℕ) → IsForced node o → IsLongest node o total
+pub lower_short : (node : Node) (o : Op) (total : ℕ) → IsForced node o → IsLongest node o total
     → lower_of node.problem node.fixings o ≤ total
 lower_short node o total forced longest = longest.none_longer (o ∷ [])
     (lower_of node.problem node.fixings o) ([], refl) once (forced, refl)

@@ -11,7 +11,7 @@ use std::alloc::Global;
 
 /// The base of an operation: the length of its paths, which is its lower where it is not forced,
 /// since no arc leads to it then.
-fn base_of(graph: &Graph, op: Op) -> u64
+pub fn base_of(graph: &Graph, op: Op) -> u64
     requires { HasOperation graph.now.problem op }
     ensures base { IsBase graph.now op result }
     ensures within { result ≤ horizon graph.now.problem.trains }
@@ -21,12 +21,7 @@ fn base_of(graph: &Graph, op: Op) -> u64
 }
 
 /// The base of each of a train's operations, of which there are so many.
-pub(crate) fn bases_of(
-    alloc: Global,
-    graph: &Graph,
-    train: u32,
-    count: usize,
-) -> Result<Vec<u64>, Memory>
+pub fn bases_of(alloc: Global, graph: &Graph, train: u32, count: usize) -> Result<Vec<u64>, Memory>
     requires train { train < length graph.now.problem.trains }
     requires count { count ≡ length (train_at graph.now.problem train) }
     requires fits { count < 2 ^ 32 }

@@ -45,7 +45,7 @@ impl OwnComponents {
     }
 
     /// The components of a train.
-    pub(crate) fn of_train(&self, train: u32) -> &[Component]
+    pub fn of_train(&self, train: u32) -> &[Component]
         requires { train < length self.now.each.items }
         ensures { result.now ≡ own_in self.now.each.items train }
     {

@@ -15,9 +15,11 @@ mod shares;
 mod shown;
 mod times;
 
+pub use bases::{base_of, bases_of};
 pub use components::OwnComponents;
 pub use free::{FreeBound, free_bound};
-pub use shares::{free_cost, share};
+pub use prices::cost_of;
+pub use shares::{free_cost, share, share_over, train_of};
 pub use shown::{ShownShare, shown_share};
 
 #[cfg(test)]

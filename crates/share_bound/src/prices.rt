@@ -9,7 +9,7 @@ use std::alloc::Global;
 
 /// What a component costs where its operation starts at a time, or the greatest number of 64 bits
 /// where it costs more.
-fn cost_of(component: &Component, time: u64) -> u64
+pub fn cost_of(component: &Component, time: u64) -> u64
     ensures { result ≡ fitted (cost_at component.now time) }
 {
     let threshold = u64::from(component.threshold);

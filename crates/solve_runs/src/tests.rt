@@ -4,3 +4,4 @@ mod faults;
 mod limits;
 mod refusals;
 mod searches;
+mod trees;

@@ -1,5 +1,4 @@
 ghost use Rattle.std.specs.Prelude.{◌≡◌, [], IfOk};
-ghost use Rattle.disp_model.specs.declared.settings.Rule.TheVariants.{Fixed};
 ghost use Rattle.solved_problems.specs.Solved.{IsSearched, MayBeAsked};
 
 use crate::entering::enter;
@@ -8,7 +7,7 @@ use dispatch_core::Core;
 use search_workers::search_alone;
 use std::alloc::Global;
 
-/// Solves a problem on one thread, by the fixed rule: asks for changes, each of which is taken, and
+/// Solves a problem on one thread: asks for changes, each of which is taken, and
 /// searches the edition that stands then until it is settled, or stopped where the budget is spent.
 ///
 /// # Errors
@@ -20,7 +19,6 @@ pub fn solve(
     settings: Settings,
     asked: &[Change],
 ) -> Result<Core, Memory>
-    requires rule { settings.rule ≡ Fixed }
     requires taken { MayBeAsked problem.now [] asked.now }
     ensures problem { IfOk result (λ core. core.problem ≡ problem.now) }
     ensures searched { IfOk result
@@ -28,7 +26,7 @@ pub fn solve(
 {
     let mut core = Core::new(alloc, problem, settings, 1, 1)?;
     enter(alloc, &mut core, asked)?;
-    search_alone(alloc, problem, &mut core)?;
+    search_alone(alloc, problem, settings.rule, &mut core)?;
     let _entries = core.history();
     Ok(core)
 }

@@ -12,54 +12,65 @@ use Rattle.disp_model.specs.Node.{Node, with_decision}
 use Rattle.disp_model.specs.Trees.{children_of}
 use Rattle.node_leaves.specs.declared.leaf.NodeLeaf.{NodeLeaf}
 use Rattle.node_leaves.specs.declared.leaf.NodeLeaf.TheVariants.{Dead, Open}
-use Rattle.node_leaves.specs.Shown.{IsLeafOf}
+use Rattle.node_leaves.specs.Shown.{ListsBy, IsLeafOf}
 use Rattle.tree_dives.specs.Halves.{Sides, Completes, IsComplete, IsBelowNode}
-use Rattle.disp_model.specs.declared.settings.Rule.TheVariants.{Fixed}
+use Rattle.disp_model.specs.declared.settings.Rule.{Rule}
+use Rattle.disp_model.specs.declared.settings.Rule.TheVariants.{Fixed, Free}
 use Rattle.tree_growth.specs.Grown.{Helps, Counts, KeepsBound, Grows, branches}
 use Rattle.tree_dives.specs.Leaves.{leaf_in, bound_in}
 
 -- whatever a leaf lists counts for nothing
-counts_none : (leaf : TreeLeaf) → Counts Fixed leaf 0
-counts_none NoRoute = tt
-counts_none (Cycle nodes) = tt
-counts_none (Late walk) = tt
-counts_none (Costs walks) = tt
-counts_none (Shares walks trains) = refl
+counts_none : (rule : Rule) (leaf : TreeLeaf) → Counts rule leaf 0
+counts_none Fixed NoRoute = tt
+counts_none Fixed (Cycle nodes) = tt
+counts_none Fixed (Late walk) = tt
+counts_none Fixed (Costs walks) = tt
+counts_none Fixed (Shares walks trains) = refl
+counts_none Free leaf = tt
 
-pub keeps : (node : Node) (shown : NodeLeaf) → IsLeafOf node shown → KeepsBound Fixed node (leaf_in shown) (bound_in shown)
-keeps node (Dead leaf) is = record { holds = is.holds (Optimal 0); counts = counts_none leaf; fits = is.fits }
-keeps node (Open bound) is = record { holds = is.holds bound.cost (omega arith); counts = tt; fits = is.fits }
+-- what is listed by the rule counts
+counts_listed : (rule : Rule) (leaf : TreeLeaf) (bound : ℕ) → ListsBy rule leaf → Counts rule leaf bound
+counts_listed Fixed NoRoute bound by = tt
+counts_listed Fixed (Cycle nodes) bound by = tt
+counts_listed Fixed (Late walk) bound by = tt
+counts_listed Fixed (Costs walks) bound by = tt
+counts_listed Fixed (Shares walks trains) bound by = absurd by
+counts_listed Free leaf bound by = tt
+
+pub keeps : (rule : Rule) (node : Node) (shown : NodeLeaf) → IsLeafOf rule node shown → KeepsBound rule node (leaf_in shown) (bound_in shown)
+keeps rule node (Dead leaf) is = record { holds = is.holds (Optimal 0); counts = counts_none rule leaf; fits = is.fits }
+keeps rule node (Open leaf bound) is = record { holds = is.holds bound (omega arith); counts = counts_listed rule leaf bound is.lists; fits = is.fits }
 
 -- side by side
-pub side_by_side : (best : Option ℕ) (places more : List Node) (tree tree_more : List TreeNode) (bounds bounds_more : List ℕ) → Grows Fixed best places tree bounds → Grows Fixed best more tree_more bounds_more → Grows Fixed best (places ++ more) (tree ++ tree_more) (bounds ++ bounds_more)
-side_by_side best [] more [] tree_more [] bounds_more one other = other
-side_by_side best [] more [] tree_more (bound ∷ bounds) bounds_more one other = absurd one
-side_by_side best [] more (top ∷ tree) tree_more bounds bounds_more one other = absurd one
-side_by_side best (node ∷ places) more [] tree_more bounds bounds_more one other = absurd one
-side_by_side best (node ∷ places) more (Leaf leaf ∷ tree) tree_more [] bounds_more one other = absurd one
-side_by_side best (node ∷ places) more (Leaf leaf ∷ tree) tree_more (bound ∷ bounds) bounds_more one other = (one.0, side_by_side best places more tree tree_more bounds bounds_more one.1 other)
-side_by_side best (node ∷ places) more (Branch choice children ∷ tree) tree_more bounds bounds_more one other =
+pub side_by_side : (rule : Rule) (best : Option ℕ) (places more : List Node) (tree tree_more : List TreeNode) (bounds bounds_more : List ℕ) → Grows rule best places tree bounds → Grows rule best more tree_more bounds_more → Grows rule best (places ++ more) (tree ++ tree_more) (bounds ++ bounds_more)
+side_by_side rule best [] more [] tree_more [] bounds_more one other = other
+side_by_side rule best [] more [] tree_more (bound ∷ bounds) bounds_more one other = absurd one
+side_by_side rule best [] more (top ∷ tree) tree_more bounds bounds_more one other = absurd one
+side_by_side rule best (node ∷ places) more [] tree_more bounds bounds_more one other = absurd one
+side_by_side rule best (node ∷ places) more (Leaf leaf ∷ tree) tree_more [] bounds_more one other = absurd one
+side_by_side rule best (node ∷ places) more (Leaf leaf ∷ tree) tree_more (bound ∷ bounds) bounds_more one other = (one.0, side_by_side rule best places more tree tree_more bounds bounds_more one.1 other)
+side_by_side rule best (node ∷ places) more (Branch choice children ∷ tree) tree_more bounds bounds_more one other =
     let below = map (with_decision node) (children_of node.problem choice) in
-    (one.0, one.1, subst (λ (l : List Node). Grows Fixed best l (tree ++ tree_more) (bounds ++ bounds_more)) (append_assoc below places more) (side_by_side best (below ++ places) more tree tree_more bounds bounds_more one.2 other))
+    (one.0, one.1, subst (λ (l : List Node). Grows rule best l (tree ++ tree_more) (bounds ++ bounds_more)) (append_assoc below places more) (side_by_side rule best (below ++ places) more tree tree_more bounds bounds_more one.2 other))
 
 -- one leaf
-pub leaf_alone : (best : Option ℕ) (node : Node) (leaf : TreeLeaf) (bound : ℕ) → KeepsBound Fixed node leaf bound → Grows Fixed best (node ∷ []) (Leaf leaf ∷ []) (bound ∷ [])
-leaf_alone best node leaf bound keeps = (keeps, tt)
+pub leaf_alone : (rule : Rule) (best : Option ℕ) (node : Node) (leaf : TreeLeaf) (bound : ℕ) → KeepsBound rule node leaf bound → Grows rule best (node ∷ []) (Leaf leaf ∷ []) (bound ∷ [])
+leaf_alone rule best node leaf bound keeps = (keeps, tt)
 
 -- one leaf more
-pub leaf_more : (best : Option ℕ) (node : Node) (decisions : List Decision) (i : ℕ) (d : Decision) (shown : NodeLeaf) (tree : List TreeNode) (bounds : List ℕ) → i < length decisions → IsLeafOf (with_decision node (get_or decisions i d)) shown
-    → Grows Fixed best (map (with_decision node) (take i decisions)) tree bounds → Grows Fixed best (map (with_decision node) (take (i + 1) decisions)) (tree ++ Leaf (leaf_in shown) ∷ []) (bounds ++ bound_in shown ∷ [])
-leaf_more best node decisions i d shown tree bounds lt is grows =
+pub leaf_more : (rule : Rule) (best : Option ℕ) (node : Node) (decisions : List Decision) (i : ℕ) (d : Decision) (shown : NodeLeaf) (tree : List TreeNode) (bounds : List ℕ) → i < length decisions → IsLeafOf rule (with_decision node (get_or decisions i d)) shown
+    → Grows rule best (map (with_decision node) (take i decisions)) tree bounds → Grows rule best (map (with_decision node) (take (i + 1) decisions)) (tree ++ Leaf (leaf_in shown) ∷ []) (bounds ++ bound_in shown ∷ [])
+leaf_more rule best node decisions i d shown tree bounds lt is grows =
     let here = with_decision node (get_or decisions i d) in
     let places : map (with_decision node) (take i decisions) ++ here ∷ [] ≡ map (with_decision node) (take (i + 1) decisions) =
     sym (ap (map (with_decision node)) (take_more decisions i d lt) ∙ map-append (with_decision node) (take i decisions) (get_or decisions i d ∷ [])) in
-    subst (λ (l : List Node). Grows Fixed best l (tree ++ Leaf (leaf_in shown) ∷ []) (bounds ++ bound_in shown ∷ [])) places
-    (side_by_side best (map (with_decision node) (take i decisions)) (here ∷ []) tree (Leaf (leaf_in shown) ∷ []) bounds (bound_in shown ∷ []) grows (leaf_alone best here (leaf_in shown) (bound_in shown) (keeps here shown is)))
+    subst (λ (l : List Node). Grows rule best l (tree ++ Leaf (leaf_in shown) ∷ []) (bounds ++ bound_in shown ∷ [])) places
+    (side_by_side rule best (map (with_decision node) (take i decisions)) (here ∷ []) tree (Leaf (leaf_in shown) ∷ []) bounds (bound_in shown ∷ []) grows (leaf_alone rule best here (leaf_in shown) (bound_in shown) (keeps rule here shown is)))
 
 -- a branch, with what grows at its children
-pub branch_alone : (best : Option ℕ) (node : Node) (choice : Choice) (children : ℕ) (tree : List TreeNode) (bounds : List ℕ) → Helps Fixed best node choice → children ≡ length (children_of node.problem choice)
-    → Grows Fixed best (map (with_decision node) (children_of node.problem choice)) tree bounds → Grows Fixed best (node ∷ []) (Branch choice children ∷ tree) bounds
-branch_alone best node choice children tree bounds helps count below = (helps, count, subst (λ (l : List Node). Grows Fixed best l tree bounds) (sym (append-nil (map (with_decision node) (children_of node.problem choice)))) below)
+pub branch_alone : (rule : Rule) (best : Option ℕ) (node : Node) (choice : Choice) (children : ℕ) (tree : List TreeNode) (bounds : List ℕ) → Helps rule best node choice → children ≡ length (children_of node.problem choice)
+    → Grows rule best (map (with_decision node) (children_of node.problem choice)) tree bounds → Grows rule best (node ∷ []) (Branch choice children ∷ tree) bounds
+branch_alone rule best node choice children tree bounds helps count below = (helps, count, subst (λ (l : List Node). Grows rule best l tree bounds) (sym (append-nil (map (with_decision node) (children_of node.problem choice)))) below)
 
 -- ---- the place that is left
 
@@ -73,8 +84,8 @@ below_below root middle here one other = record {
 }
 
 -- nothing stands beside the first place
-pub completes_first : (best : Option ℕ) (root : Node) → Completes best root root (record { before = []; before_bounds = []; behind = []; behind_bounds = [] })
-completes_first best root tree bounds grows = subst (λ (t : List TreeNode). Grows Fixed best (root ∷ []) t (bounds ++ [])) (sym (append-nil tree)) (subst (Grows Fixed best (root ∷ []) tree) (sym (append-nil bounds)) grows)
+pub completes_first : (rule : Rule) (best : Option ℕ) (root : Node) → Completes rule best root root (record { before = []; before_bounds = []; behind = []; behind_bounds = [] })
+completes_first rule best root tree bounds grows = subst (λ (t : List TreeNode). Grows rule best (root ∷ []) t (bounds ++ [])) (sym (append-nil tree)) (subst (Grows rule best (root ∷ []) tree) (sym (append-nil bounds)) grows)
 
 module _ {X : Type 0} where
   -- what stands beside a place, with what was there
@@ -91,24 +102,24 @@ module _ {X : Type 0} where
       inner : (before : List X) → before ++ (left ++ tree ++ right) ≡ (before ++ left) ++ tree ++ right
       inner before = sym (append_assoc before (left ++ tree) right) ∙ ap (λ (l : List X). l ++ right) (sym (append_assoc before left tree))
 
-module _ (best : Option ℕ) (root here : Node) (old : Sides) (choice : Choice) (children : ℕ) (helps : Helps Fixed best here choice) (count : children ≡ length (children_of here.problem choice)) (complete : Completes best root here old) where
+module _ (rule : Rule) (best : Option ℕ) (root here : Node) (old : Sides) (choice : Choice) (children : ℕ) (helps : Helps rule best here choice) (count : children ≡ length (children_of here.problem choice)) (complete : Completes rule best root here old) where
   -- what grows at all children of a branch fills the place
-  pub branch_fills : (tree : List TreeNode) (bounds : List ℕ) → Grows Fixed best (map (with_decision here) (children_of here.problem choice)) tree bounds
-      → Grows Fixed best (root ∷ []) (old.before ++ (Branch choice children ∷ tree) ++ reverse old.behind) (old.before_bounds ++ bounds ++ reverse old.behind_bounds)
-  branch_fills tree bounds grows = complete (Branch choice children ∷ tree) bounds (branch_alone best here choice children tree bounds helps count grows)
+  pub branch_fills : (tree : List TreeNode) (bounds : List ℕ) → Grows rule best (map (with_decision here) (children_of here.problem choice)) tree bounds
+      → Grows rule best (root ∷ []) (old.before ++ (Branch choice children ∷ tree) ++ reverse old.behind) (old.before_bounds ++ bounds ++ reverse old.behind_bounds)
+  branch_fills tree bounds grows = complete (Branch choice children ∷ tree) bounds (branch_alone rule best here choice children tree bounds helps count grows)
 
   -- leaves beside one child leave its place to be filled
   pub goes_to_child : (first last : List Decision) (decision : Decision) (left right : List TreeNode) (left_bounds right_bounds : List ℕ) → children_of here.problem choice ≡ first ++ decision ∷ last
-      → Grows Fixed best (map (with_decision here) first) left left_bounds → Grows Fixed best (map (with_decision here) last) right right_bounds
-      → Completes best root (with_decision here decision) (record { before = (old.before ++ Branch choice children ∷ []) ++ left; before_bounds = old.before_bounds ++ left_bounds; behind = old.behind ++ reverse right; behind_bounds = old.behind_bounds ++ reverse right_bounds })
+      → Grows rule best (map (with_decision here) first) left left_bounds → Grows rule best (map (with_decision here) last) right right_bounds
+      → Completes rule best root (with_decision here decision) (record { before = (old.before ++ Branch choice children ∷ []) ++ left; before_bounds = old.before_bounds ++ left_bounds; behind = old.behind ++ reverse right; behind_bounds = old.behind_bounds ++ reverse right_bounds })
   goes_to_child first last decision left right left_bounds right_bounds parts one other tree bounds grows =
-      let all = side_by_side best (map (with_decision here) first ++ with_decision here decision ∷ []) (map (with_decision here) last) (left ++ tree) right (left_bounds ++ bounds) right_bounds
-      (side_by_side best (map (with_decision here) first) (with_decision here decision ∷ []) left tree left_bounds bounds one grows) other in
+      let all = side_by_side rule best (map (with_decision here) first ++ with_decision here decision ∷ []) (map (with_decision here) last) (left ++ tree) right (left_bounds ++ bounds) right_bounds
+      (side_by_side rule best (map (with_decision here) first) (with_decision here decision ∷ []) left tree left_bounds bounds one grows) other in
       let places : (map (with_decision here) first ++ with_decision here decision ∷ []) ++ map (with_decision here) last ≡ map (with_decision here) (children_of here.problem choice) =
       append_assoc (map (with_decision here) first) (with_decision here decision ∷ []) (map (with_decision here) last) ∙ sym (ap (map (with_decision here)) parts ∙ map-append (with_decision here) first (decision ∷ last)) in
-      let filled = branch_fills (left ++ tree ++ right) (left_bounds ++ bounds ++ right_bounds) (subst (λ (l : List Node). Grows Fixed best l (left ++ tree ++ right) (left_bounds ++ bounds ++ right_bounds)) places all) in
-      subst (λ (t : List TreeNode). Grows Fixed best (root ∷ []) t (((old.before_bounds ++ left_bounds) ++ bounds) ++ reverse (old.behind_bounds ++ reverse right_bounds))) (beside old.before left tree right old.behind (Branch choice children))
-      (subst (λ (b : List ℕ). Grows Fixed best (root ∷ []) (old.before ++ (Branch choice children ∷ (left ++ tree ++ right)) ++ reverse old.behind) b) (beside_bounds old.before_bounds left_bounds bounds right_bounds old.behind_bounds) filled)
+      let filled = branch_fills (left ++ tree ++ right) (left_bounds ++ bounds ++ right_bounds) (subst (λ (l : List Node). Grows rule best l (left ++ tree ++ right) (left_bounds ++ bounds ++ right_bounds)) places all) in
+      subst (λ (t : List TreeNode). Grows rule best (root ∷ []) t (((old.before_bounds ++ left_bounds) ++ bounds) ++ reverse (old.behind_bounds ++ reverse right_bounds))) (beside old.before left tree right old.behind (Branch choice children))
+      (subst (λ (b : List ℕ). Grows rule best (root ∷ []) (old.before ++ (Branch choice children ∷ (left ++ tree ++ right)) ++ reverse old.behind) b) (beside_bounds old.before_bounds left_bounds bounds right_bounds old.behind_bounds) filled)
 
 -- ---- how many branches
 
@@ -125,10 +136,10 @@ branches_back [] = refl
 branches_back (Branch choice children ∷ tree) = let later = branches_back tree in ap branches (reverse-append (Branch choice children ∷ []) tree) ∙ branches_append (reverse tree) (Branch choice children ∷ []) ∙ omega (arith, later)
 branches_back (Leaf leaf ∷ tree) = let later = branches_back tree in ap branches (reverse-append (Leaf leaf ∷ []) tree) ∙ branches_append (reverse tree) (Leaf leaf ∷ []) ∙ omega (arith, later)
 
-module _ (best : Option ℕ) (root here : Node) (old : Sides) (choice : Choice) (children : ℕ) (helps : Helps Fixed best here choice) (count : children ≡ length (children_of here.problem choice)) (complete : Completes best root here old) where
+module _ (rule : Rule) (best : Option ℕ) (root here : Node) (old : Sides) (choice : Choice) (children : ℕ) (helps : Helps rule best here choice) (count : children ≡ length (children_of here.problem choice)) (complete : Completes rule best root here old) where
   -- leaves at all children leave no place
-  pub leaves_at_all : (left : List TreeNode) (left_bounds : List ℕ) → Grows Fixed best (map (with_decision here) (children_of here.problem choice)) left left_bounds
-      → IsComplete best root (record { before = (old.before ++ Branch choice children ∷ []) ++ left; before_bounds = old.before_bounds ++ left_bounds; behind = old.behind; behind_bounds = old.behind_bounds })
+  pub leaves_at_all : (left : List TreeNode) (left_bounds : List ℕ) → Grows rule best (map (with_decision here) (children_of here.problem choice)) left left_bounds
+      → IsComplete rule best root (record { before = (old.before ++ Branch choice children ∷ []) ++ left; before_bounds = old.before_bounds ++ left_bounds; behind = old.behind; behind_bounds = old.behind_bounds })
   leaves_at_all left left_bounds grows =
-      subst (λ (t : List TreeNode). Grows Fixed best (root ∷ []) (t ++ reverse old.behind) ((old.before_bounds ++ left_bounds) ++ reverse old.behind_bounds)) (sym (append_assoc old.before (Branch choice children ∷ []) left))
-      (branch_fills best root here old choice children helps count complete left left_bounds grows)
+      subst (λ (t : List TreeNode). Grows rule best (root ∷ []) (t ++ reverse old.behind) ((old.before_bounds ++ left_bounds) ++ reverse old.behind_bounds)) (sym (append_assoc old.before (Branch choice children ∷ []) left))
+      (branch_fills rule best root here old choice children helps count complete left left_bounds grows)

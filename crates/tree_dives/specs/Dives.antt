@@ -8,7 +8,7 @@ use Rattle.disp_model.specs.Nodes.{IsDead}
 use Rattle.disp_model.specs.Earliest.{IsEarliest}
 use Rattle.disp_model.specs.Valid.{IsValid}
 use Rattle.disp_model.specs.Cost.{cost_of}
-use Rattle.disp_model.specs.declared.settings.Rule.TheVariants.{Fixed}
+use Rattle.disp_model.specs.declared.settings.Rule.{Rule}
 use Rattle.open_nodes.specs.States.{IsBelow}
 use Rattle.tree_growth.specs.Grown.{Grows, Helps, branches}
 use Rattle.tree_dives.specs.Halves.{IsBelowNode}
@@ -29,18 +29,18 @@ pub record EndsInPlan (root : Node) (best : Option ℕ) (bounds : List ℕ) (pla
   pub earliest : IsEarliest here plan
 
 -- the node stays a leaf with its bound, and a choice is picked there
-pub record StaysOpen (root : Node) (best : Option ℕ) (bounds : List ℕ) : Type 0 where
+pub record StaysOpen (rule : Rule) (root : Node) (best : Option ℕ) (bounds : List ℕ) : Type 0 where
   pub choice : Choice
-  pub helps : Helps Fixed best root choice
+  pub helps : Helps rule best root choice
   pub bounds_are : bounds ≡ helps.bound ∷ []
 
-abbrev pub IsEndOf : Node → Option ℕ → ℕ → List TreeNode → List ℕ → End → Type 0
-IsEndOf root best allowance nodes bounds Closed = branches nodes ≡ 0 → IsClosedAt best root
-IsEndOf root best allowance nodes bounds (Plan plan) = EndsInPlan root best bounds plan
-IsEndOf root best allowance nodes bounds Open = (branches nodes ≡ allowance) × (allowance ≡ 0 → StaysOpen root best bounds)
+abbrev pub IsEndOf : Rule → Node → Option ℕ → ℕ → List TreeNode → List ℕ → End → Type 0
+IsEndOf rule root best allowance nodes bounds Closed = branches nodes ≡ 0 → IsClosedAt rule best root
+IsEndOf rule root best allowance nodes bounds (Plan plan) = EndsInPlan root best bounds plan
+IsEndOf rule root best allowance nodes bounds Open = (branches nodes ≡ allowance) × (allowance ≡ 0 → StaysOpen rule root best bounds)
 
 -- a subtree for the place of the node, with at most so many branches, and how it ended
-pub record IsDive (root : Node) (best : Option ℕ) (allowance : ℕ) (dive : Dive) : Type 0 where
-  pub grows : Grows Fixed best (root ∷ []) dive.nodes dive.bounds
+pub record IsDive (rule : Rule) (root : Node) (best : Option ℕ) (allowance : ℕ) (dive : Dive) : Type 0 where
+  pub grows : Grows rule best (root ∷ []) dive.nodes dive.bounds
   pub few : branches dive.nodes ≤ allowance
-  pub ends : IsEndOf root best allowance dive.nodes dive.bounds dive.end
+  pub ends : IsEndOf rule root best allowance dive.nodes dive.bounds dive.end

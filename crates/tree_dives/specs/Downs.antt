@@ -3,7 +3,7 @@ use Rattle.std.specs.Prelude.{◌≡◌, ℕ, ◌+◌, Bool, true, false, Option
 use Rattle.disp_model.specs.declared.decision.Choice.{Choice}
 use Rattle.disp_model.specs.Node.{Node}
 use Rattle.tree_dives.specs.declared.down.Halves.{Halves}
-use Rattle.disp_model.specs.declared.settings.Rule.TheVariants.{Fixed}
+use Rattle.disp_model.specs.declared.settings.Rule.{Rule}
 use Rattle.tree_growth.specs.Grown.{Helps, branches}
 use Rattle.tree_dives.specs.Halves.{Sides, Completes, IsComplete}
 
@@ -14,12 +14,12 @@ abbrev pub branches_in : Sides → ℕ
 branches_in sides = branches sides.before + branches sides.behind
 
 -- the place of the node below is left to be filled, or none is
-abbrev pub GoesOn : Option ℕ → Node → Node → Sides → Bool → Type 0
-GoesOn best root here sides true = Completes best root here sides
-GoesOn best root here sides false = IsComplete best root sides
+abbrev pub GoesOn : Rule → Option ℕ → Node → Node → Sides → Bool → Type 0
+GoesOn rule best root here sides true = Completes rule best root here sides
+GoesOn rule best root here sides false = IsComplete rule best root sides
 
 -- from the place of a node, by a branch there, to that of a node below it
-abbrev pub GoesDown : Choice → Node → Sides → Node → Sides → Bool → Type 0
-GoesDown choice here old below new more =
-    ((best : Option ℕ) (root : Node) → Helps Fixed best here choice → Completes best root here old → GoesOn best root below new more)
+abbrev pub GoesDown : Rule → Choice → Node → Sides → Node → Sides → Bool → Type 0
+GoesDown rule choice here old below new more =
+    ((best : Option ℕ) (root : Node) → Helps rule best here choice → Completes rule best root here old → GoesOn rule best root below new more)
     × (branches_in new ≡ branches_in old + 1)

@@ -1,10 +1,11 @@
 -- What comes next at a node.
-use Rattle.std.specs.Prelude.{ℕ, List, ◌⊎◌, Option, None}
+use Rattle.std.specs.Prelude.{ℕ, List, ◌⊎◌, Option}
 use Rattle.disp_model.specs.declared.plan.Event.{Event}
 use Rattle.disp_model.specs.Node.{Node}
-use Rattle.disp_model.specs.Nodes.{IsDead, IsForcedBound}
-use Rattle.disp_model.specs.Earliest.{IsEarliest, IsFixedPick}
-use Rattle.disp_model.specs.declared.settings.Rule.TheVariants.{Fixed}
+use Rattle.disp_model.specs.Nodes.{IsDead}
+use Rattle.disp_model.specs.Shares.{IsBound}
+use Rattle.disp_model.specs.Earliest.{IsEarliest, PicksNone}
+use Rattle.disp_model.specs.declared.settings.Rule.{Rule}
 use Rattle.open_nodes.specs.States.{IsBelow}
 use Rattle.tree_growth.specs.Grown.{Helps}
 use Rattle.tree_dives.specs.declared.stage.End.{End}
@@ -13,23 +14,23 @@ use Rattle.tree_dives.specs.declared.stage.Stage.{Stage}
 use Rattle.tree_dives.specs.declared.stage.Stage.TheVariants as stages
 
 -- the node needs no branch: it is dead, or its bound is not below the best
-abbrev pub IsClosedAt : Option ℕ → Node → Type 0
-IsClosedAt best node = IsDead node ⊎ ((bound : ℕ) × IsForcedBound node bound × (IsBelow bound best → ⊥))
+abbrev pub IsClosedAt : Rule → Option ℕ → Node → Type 0
+IsClosedAt rule best node = IsDead node ⊎ ((bound : ℕ) × IsBound node rule bound × (IsBelow bound best → ⊥))
 
 -- the node is not dead, its bound is below the best, nothing is picked there, and this is its earliest plan
-pub record HasPlan (best : Option ℕ) (node : Node) (plan : List Event) : Type 0 where
+pub record HasPlan (rule : Rule) (best : Option ℕ) (node : Node) (plan : List Event) : Type 0 where
   pub alive : IsDead node → ⊥
   pub bound : ℕ
-  pub bound_is : IsForcedBound node bound
+  pub bound_is : IsBound node rule bound
   pub below : IsBelow bound best
-  pub picked : IsFixedPick node None
+  pub picked : PicksNone node
   pub earliest : IsEarliest node plan
 
-abbrev pub EndsThere : Option ℕ → Node → End → Type 0
-EndsThere best node ends.Closed = IsClosedAt best node
-EndsThere best node (ends.Plan plan) = HasPlan best node plan
-EndsThere best node ends.Open = ⊥
+abbrev pub EndsThere : Rule → Option ℕ → Node → End → Type 0
+EndsThere rule best node ends.Closed = IsClosedAt rule best node
+EndsThere rule best node (ends.Plan plan) = HasPlan rule best node plan
+EndsThere rule best node ends.Open = ⊥
 
-abbrev pub IsStageAt : Option ℕ → Node → Stage → Type 0
-IsStageAt best node (stages.Branch choice) = Helps Fixed best node choice
-IsStageAt best node (stages.End end) = EndsThere best node end
+abbrev pub IsStageAt : Rule → Option ℕ → Node → Stage → Type 0
+IsStageAt rule best node (stages.Branch choice) = Helps rule best node choice
+IsStageAt rule best node (stages.End end) = EndsThere rule best node end

@@ -1,5 +1,6 @@
 ghost use Rattle.std.specs.Prelude.{◌≡◌, IfOk};
 ghost use Rattle.node_leaves.specs.declared.leaf.NodeLeaf.{NodeLeaf as NodeLeafOf};
+ghost use Rattle.node_leaves.specs.Reckoned.{ReckonsFor};
 ghost use Rattle.node_leaves.specs.Shown.{IsLeafOf};
 ghost use Rattle.tree_dives.specs.Dives.{IsDive};
 ghost use Rattle.tree_dives.specs.Wholes.{IsWhole, with_leaf};
@@ -9,13 +10,13 @@ ghost use Rattle.tree_dives.specs.Halves.{IsBelowNode};
 use crate::down::{Halves, go_down};
 use crate::given::Dive;
 use crate::grown::{append_back, nothing, push_leaf};
+use crate::guide::Guide;
 use crate::rewinding::rewind;
 use crate::stage::{End, Stage, stage_of};
 use disp_model::{List, Memory, Problem};
 use event_graph::Graph;
-use node_leaves::leaf_of;
+use node_leaves::{Reckoning, leaf_of};
 use std::alloc::Global;
-use train_insertion::Target;
 
 /// The subtree, where no place is left to be filled.
 fn whole(halves: Halves, end: End) -> Result<Dive, Memory>
@@ -34,15 +35,17 @@ fn whole(halves: Halves, end: End) -> Result<Dive, Memory>
 fn ended(
     alloc: Global,
     problem: &Problem,
+    reckoning: &Reckoning,
     graph: &Graph,
     mut halves: Halves,
     end: End,
 ) -> Result<Dive, Memory>
-    requires { graph.now.problem ≡ problem.now }
-    ensures { IfOk result (λ dive. (shown : NodeLeafOf) × IsLeafOf graph.now shown
+    requires node { graph.now.problem ≡ problem.now }
+    requires reckons { ReckonsFor problem.now reckoning.now }
+    ensures { IfOk result (λ dive. (shown : NodeLeafOf) × IsLeafOf reckoning.now.rule graph.now shown
         × IsWhole (with_leaf (sides_of halves) shown) end dive) }
 {
-    let leaf = leaf_of(alloc, problem, graph)?;
+    let leaf = leaf_of(alloc, problem, reckoning, graph)?;
     push_leaf(&mut halves.before, leaf)?;
     whole(halves, end)
 }
@@ -51,39 +54,50 @@ fn ended(
 fn dive_down(
     alloc: Global,
     problem: &Problem,
+    reckoning: &Reckoning,
     graph: &mut Graph,
     best: Option<u64>,
     allowance: u32,
-    target: &Target,
+    guide: &mut Guide,
 ) -> Result<Dive, Memory>
-    requires { graph.old.problem ≡ problem.now }
+    requires node { graph.old.problem ≡ problem.now }
+    requires reckons { ReckonsFor problem.now reckoning.now }
     ensures below { IsBelowNode graph.old graph.new }
-    ensures dive { IfOk result (IsDive graph.old best allowance) }
+    ensures dive { IfOk result (IsDive reckoning.now.rule graph.old best allowance) }
 {
     let mut halves = Halves {
         before: nothing(alloc),
         behind: nothing(alloc),
     };
     for _ in 0..allowance {
-        match stage_of(alloc, problem, graph, best)? {
+        match stage_of(alloc, problem, reckoning, graph, guide, best)? {
             Stage::Branch(choice) => {
-                if !go_down(alloc, problem, graph, &mut halves, choice, target)? {
+                if !go_down(
+                    alloc,
+                    problem,
+                    reckoning,
+                    graph,
+                    &mut halves,
+                    choice,
+                    &guide.target,
+                )? {
                     return whole(halves, End::Closed);
                 }
             }
-            Stage::End(end) => return ended(alloc, problem, graph, halves, end),
+            Stage::End(end) => return ended(alloc, problem, reckoning, graph, halves, end),
         }
     }
-    match stage_of(alloc, problem, graph, best)? {
-        Stage::Branch(_) => ended(alloc, problem, graph, halves, End::Open),
-        Stage::End(end) => ended(alloc, problem, graph, halves, end),
+    match stage_of(alloc, problem, reckoning, graph, guide, best)? {
+        Stage::Branch(_) => ended(alloc, problem, reckoning, graph, halves, End::Open),
+        Stage::End(end) => ended(alloc, problem, reckoning, graph, halves, end),
     }
 }
 
 /// Branches at the node of a graph, follows one child and branches there, and so on, at most so
 /// often. The child that the target takes is followed, or else the one that costs least; the others
 /// become leaves. It ends earlier at a node that is dead, or whose bound is not below the best cost,
-/// or where nothing is picked. The graph is as before.
+/// or where nothing is picked. Choices are picked, and bounds reckoned, by the rule of the reckoning. The graph is as
+/// before.
 ///
 /// # Errors
 ///
@@ -91,17 +105,19 @@ fn dive_down(
 pub fn dive(
     alloc: Global,
     problem: &Problem,
+    reckoning: &Reckoning,
     graph: &mut Graph,
     best: Option<u64>,
     allowance: u32,
-    target: &Target,
+    guide: &mut Guide,
 ) -> Result<Dive, Memory>
-    requires { graph.old.problem ≡ problem.now }
+    requires node { graph.old.problem ≡ problem.now }
+    requires reckons { ReckonsFor problem.now reckoning.now }
     ensures same { graph.new ≡ graph.old }
-    ensures dive { IfOk result (IsDive graph.old best allowance) }
+    ensures dive { IfOk result (IsDive reckoning.now.rule graph.old best allowance) }
 {
     let depth = graph.decisions().len();
-    let dive = dive_down(alloc, problem, graph, best, allowance, target);
+    let dive = dive_down(alloc, problem, reckoning, graph, best, allowance, guide);
     rewind(graph, depth);
     dive
 }

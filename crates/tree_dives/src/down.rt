@@ -1,5 +1,6 @@
 ghost use Rattle.std.specs.Prelude.{◌≡◌, true, false, IfOk, OnErr};
 ghost use Rattle.disp_model.specs.Node.{with_decision};
+ghost use Rattle.node_leaves.specs.Reckoned.{ReckonsFor};
 ghost use Rattle.tree_dives.specs.Halves.{IsBelowNode};
 ghost use Rattle.tree_dives.specs.Downs.{sides_of, GoesDown};
 
@@ -9,7 +10,7 @@ use crate::prefer::preferred;
 use branch_rules::children;
 use disp_model::{Choice, Decision, Memory, Problem};
 use event_graph::{ExtendNo, Graph};
-use node_leaves::child_leaf;
+use node_leaves::{Reckoning, child_leaf};
 use std::alloc::Global;
 use train_insertion::Target;
 
@@ -40,31 +41,33 @@ fn follow(graph: &mut Graph, decision: Decision) -> Result<bool, Memory>
 pub(crate) fn go_down(
     alloc: Global,
     problem: &Problem,
+    reckoning: &Reckoning,
     graph: &mut Graph,
     halves: &mut Halves,
     choice: Choice,
     target: &Target,
 ) -> Result<bool, Memory>
-    requires { graph.old.problem ≡ problem.now }
+    requires node { graph.old.problem ≡ problem.now }
+    requires reckons { ReckonsFor problem.now reckoning.now }
     ensures below { IsBelowNode graph.old graph.new }
-    ensures down { IfOk result (GoesDown choice graph.old (sides_of halves.old) graph.new
+    ensures down { IfOk result (GoesDown reckoning.now.rule choice graph.old (sides_of halves.old) graph.new
         (sides_of halves.new)) }
 {
     let children = children(alloc, problem, choice)?;
     push_branch(&mut halves.before, choice, children.len() as u32)?;
     let place = preferred(problem, graph, target, children.as_slice());
     let (first, rest) = children.as_slice().split_at(place);
-    let left = leaves_of(alloc, problem, graph, first)?;
+    let left = leaves_of(alloc, problem, reckoning, graph, first)?;
     append(&mut halves.before, left)?;
     let Some((followed, last)) = rest.split_first() else {
         return Ok(false);
     };
-    let right = leaves_of(alloc, problem, graph, last)?;
+    let right = leaves_of(alloc, problem, reckoning, graph, last)?;
     if follow(graph, *followed)? {
         append_back(&mut halves.behind, right)?;
         return Ok(true);
     }
-    let leaf = child_leaf(alloc, problem, graph, *followed)?;
+    let leaf = child_leaf(alloc, problem, reckoning, graph, *followed)?;
     push_leaf(&mut halves.before, leaf)?;
     append(&mut halves.before, right)?;
     Ok(false)

@@ -2,7 +2,7 @@ ghost use Rattle.std.specs.Prelude.{◌≡◌, ◌++◌, ◌∷◌, [], OnOk, re
 ghost use Rattle.disp_model.specs.declared.tree.TreeNode.TheVariants.{Branch, Leaf as LeafNode};
 ghost use Rattle.tree_dives.specs.Leaves.{leaf_in, bound_in};
 
-use disp_model::{Choice, Leaf, Memory, TreeNode};
+use disp_model::{Choice, Memory, TreeNode};
 use node_leaves::NodeLeaf;
 use std::alloc::Global;
 
@@ -43,7 +43,7 @@ pub(crate) fn push_leaf(grown: &mut Grown, shown: NodeLeaf) -> Result<(), Memory
 {
     let (leaf, bound) = match shown {
         NodeLeaf::Dead(leaf) => (leaf, 0),
-        NodeLeaf::Open(bound) => (Leaf::Costs(bound.walks), bound.cost),
+        NodeLeaf::Open { leaf, bound } => (leaf, bound),
     };
     grown.nodes.push(TreeNode::Leaf(leaf))?;
     grown.bounds.push(bound)?;

@@ -1,31 +1,33 @@
 ghost use Rattle.std.specs.Prelude.{◌≡◌, ℕ, Option, map, IfOk};
 ghost use Rattle.disp_model.specs.Node.{with_decision};
-ghost use Rattle.disp_model.specs.declared.settings.Rule.TheVariants.{Fixed};
+ghost use Rattle.node_leaves.specs.Reckoned.{ReckonsFor};
 ghost use Rattle.tree_growth.specs.Grown.{Grows, branches};
 
 use crate::grown::{Grown, nothing, push_leaf};
 use disp_model::{Decision, Memory, Problem};
 use event_graph::Graph;
-use node_leaves::child_leaf;
+use node_leaves::{Reckoning, child_leaf};
 use std::alloc::Global;
 
 /// A leaf for each of the children to which these decisions lead. The graph is as before.
 pub(crate) fn leaves_of(
     alloc: Global,
     problem: &Problem,
+    reckoning: &Reckoning,
     graph: &mut Graph,
     decisions: &[Decision],
 ) -> Result<Grown, Memory>
-    requires { graph.old.problem ≡ problem.now }
+    requires node { graph.old.problem ≡ problem.now }
+    requires reckons { ReckonsFor problem.now reckoning.now }
     ensures same { graph.new ≡ graph.old }
     ensures grows { IfOk result (λ grown. (best : Option ℕ)
-        → Grows Fixed best (map (with_decision graph.old) decisions.now) grown.nodes.items
+        → Grows reckoning.now.rule best (map (with_decision graph.old) decisions.now) grown.nodes.items
         grown.bounds.items) }
     ensures leaves { IfOk result (λ grown. branches grown.nodes.items ≡ 0) }
 {
     let mut grown = nothing(alloc);
     for decision in decisions {
-        let leaf = child_leaf(alloc, problem, graph, *decision)?;
+        let leaf = child_leaf(alloc, problem, reckoning, graph, *decision)?;
         push_leaf(&mut grown, leaf)?;
     }
     Ok(grown)

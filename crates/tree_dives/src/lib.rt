@@ -3,13 +3,15 @@
 //! `dive` branches at the node of a graph, follows one child and branches there, and so on, until
 //! its allowance is spent, the child is dead or costs too much, or nothing is picked there, so that
 //! the earliest plan is valid. The other children become leaves with their bounds. The graph is as
-//! before then. Which child is followed is advice of a target, and nothing rests on it.
+//! before then. Which child is followed, and under the free rule which open choice is taken, is advice of a
+//! guide, and nothing rests on it.
 #![tactic(auto)]
 
 mod diving;
 mod down;
 mod given;
 mod grown;
+mod guide;
 mod leaves;
 mod prefer;
 mod rewinding;
@@ -17,6 +19,7 @@ mod stage;
 
 pub use diving::dive;
 pub use given::Dive;
+pub use guide::Guide;
 pub use rewinding::rewind;
 pub use stage::End;
 

@@ -31,7 +31,7 @@ fn is_aimed_at(target: &Target, decision: Decision) -> bool {
             _ => false,
         },
         Decision::Run(op) => target.start_of(op).is_some(),
-        Decision::Skip(_) => false,
+        Decision::Skip(op) => target.start_of(op).is_none(),
     }
 }
 

@@ -1,11 +1,16 @@
 ghost use Rattle.std.specs.Prelude.{◌≡◌, ◌↔◌, IsTrue, IfOk};
+ghost use Rattle.disp_model.specs.Nodes.{IsDead};
+ghost use Rattle.free_choices.specs.Picks.{IsPickBy};
+ghost use Rattle.node_leaves.specs.Reckoned.{ReckonsFor};
 ghost use Rattle.open_nodes.specs.States.{IsBelow};
 ghost use Rattle.tree_dives.specs.Stages.{IsStageAt};
 
+use crate::guide::Guide;
 use branch_rules::{Pick, pick_fixed};
-use cost_bound::cost;
-use disp_model::{Choice, Memory, Plan, Problem};
+use disp_model::{Choice, Memory, Plan, Problem, Rule};
 use event_graph::Graph;
+use free_choices::pick_free;
+use node_leaves::Reckoning;
 use std::alloc::Global;
 
 /// How a dive ended.
@@ -36,23 +41,46 @@ fn is_below(bound: u64, best: Option<u64>) -> bool
     }
 }
 
-/// What comes next at the node of a graph.
+/// What a rule finds at the node of a graph, which is not dead. The graph is as before.
+fn pick(
+    alloc: Global,
+    problem: &Problem,
+    rule: Rule,
+    graph: &mut Graph,
+    guide: &mut Guide,
+) -> Result<Pick, Memory>
+    requires node { graph.old.problem ≡ problem.now }
+    requires alive { IsDead graph.old → ⊥ }
+    ensures same { graph.new ≡ graph.old }
+    ensures picked { IfOk result (IsPickBy rule graph.old) }
+{
+    match rule {
+        Rule::Fixed => pick_fixed(alloc, problem, graph),
+        Rule::Free => pick_free(alloc, problem, graph, &mut guide.adviser, guide.strategy),
+    }
+}
+
+/// What comes next at the node of a graph, by the rule of the reckoning. The graph is as before.
 pub(crate) fn stage_of(
     alloc: Global,
     problem: &Problem,
-    graph: &Graph,
+    reckoning: &Reckoning,
+    graph: &mut Graph,
+    guide: &mut Guide,
     best: Option<u64>,
 ) -> Result<Stage, Memory>
-    requires { graph.now.problem ≡ problem.now }
-    ensures { IfOk result (IsStageAt best graph.now) }
+    requires node { graph.old.problem ≡ problem.now }
+    requires reckons { ReckonsFor problem.now reckoning.now }
+    ensures same { graph.new ≡ graph.old }
+    ensures stage { IfOk result (IsStageAt reckoning.now.rule best graph.old) }
 {
     let None = graph.late() else {
         return Ok(Stage::End(End::Closed));
     };
-    if !is_below(cost(problem, graph), best) {
+    if !is_below(reckoning.cost(alloc, problem, graph)?, best) {
         return Ok(Stage::End(End::Closed));
     }
-    match pick_fixed(alloc, problem, graph)? {
+    match pick(alloc, problem, reckoning.rule, graph, guide)? {
         Pick::Choice(choice) => Ok(Stage::Branch(choice)),
         Pick::Plan(plan) => Ok(Stage::End(End::Plan(plan))),
     }

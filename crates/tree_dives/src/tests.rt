@@ -1,9 +1,10 @@
 // Dives from the root of a fork.
 ghost use Rattle.std.specs.Prelude.{◌≡◌, IfOk, length};
 
-use crate::{Dive, End, dive};
-use disp_model::{Component, Leaf, List, Listing, Memory, Operation, Problem, TreeNode};
+use crate::{Dive, End, Guide, dive};
+use disp_model::{Component, Leaf, List, Listing, Memory, Operation, Problem, Rule, TreeNode};
 use event_graph::Graph;
+use node_leaves::Reckoning;
 use std::alloc::Global;
 use std::process::Abort;
 use std::test::Fail;
@@ -113,30 +114,52 @@ fn check(
     rt: &impl Abort,
     alloc: Global,
     problem: &Problem,
+    rule: Rule,
     best: Option<u64>,
     allowance: u32,
     wanted: &str,
 ) -> Result<(), Fail> {
     let mut graph = root(alloc, problem)?;
-    let target = Target::none(alloc);
-    let found = dive(alloc, problem, &mut graph, best, allowance, &target)?;
+    let mut guide = Guide::new(alloc, problem, Target::none(alloc))?;
+    let reckoning = Reckoning::new(alloc, problem, rule)?;
+    let found = dive(
+        alloc, problem, &reckoning, &mut graph, best, allowance, &mut guide,
+    )?;
     assert_eq!(rt; shown(alloc, &found)?.as_str(), wanted);
     assert_eq!(rt; graph.decisions().len(), 0);
     Ok(())
 }
 
 fn check_fork(rt: &impl Abort, alloc: Global, problem: &Problem) -> Result<(), Fail> {
-    check(rt, alloc, problem, None, 0, "open costs 3")?;
-    check(rt, alloc, problem, Some(3), 9, "closed costs 3")?;
+    check(rt, alloc, problem, Rule::Fixed, None, 0, "open costs 3")?;
     check(
         rt,
         alloc,
         problem,
+        Rule::Fixed,
+        Some(3),
+        9,
+        "closed costs 3",
+    )?;
+    check(rt, alloc, problem, Rule::Free, Some(5), 9, "closed other 5")?;
+    check(
+        rt,
+        alloc,
+        problem,
+        Rule::Fixed,
         Some(5),
         9,
         "closed branch costs costs 5 13",
     )?;
-    check(rt, alloc, problem, None, 1, "plan branch costs costs 5 13")
+    check(
+        rt,
+        alloc,
+        problem,
+        Rule::Fixed,
+        None,
+        1,
+        "plan branch costs costs 5 13",
+    )
 }
 
 #[test]

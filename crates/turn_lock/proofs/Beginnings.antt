@@ -3,7 +3,7 @@ use Rattle.std.proofs.Common.{◌≡◌, ℕ, zero, suc, ◌+◌, ◌<◌, ◌�
 use Rattle.std.specs.Prelude.{slice_get, nat_lt}
 use Rattle.std.proofs.lemmas.List.{append-nil}
 use Rattle.std.proofs.lemmas.Bool.{ltb-true, ltb-false, cond_both}
-use Rattle.turn_lock.specs.View.{StartsWith, longer_of, shorter_of}
+use Rattle.turn_lock.specs.Known.{StartsWith, longer_of, shorter_of}
 
 pub either_bool : (b : Bool) → (b ≡ true) ⊎ (b ≡ false)
 either_bool true = inl refl
@@ -25,6 +25,9 @@ module _ {E : Type 0} where
 
   pub starts_length : (h p : List E) → StartsWith h p → length p ≤ length h
   starts_length h p (rest, e) = let n : length h ≡ length p + length rest = ap length e ∙ length-append p rest in omega arith
+
+  pub none_there : (k : ℕ) (e : E) → slice_get [] k ≡ Some e → ⊥
+  none_there k e found = absurd (cc)
 
   pub get_left : (p r : List E) (k : ℕ) (e : E) → slice_get p k ≡ Some e → slice_get (p ++ r) k ≡ Some e
   get_left [] r k e h = absurd (cc)

@@ -1,3 +1,4 @@
+pub mod Known
 pub mod View
 pub mod Section
 pub mod Order

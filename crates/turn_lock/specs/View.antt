@@ -1,25 +1,24 @@
--- What passes know, and how steps change that.
-use Rattle.std.specs.Prelude.{◌≡◌, ℕ, true, false, List, [], ◌∷◌, ◌++◌, Contains, length, max, nat_lt, if◌then◌else◌}
+-- What the lock's rule keeps of passes, and how steps change that.
+use Rattle.std.specs.Prelude.{ℕ, true, false, [], ◌∷◌, ◌++◌, length, max, None, Some}
 use Rattle.turn_lock.specs.declared.pass.View.{View}
 use Rattle.turn_lock.specs.declared.pass.Meeting.{Meeting}
-
--- no place is in both
-abbrev pub AreApart : List ℕ → List ℕ → Type 0
-AreApart places others = (place : ℕ) → Contains places place → Contains others place → ⊥
+use Rattle.turn_lock.specs.Known.{Known, longer_of, shorter_of}
 
 module _ {E : Type 0} where
-  -- the history begins with these entries
-  abbrev pub StartsWith : List E → List E → Type 0
-  StartsWith history part = (rest : List E) × (history ≡ part ++ rest)
-
   abbrev pub no_meeting : Meeting E
-  no_meeting = record { kept = []; brought = []; longer = []; shorter = [] }
+  no_meeting = record { past = 0; kept = []; brought = []; longer = []; shorter = [] }
 
-  abbrev pub first_view : ℕ → View E
-  first_view caller = record {
+module _ {E T : Type 0} where
+  -- what the pass knows
+  abbrev pub known_of : View E T → Known E T
+  known_of v = record { first = v.first; caller = v.caller; terms = v.terms; seen = v.seen; mine = v.mine; count = v.count; tries = v.tries; given = v.given; back = v.back }
+
+  abbrev pub first_view : ℕ → T → View E T
+  first_view caller terms = record {
     first = true;
     spent = false;
     caller = caller;
+    terms = Some terms;
     seen = [];
     mine = [];
     count = 0;
@@ -31,12 +30,12 @@ module _ {E : Type 0} where
     met = no_meeting;
   }
 
-  -- what a pass begins with that this one gives to a caller
-  abbrev pub given_view : View E → ℕ → View E
+  abbrev pub given_view : View E T → ℕ → View E T
   given_view v caller = record {
     first = false;
     spent = false;
     caller = caller;
+    terms = v.terms;
     seen = v.seen;
     mine = [];
     count = v.count;
@@ -48,11 +47,12 @@ module _ {E : Type 0} where
     met = no_meeting;
   }
 
-  abbrev pub spent_view : View E
+  abbrev pub spent_view : View E T
   spent_view = record {
     first = false;
     spent = true;
     caller = 0;
+    terms = None;
     seen = [];
     mine = [];
     count = 0;
@@ -65,25 +65,15 @@ module _ {E : Type 0} where
   }
 
   -- after a pass was given to the caller
-  abbrev pub giving : View E → ℕ → View E
+  abbrev pub giving : View E T → ℕ → View E T
   giving v caller = record v { given = v.given ++ caller ∷ [] }
 
-  abbrev pub longer_of : List E → List E → List E
-  longer_of xs ys = if nat_lt (length xs) (length ys) then ys else xs
-
-  abbrev pub shorter_of : List E → List E → List E
-  shorter_of xs ys = if nat_lt (length xs) (length ys) then xs else ys
-
   -- after the other pass was joined
-  abbrev pub joining : View E → View E → View E
+  abbrev pub joining : View E T → View E T → View E T
   joining v w = record v {
     seen = longer_of v.seen w.seen;
     mine = v.mine ++ w.mine;
     count = max v.count w.count;
     back = v.back ++ w.caller ∷ [];
-    met = record { kept = v.mine; brought = w.mine; longer = longer_of v.seen w.seen; shorter = shorter_of v.seen w.seen };
+    met = record { past = length v.seen; kept = v.mine; brought = w.mine; longer = longer_of v.seen w.seen; shorter = shorter_of v.seen w.seen };
   }
-
-  -- each pass that was given is joined again
-  abbrev pub IsLast : View E → Type 0
-  IsLast v = (v.first ≡ true) × ((caller : ℕ) → Contains v.given caller → Contains v.back caller)

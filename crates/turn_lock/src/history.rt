@@ -5,11 +5,20 @@ ghost use Rattle.std.specs.Prelude.{◌≡◌, ℕ, List, Option, length};
 pub trait History: Drop {
     type Entry;
 
+    /// What a state is given once. It is read in clauses alone.
+    type Terms;
+
     // The entries so far, oldest first.
     ghost entries: { Self → List Self.Entry };
 
     // The caller that an entry names.
     ghost named: { Self.Entry → Option ℕ };
+
+    // What never changes of a state.
+    ghost terms: { Self → Self.Terms };
+
+    // What every state keeps.
+    ghost kept: { Self → Type 0 };
 
     /// How many entries there are.
     fn count(&self) -> u64

@@ -31,7 +31,7 @@ fn note<R: Wait>(
     rt: &R,
     lock: &Turn<Log>,
     mut pass: Pass<Log>,
-    by: u64,
+    by: u32,
     value: Option<u32>,
 ) -> (Pass<Log>, bool)
     requires lock { own_lock pass ≡ lock_of lock.now }
@@ -49,7 +49,7 @@ fn note<R: Wait>(
 
 #[test]
 fn two_callers_add_an_entry_each(rt: HostRuntime) -> Result<(), Fail> {
-    let (lock, mut first) = Turn::new(rt.alloc(), Log::new(rt.alloc())?, 1)?;
+    let (lock, mut first) = Turn::new(rt.alloc(), Log::new(rt.alloc(), 7)?, 1)?;
     let second = lock.split(&mut first, 2);
     let ((first, _), (second, _)) = join(
         &rt,
@@ -60,6 +60,7 @@ fn two_callers_add_an_entry_each(rt: HostRuntime) -> Result<(), Fail> {
     assert!(rt; lock.grown(&mut first) == 2);
     lock.join(&mut first, second);
     let log = lock.close(first);
+    assert!(rt; log.number == 7);
     let one = Note {
         by: Some(1),
         value: 10,
@@ -112,7 +113,7 @@ fn try_while_held(
 
 #[test]
 fn a_try_is_busy_while_a_section_runs(rt: HostRuntime) -> Result<(), Fail> {
-    let (lock, mut first) = Turn::new(rt.alloc(), Log::new(rt.alloc())?, 1)?;
+    let (lock, mut first) = Turn::new(rt.alloc(), Log::new(rt.alloc(), 7)?, 1)?;
     let second = lock.split(&mut first, 2);
     let held = AtomicBool::new(false);
     let done = AtomicBool::new(false);
@@ -140,7 +141,7 @@ fn cross_threads<S: History + Send, A: Allocator + Send + Sync>(lock: &Turn<S, A
 
 #[test]
 fn a_lock_is_shared_and_its_passes_are_sent(rt: HostRuntime) -> Result<(), Fail> {
-    let (lock, pass) = Turn::new(rt.alloc(), Log::new(rt.alloc())?, 1)?;
+    let (lock, pass) = Turn::new(rt.alloc(), Log::new(rt.alloc(), 7)?, 1)?;
     cross_threads(&lock, &pass);
     Ok(())
 }

@@ -7,7 +7,7 @@ use std::test::Fail;
 use word_lists::words_of;
 
 /// Two trains on one block, for 10 and for 4.
-const ONE_BLOCK: &str =
+pub(crate) const ONE_BLOCK: &str =
     r#"{"trains":[[{"min_duration":10,"resources":[{"resource":"r"}],"successors":[1]},{}],[{"min_duration":4,"resources":[{"resource":"r"}],"successors":[1]},{}]],"objective":[{"type":"op_delay","train":0,"operation":1,"coeff":1},{"type":"op_delay","train":1,"operation":1,"coeff":1}]}"#;
 
 /// The same with a release time of 3.
@@ -19,15 +19,17 @@ const SWAP: &str =
     r#"{"trains":[[{"min_duration":10,"resources":[{"resource":"r1"}],"successors":[1]},{"resources":[{"resource":"r2"}],"successors":[2]},{}],[{"min_duration":10,"resources":[{"resource":"r2"}],"successors":[1]},{"resources":[{"resource":"r1"}],"successors":[2]},{}]],"objective":[]}"#;
 
 /// One train with two ways: 5 long, or 3 long at a price of 10.
-const FORK: &str =
+pub(crate) const FORK: &str =
     r#"{"trains":[[{"successors":[1,2]},{"min_duration":5,"successors":[3]},{"min_duration":3,"successors":[3]},{}]],"objective":[{"type":"op_delay","train":0,"operation":3,"coeff":1},{"type":"op_delay","train":0,"operation":2,"increment":10}]}"#;
 
 const EIGHTEEN: &str =
     "edition 0\noptimal 18\n{\"events\":[{\"operation\":0,\"time\":0,\"train\":1},{\"operation\":1,\"time\":4,\"train\":1},{\"operation\":0,\"time\":4,\"train\":0},{\"operation\":1,\"time\":14,\"train\":0}],\"objective_value\":18}\n";
 
-/// `solve p --fixings f --budget B` of these files ends with this status and these lines.
-fn check(
+/// `solve p --fixings f --rule RULE --budget B` of these files ends with this status and these
+/// lines.
+fn check_by(
     rt: &(impl Abort + AllocGlobal),
+    rule: &str,
     problem: &str,
     fixings: &str,
     budget: &str,
@@ -35,7 +37,19 @@ fn check(
     want: &str,
 ) -> Result<(), Fail> {
     let alloc = rt.alloc();
-    let words = words_of(alloc, &["solve", "p", "--fixings", "f", "--budget", budget])?;
+    let words = words_of(
+        alloc,
+        &[
+            "solve",
+            "p",
+            "--fixings",
+            "f",
+            "--rule",
+            rule,
+            "--budget",
+            budget,
+        ],
+    )?;
     let mut shelf = SteadyShelf::new(alloc);
     shelf.place("p", problem.as_bytes())?;
     shelf.place("f", fixings.as_bytes())?;
@@ -44,6 +58,19 @@ fn check(
     assert_eq!(rt; done.status, status, "{want}");
     assert_eq!(rt; out.written(), want.as_bytes(), "{want}");
     Ok(())
+}
+
+/// The same by both rules.
+fn check(
+    rt: &(impl Abort + AllocGlobal),
+    problem: &str,
+    fixings: &str,
+    budget: &str,
+    status: u8,
+    want: &str,
+) -> Result<(), Fail> {
+    check_by(rt, "fixed", problem, fixings, budget, status, want)?;
+    check_by(rt, "free", problem, fixings, budget, status, want)
 }
 
 #[test]
@@ -78,13 +105,23 @@ fn a_spent_budget_is_told(rt: HostRuntime) -> Result<(), Fail> {
         3,
         "edition 0\nunfinished best none bound 14 spent 0\n",
     )?;
-    check(
+    check_by(
         &rt,
+        "fixed",
         FORK,
         "",
         "0",
         3,
         "edition 0\nunfinished best none bound 3 spent 0\n",
+    )?;
+    check_by(
+        &rt,
+        "free",
+        FORK,
+        "",
+        "0",
+        3,
+        "edition 0\nunfinished best none bound 5 spent 0\n",
     )
 }
 

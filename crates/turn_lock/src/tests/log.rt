@@ -1,26 +1,33 @@
 //! A state with a history of notes.
-ghost use Rattle.std.specs.Prelude.{◌≡◌, ℕ, [], ◌∷◌, ◌++◌, IsNone, IfOk, MatchBool, Some};
+ghost use Rattle.std.specs.Prelude.{◌≡◌, ◌<◌, ℕ, [], ◌∷◌, ◌++◌, IsNone, IfOk, MatchBool, Some};
 
 use crate::History;
 use std::alloc::{AllocError, Global};
 
 #[derive(Clone, Copy, Debug, PartialEq, Eq)]
 pub struct Note {
-    pub by: Option<u64>,
+    pub by: Option<u32>,
     pub value: u32,
 }
 
 #[derive(Drop)]
 pub struct Log {
+    pub number: u32,
     pub notes: Vec<Note>,
 }
 
 impl History for Log {
     type Entry = Note;
 
+    type Terms = u32;
+
     ghost entries = { λ log. log.notes.items };
 
     ghost named = { λ note. note.by };
+
+    ghost terms = { λ log. log.number };
+
+    ghost kept = { λ log. log.number < 9 };
 
     fn count(&self) -> u64 {
         self.notes.len() as u64
@@ -28,17 +35,19 @@ impl History for Log {
 }
 
 impl Log {
-    /// A log with room for a few notes.
-    pub fn new(alloc: Global) -> Result<Log, AllocError>
-        ensures { IfOk result (λ log. log.notes.items ≡ []) }
+    /// A log with a number and room for a few notes.
+    pub fn new(alloc: Global, number: u32) -> Result<Log, AllocError>
+        ensures { IfOk result (λ log. (log.notes.items ≡ []) × (log.number ≡ number)) }
     {
         Ok(Log {
+            number,
             notes: Vec::with_capacity(alloc, 8)?,
         })
     }
 
     /// Adds a note by this caller, if there is a value and memory, and says whether it did.
-    pub fn note(&mut self, by: u64, value: Option<u32>) -> bool
+    pub fn note(&mut self, by: u32, value: Option<u32>) -> bool
+        ensures number { self.new.number ≡ self.old.number }
         ensures none { IsNone value → self.new.notes.items ≡ self.old.notes.items }
         ensures added { MatchBool result
             ((n : ℕ) × (self.new.notes.items ≡ self.old.notes.items

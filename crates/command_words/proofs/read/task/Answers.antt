@@ -1,5 +1,6 @@
-use Rattle.std.proofs.Common.{◌∙◌, ◌≡◌, inl, inr, true, false}
-use Rattle.command_words.proofs.Rows.{name_is}
+use Rattle.std.proofs.Common.{◌∙◌, ◌≡◌, inl, inr, refl, sym, true, false}
+use Rattle.std.proofs.lemmas.Result.{IfErr-weaker}
+use Rattle.command_words.proofs.Rows.{name_is, named_rows}
 use Rattle.command_words.proofs.Commands.{taken_names_one}
 use Rattle.command_words.proofs.read.task.Goals as goal
 
@@ -7,7 +8,7 @@ unlike : false ≡ true → ⊥
 unlike e = cc
 
 pub returns-clause-err : goal.returns-clause-err
-returns-clause-err c words rows_are taken =
+returns-clause-err c words rows_are = inl (λ taken.
     let one = taken_names_one words taken in
     elim one.1 [
       | inl named ↦ unlike (c.in_default.ensures.found.1 (name_is _ _ one.0 (rows_are ∙ named)))
@@ -15,4 +16,9 @@ returns-clause-err c words rows_are taken =
         | inl named ↦ unlike (c.in_default-subcommand_matches.ensures.found.1 (name_is _ _ one.0 (rows_are ∙ named)))
         | inr named ↦ unlike (c.in_default-subcommand_matches-2.ensures.found.1 (name_is _ _ one.0 (rows_are ∙ named)))
       ]
-    ]
+    ])
+
+pub returns-in-Some-clause-err : goal.returns-in-Some-clause-err
+returns-in-Some-clause-err c = IfErr-weaker c.solve.result _ _
+    (λ no h words rows_are. h words (sym rows_are
+    ∙ named_rows _ _ _ (c.in-Some.ensures.found.0 refl) c.in-Some.ensures.rows)) c.solve.ensures.err

@@ -7,7 +7,7 @@ use Rattle.dispatch_cli.proofs.judge_tree.answer_to.Goals as goal
 pub returns-in-Accepted-clause-ok : goal.returns-in-Accepted-clause-ok
 returns-in-Accepted-clause-ok c = IfOk-weaker c.accepted.result _ _ (λ answer h. record {
   journal = h.accepted.journal;
-  put = h.accepted.put;
+  puts = h.accepted.puts;
   checked = Accepted;
   is_checked = checked_as c.args.problem.now c.args.fixings.now c.args.verdict _ _ _ _ c.as_slice.ensures c.in-Accepted.is c.in_ok-check.ensures;
   says = (h.said, h.said_of_plan, h.accepted.status_is, h.accepted.lines_are);
@@ -16,7 +16,7 @@ returns-in-Accepted-clause-ok c = IfOk-weaker c.accepted.result _ _ (λ answer h
 pub returns-in_ok-refused_line-in-Refused-clause-ok : goal.returns-in_ok-refused_line-in-Refused-clause-ok
 returns-in_ok-refused_line-in-Refused-clause-ok c = IfOk-weaker c.one_line.result _ _ (λ answer h. record {
   journal = h.journal;
-  put = h.put;
+  puts = h.puts;
   checked = Refused c.in-Refused.node c.in-Refused.why;
   is_checked = checked_as c.args.problem.now c.args.fixings.now c.args.verdict _ _ _ _ c.as_slice.ensures c.in-Refused.is c.in_ok-check.ensures;
   says = (h.status_is, h.lines ∙ ap (λ l. l ∷ []) c.in_ok-refused_line-in-Refused.ensures);

@@ -1,4 +1,4 @@
-use Rattle.std.proofs.Common.{option_map, inl, inr}
+use Rattle.std.proofs.Common.{inl, inr}
 use Rattle.std.proofs.lemmas.Result.{IfOk-weaker, IfErr-weaker}
 use Rattle.dispatch_cli.specs.Files.{IsProblemFile}
 use Rattle.dispatch_cli.specs.Outside.{IsName, IsGiven, IsProblemOrFixings}
@@ -9,7 +9,7 @@ pub returns-in-Ok-clause-ok : goal.returns-in-Ok-clause-ok
 returns-in-Ok-clause-ok g c =
     let holds = g.S.Shelf.holds c.args.shelf.now in
     let mid = g.S.Shelf.holds c.problem_file.new.shelf in
-    let fixings = option_map (λ name. name.now) c.args.fixings in
+    let fixings = c.args.task.now.fixings in
     IfOk-weaker c.solve_with.result _ _ (λ answer h. record {
       problem = c.in-Ok.problem;
       file = rw (← c.as_str.ensures) c.in-Ok.ensures.ok;
@@ -26,8 +26,8 @@ returns-in-Ok-clause-no g c =
     let old = g.S.Shelf.reading_faults c.args.shelf.now in
     let mid = g.S.Shelf.reading_faults c.problem_file.new.shelf in
     let new = g.S.Shelf.reading_faults c.solve_with.new.shelf in
-    let fixings = option_map (λ name. name.now) c.args.fixings in
-    let file : IsProblemFile holds c.args.problem.now c.in-Ok.problem =
+    let fixings = c.args.task.now.fixings in
+    let file : IsProblemFile holds c.args.task.now.problem c.in-Ok.problem =
     rw (← c.as_str.ensures) c.in-Ok.ensures.ok in
     IfErr-weaker c.solve_with.result _ _ (λ cause h. inr (
       c.in-Ok.problem,
@@ -39,10 +39,10 @@ returns-in-Ok-clause-no g c =
 
 pub returns-in-Ok-clause-reads : goal.returns-in-Ok-clause-reads
 returns-in-Ok-clause-reads g c =
-    let fixings = option_map (λ name. name.now) c.args.fixings in
-    let first = reads_of_one c.args.problem.now _ _ _ _ _ _ _
+    let fixings = c.args.task.now.fixings in
+    let first = reads_of_one c.args.task.now.problem _ _ _ _ _ _ _
     (rw c.as_str.ensures at c.in-Ok.ensures.reads) in
-    reads_then (IsName c.args.problem.now) (IsGiven fixings) _ _ _ _ _ _ _ _ _ _ _ (λ e. e) first
+    reads_then (IsName c.args.task.now.problem) (IsGiven fixings) _ _ _ _ _ _ _ _ _ _ _ (λ e. e) first
     c.solve_with.ensures.reads
 
 pub returns-in-Err-clause-no : goal.returns-in-Err-clause-no
@@ -50,7 +50,7 @@ returns-in-Err-clause-no g c = inl (rw (← c.as_str.ensures) c.in-Err.ensures.n
 
 pub returns-in-Err-clause-reads : goal.returns-in-Err-clause-reads
 returns-in-Err-clause-reads g c =
-    let fixings = option_map (λ name. name.now) c.args.fixings in
-    reads_among (IsName c.args.problem.now) (IsProblemOrFixings c.args.problem.now fixings)
+    let fixings = c.args.task.now.fixings in
+    reads_among (IsName c.args.task.now.problem) (IsProblemOrFixings c.args.task.now.problem fixings)
     _ _ _ _ _ _ _ (λ n e. inl e)
-    (reads_of_one c.args.problem.now _ _ _ _ _ _ _ (rw c.as_str.ensures at c.in-Err.ensures.reads))
+    (reads_of_one c.args.task.now.problem _ _ _ _ _ _ _ (rw c.as_str.ensures at c.in-Err.ensures.reads))

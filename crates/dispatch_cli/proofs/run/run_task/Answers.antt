@@ -21,16 +21,13 @@ pub returns-in-Check-clause-no : goal.returns-in-Check-clause-no
 returns-in-Check-clause-no g c = rw c.in-Check.is (rw (← c.as_ref-in-Check.ensures.value, ← c.as_ref-in-Check-2.ensures.value) c.run_check.ensures.no)
 
 pub returns-in-Solve-clause-counts : goal.returns-in-Solve-clause-counts
-returns-in-Solve-clause-counts g c name =
-    rw c.in-Solve.is (rw (← c.as_ref-fixings.ensures.value)
-    (counts_of_two c.in-Solve.problem _ c.in-Solve.budget _ _ _ c.run_solve.ensures.reads.counted
-    c.run_solve.ensures.reads.others name))
+returns-in-Solve-clause-counts g c name = rw c.in-Solve.is (counts_of_two c.in-Solve.task _ _
+    c.run_solve.ensures.reads.counted c.run_solve.ensures.reads.others name)
 
 pub returns-in-Solve-clause-no : goal.returns-in-Solve-clause-no
 returns-in-Solve-clause-no g c =
     let holds = g.S.Shelf.holds c.args.shelf.now in
     let old = g.S.Shelf.reading_faults c.args.shelf.now in
     let new = g.S.Shelf.reading_faults c.run_solve.new.shelf in
-    rw c.in-Solve.is (rw (← c.as_ref-fixings.ensures.value) (IfErr-weaker c.run_solve.result _ _
-    (λ cause h. stops_solve holds old new c.in-Solve.problem _ c.in-Solve.budget _ cause h)
-    c.run_solve.ensures.no))
+    rw c.in-Solve.is (IfErr-weaker c.run_solve.result _ _
+    (λ cause h. stops_solve holds old new c.in-Solve.task cause h) c.run_solve.ensures.no)

@@ -1,4 +1,3 @@
-use Rattle.std.proofs.Common.{option_map}
 use Rattle.std.proofs.lemmas.Result.{IfOk-weaker, IfErr-weaker}
 use Rattle.dispatch_cli.proofs.Stopped.{want_stops}
 use Rattle.dispatch_cli.proofs.Searched.{may_be_asked}
@@ -8,19 +7,25 @@ use Rattle.dispatch_cli.proofs.run.solve_with.Goals as goal
 pub solve-requires : goal.solve-requires
 solve-requires g c = rw c.as_slice.ensures.value
     (may_be_asked (g.S.Shelf.holds c.args.shelf.now) c.args.problem.now
-    (option_map (λ name. name.now) c.args.fixings) c.in-Ok.asked.items c.in-Ok.ensures.ok)
+    c.args.task.now.fixings c.in-Ok.asked.items (rw c.as_ref.ensures.value at c.in-Ok.ensures.ok))
 
 pub returns-in-Ok-clause-ok : goal.returns-in-Ok-clause-ok
 returns-in-Ok-clause-ok g c = IfOk-weaker c.solve.result _ _ (λ answer h. record {
   asked = c.in-Ok.asked.items;
-  lines = c.in-Ok.ensures.ok;
+  lines = rw c.as_ref.ensures.value at c.in-Ok.ensures.ok;
   solved = rw (← c.as_slice.ensures.value) h;
 }) c.solve.ensures.ok
 
 pub returns-in-Ok-clause-no : goal.returns-in-Ok-clause-no
 returns-in-Ok-clause-no g c = IfErr-weaker c.solve.result _ _
-    (λ cause is. want_stops _ _ _ _ (option_map (λ name. name.now) c.args.fixings) cause is)
-    c.solve.ensures.no
+    (λ cause is. want_stops _ _ _ _ c.args.task.now.fixings cause is) c.solve.ensures.no
 
 pub returns-in-Ok-clause-reads : goal.returns-in-Ok-clause-reads
-returns-in-Ok-clause-reads g c = reads_well _ _ _ _ _ _ _ _ _ (λ e. e) c.in-Ok.ensures.reads
+returns-in-Ok-clause-reads g c =
+    reads_well _ _ _ _ _ _ _ _ _ (λ e. e) (rw c.as_ref.ensures.value at c.in-Ok.ensures.reads)
+
+pub returns-in-Err-clause-no : goal.returns-in-Err-clause-no
+returns-in-Err-clause-no g c = rw c.as_ref.ensures.value at c.in-Err.ensures.no
+
+pub returns-in-Err-clause-reads : goal.returns-in-Err-clause-reads
+returns-in-Err-clause-reads g c = rw c.as_ref.ensures.value at c.in-Err.ensures.reads

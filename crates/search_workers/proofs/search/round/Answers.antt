@@ -1,5 +1,9 @@
+use Rattle.std.proofs.Common.{◌≡◌, ◌∙◌, sym, ap, subst}
 use Rattle.std.proofs.lemmas.Result.{IfOk-weaker}
+use Rattle.disp_model.specs.declared.settings.Rule.{Rule}
+use Rattle.disp_model.specs.declared.settings.Settings.{Settings}
 use Rattle.search_workers.specs.Grown.{IsGrownOf}
+use Rattle.search_workers.specs.Searched.{node_of}
 use Rattle.search_workers.proofs.GoingOn.{on_on, newest_on, newest_beside}
 use Rattle.search_workers.proofs.Handing.{at_newest}
 use Rattle.search_workers.proofs.search.round.Goals as goal
@@ -12,7 +16,8 @@ hand_in-requires-clause-grown c =
     let work = c.in-Work.work in
     let newest = newest_on c.args.core.now c.next_turn.new.core c.next_turn.ensures.on c.args.graph.now c.requires.newest in
     IfOk-weaker c.grow-growth.result _ _
-    (λ growth is. at_newest (λ node. IsGrownOf node work.best work.allowance work.bound growth) c.next_turn.new.core c.args.graph.now work.decisions newest is)
+    (λ growth is. subst (λ (r : Rule). IsGrownOf r (node_of c.next_turn.new.core work) work.best work.allowance work.bound growth) (sym (ap (λ (s : Settings). s.rule) c.next_turn.ensures.on.settings ∙ c.requires.rule))
+    (at_newest (λ node. IsGrownOf c.args.reckoning.now.rule node work.best work.allowance work.bound growth) c.next_turn.new.core c.args.graph.now work.decisions newest is))
     c.grow-growth.ensures.grown
 
 pub returns-in_err-hand_in-in-Work-clause-on : goal.returns-in_err-hand_in-in-Work-clause-on

@@ -13,7 +13,7 @@ hand_in-requires-clause-grown c =
     let work = c.in-Work.work in
     let root = dead_on c.args.core.now core c.next_turn.ensures.on c.args.leaf.now c.requires.dead in
     IfOk-weaker c.copy_alone-growth.result _ _
-    (λ growth same. alone_grows (node_of core work) work.best work.allowance work.bound c.args.leaf.now (dead_below core.problem (edition_of core.history) [] work.decisions c.args.leaf.now root) growth same)
+    (λ growth same. alone_grows core.settings.rule (node_of core work) work.best work.allowance work.bound c.args.leaf.now (dead_below core.problem (edition_of core.history) [] work.decisions c.args.leaf.now root) growth same)
     c.copy_alone-growth.ensures
 
 pub returns-in_err-hand_in-in-Work-clause-on : goal.returns-in_err-hand_in-in-Work-clause-on

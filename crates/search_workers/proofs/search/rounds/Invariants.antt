@@ -1,5 +1,4 @@
 use Rattle.std.proofs.Common.{◌≡◌}
-use Rattle.disp_model.specs.declared.settings.Rule.TheVariants.{Fixed}
 use Rattle.search_workers.specs.Searched.{GoesOn, IsOfNewest}
 use Rattle.search_workers.proofs.search.rounds.Given as goal
 
@@ -8,5 +7,5 @@ invariant-loop l = record {
   on : GoesOn l.initial.core l.core;
   newest : IsOfNewest l.core l.graph;
   problem : l.core.problem ≡ l.problem;
-  rule : l.core.settings.rule ≡ Fixed;
+  rule : l.core.settings.rule ≡ l.reckoning.rule;
 }

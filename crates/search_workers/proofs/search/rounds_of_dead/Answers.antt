@@ -10,5 +10,4 @@ loop-preserved c =
     record {
       on = on_on c.args.core.now c.loop.core c.round_of_dead.new.core inv.on on;
       dead = dead_on c.loop.core c.round_of_dead.new.core on c.args.leaf.now inv.dead;
-      rule = ap (λ (s : Settings). s.rule) on.settings ∙ inv.rule;
     }

@@ -1,5 +1,4 @@
 use Rattle.std.proofs.Common.{◌≡◌, []}
-use Rattle.disp_model.specs.declared.settings.Rule.TheVariants.{Fixed}
 use Rattle.disp_model.specs.History.{edition_of}
 use Rattle.disp_model.specs.Node.{node_at}
 use Rattle.node_leaves.specs.Shown.{IsDeadLeaf}
@@ -10,5 +9,4 @@ abbrev pub invariant-loop : goal.invariant-loop
 invariant-loop l = record {
   on : GoesOn l.initial.core l.core;
   dead : IsDeadLeaf (node_at l.core.problem (edition_of l.core.history) []) l.leaf;
-  rule : l.core.settings.rule ≡ Fixed;
 }

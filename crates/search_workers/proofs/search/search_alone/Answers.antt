@@ -15,9 +15,9 @@ pub rounds-requires-clause-newest : goal.rounds-requires-clause-newest
 rounds-requires-clause-newest c =
     graph_newest c.args.core.now c.edition-edition.ensures.sound c.args.problem.now c.requires.problem c.as_slice-2.result.now (c.as_slice-2.ensures.value ∙ c.in_ok-fixings.ensures) c.in-Ok.graph c.in-Ok.ensures.ok
 
-pub rounds_of_dead-requires-clause-dead : goal.rounds_of_dead-requires-clause-dead
-rounds_of_dead-requires-clause-dead c =
+pub rounds_of_dead-requires : goal.rounds_of_dead-requires
+rounds_of_dead-requires c =
     let root = node_at c.args.problem.now c.as_slice-2.result.now [] in
     let leaf = c.in_ok-refused_leaf-in-Err.field-0 in
     let dead : IsDeadLeaf root leaf = IfOk-at_ok (IsDeadLeaf root) c.in_ok-refused_leaf-in-Err.was (c.refused_leaf.ensures root c.in-Err.ensures.refused) in
-    dead_root c.args.core.now c.edition-edition.ensures.sound c.args.problem.now c.requires.problem c.as_slice-2.result.now (c.as_slice-2.ensures.value ∙ c.in_ok-fixings.ensures) leaf dead
+    record { dead = dead_root c.args.core.now c.edition-edition.ensures.sound c.args.problem.now c.requires.problem c.as_slice-2.result.now (c.as_slice-2.ensures.value ∙ c.in_ok-fixings.ensures) leaf dead }

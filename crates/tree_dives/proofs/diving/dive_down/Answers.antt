@@ -1,6 +1,9 @@
-use Rattle.std.proofs.Common.{◌≡◌, ◌∙◌, refl, subst, arith}
+use Rattle.std.proofs.Common.{◌≡◌, ◌∙◌, refl, sym, subst, arith}
 use Rattle.std.proofs.lemmas.Result.{IfOk-weaker}
+use Rattle.disp_model.specs.Node.{Node}
+use Rattle.tree_dives.specs.declared.stage.Stage.TheVariants as stages
 use Rattle.tree_dives.specs.Stages.{IsStageAt}
+use Rattle.tree_dives.specs.Halves.{Completes, IsBelowNode}
 use Rattle.tree_dives.specs.Downs.{sides_of, GoesOn}
 use Rattle.tree_dives.proofs.Ending.{whole_dive, ended_there, spent_there}
 use Rattle.tree_dives.proofs.Growing.{below_below}
@@ -9,26 +12,59 @@ use Rattle.tree_dives.proofs.diving.dive_down.Goals as goal
 pub returns-then-not-branch-clause-dive : goal.returns-then-not-branch-clause-dive
 returns-then-not-branch-clause-dive c =
     let inv = c.loop.invariant in
-    let helps = subst (IsStageAt c.args.best c.loop.graph) c.in-Branch.is c.in_ok-choice.ensures in
+    let rule = c.args.reckoning.now.rule in
+    let best = c.args.best in
+    let root = c.args.graph.now in
+    let sides = sides_of c.loop.halves in
+    let back = sym c.in_ok-choice.ensures.same in
+    let helps = subst (λ (n : Node). IsStageAt rule best n (stages.Branch c.in-Branch.choice)) back
+    (subst (IsStageAt rule best c.loop.graph) c.in-Branch.is c.in_ok-choice.ensures.stage) in
+    let completes = subst (λ (n : Node). Completes rule best root n sides) back inv.completes in
     let down = c.in_ok-go_down-in-Branch.ensures.down in
-    let complete = subst (GoesOn c.args.best c.args.graph.now c.go_down.new.graph (sides_of c.go_down.new.halves)) c.if-not-branch.true (down.0 c.args.best c.args.graph.now helps inv.completes) in
-    IfOk-weaker c.whole.result _ _ (λ dive is. whole_dive c.args.best c.args.graph.now c.args.allowance (sides_of c.go_down.new.halves) dive c.loop.counter complete is (omega (arith, down.1, inv.count)) (omega (arith, c.loop-test.true))) c.whole.ensures
+    let complete = subst (GoesOn rule best root c.go_down.new.graph (sides_of c.go_down.new.halves))
+    c.if-not-branch.true (down.0 best root helps completes) in
+    IfOk-weaker c.whole.result _ _ (λ dive is.
+    whole_dive rule best root c.args.allowance (sides_of c.go_down.new.halves) dive c.loop.counter
+    complete is (omega (arith, down.1, inv.count)) (omega (arith, c.loop-test.true)))
+    c.whole.ensures
 
 pub returns-in-End-clause-dive : goal.returns-in-End-clause-dive
 returns-in-End-clause-dive c =
     let inv = c.loop.invariant in
-    let there = subst (IsStageAt c.args.best c.loop.graph) c.in-End.is c.in_ok-choice.ensures in
-    IfOk-weaker c.ended.result _ _ (λ dive is. ended_there c.args.best c.args.graph.now c.args.allowance c.loop.graph (sides_of c.loop.halves) inv.completes inv.below is.0 is.1 c.in-End.end dive is.2 c.loop.counter there (λ none. (inv.first none).0) inv.count (omega (arith, c.loop-test.true))) c.ended.ensures
+    let rule = c.args.reckoning.now.rule in
+    let best = c.args.best in
+    let root = c.args.graph.now in
+    let sides = sides_of c.loop.halves in
+    let back = sym c.in_ok-choice.ensures.same in
+    let there = subst (λ (n : Node). IsStageAt rule best n (stages.End c.in-End.end)) back
+    (subst (IsStageAt rule best c.loop.graph) c.in-End.is c.in_ok-choice.ensures.stage) in
+    let completes = subst (λ (n : Node). Completes rule best root n sides) back inv.completes in
+    let below = subst (IsBelowNode root) back inv.below in
+    IfOk-weaker c.ended.result _ _ (λ dive is.
+    ended_there rule best root c.args.allowance _ sides completes below is.0 is.1 c.in-End.end dive
+    is.2 c.loop.counter there (λ none. c.in_ok-choice.ensures.same ∙ (inv.first none).0) inv.count
+    (omega (arith, c.loop-test.true))) c.ended.ensures
 
 pub loop-preserved : goal.loop-preserved
 loop-preserved c =
     let inv = c.loop.invariant in
-    let helps = subst (IsStageAt c.args.best c.loop.graph) c.in-Branch.is c.in_ok-choice.ensures in
+    let rule = c.args.reckoning.now.rule in
+    let best = c.args.best in
+    let root = c.args.graph.now in
+    let sides = sides_of c.loop.halves in
+    let back = sym c.in_ok-choice.ensures.same in
+    let helps = subst (λ (n : Node). IsStageAt rule best n (stages.Branch c.in-Branch.choice)) back
+    (subst (IsStageAt rule best c.loop.graph) c.in-Branch.is c.in_ok-choice.ensures.stage) in
+    let completes = subst (λ (n : Node). Completes rule best root n sides) back inv.completes in
+    let below = subst (IsBelowNode root) back inv.below in
     let ensures = c.in_ok-go_down-in-Branch.ensures in
+    let here = subst (λ (n : Node). n.problem ≡ c.args.problem.now) back inv.problem in
     record {
-      problem = ensures.below.problem ∙ inv.problem;
-      below = below_below c.args.graph.now c.loop.graph c.go_down.new.graph inv.below ensures.below;
-      completes = subst (GoesOn c.args.best c.args.graph.now c.go_down.new.graph (sides_of c.go_down.new.halves)) c.if-not-branch.false (ensures.down.0 c.args.best c.args.graph.now helps inv.completes);
+      problem = ensures.below.problem ∙ here;
+      below = below_below root _ c.go_down.new.graph below ensures.below;
+      completes = subst
+          (GoesOn rule best root c.go_down.new.graph (sides_of c.go_down.new.halves))
+          c.if-not-branch.false (ensures.down.0 best root helps completes);
       count = omega (arith, ensures.down.1, inv.count);
       first = λ none. absurd (omega (arith, none));
     }
@@ -36,13 +72,40 @@ loop-preserved c =
 pub returns-in-Branch-2-clause-dive : goal.returns-in-Branch-2-clause-dive
 returns-in-Branch-2-clause-dive c =
     let inv = c.loop.invariant in
-    let all : c.loop.counter ≡ c.args.allowance = omega (arith, c.loop-test.false, c.loop.auto.counter-end) in
-    let helps = subst (IsStageAt c.args.best c.loop.graph) c.in-Branch-2.is c.in_ok-stage_of.ensures in
-    IfOk-weaker c.ended-in-Branch-2.result _ _ (λ dive is. spent_there c.args.best c.args.graph.now c.args.allowance c.loop.graph (sides_of c.loop.halves) inv.completes inv.below is.0 is.1 _ dive is.2 c.in-Branch-2.field-0 helps (λ none. inv.first (all ∙ none)) (inv.count ∙ all) refl) c.ended-in-Branch-2.ensures
+    let rule = c.args.reckoning.now.rule in
+    let best = c.args.best in
+    let root = c.args.graph.now in
+    let sides = sides_of c.loop.halves in
+    let same = c.in_ok-stage_of.ensures.same in
+    let all : c.loop.counter ≡ c.args.allowance = omega
+    (arith, c.loop-test.false, c.loop.auto.counter-end) in
+    let helps = subst (λ (n : Node). IsStageAt rule best n (stages.Branch c.in-Branch-2.field-0)) (sym same)
+    (subst (IsStageAt rule best c.loop.graph) c.in-Branch-2.is c.in_ok-stage_of.ensures.stage) in
+    let completes = subst (λ (n : Node). Completes rule best root n sides) (sym same) inv.completes
+    in
+    let below = subst (IsBelowNode root) (sym same) inv.below in
+    IfOk-weaker c.ended-in-Branch-2.result _ _ (λ dive is.
+    spent_there rule best root c.args.allowance _ sides completes below is.0 is.1 _ dive is.2
+    c.in-Branch-2.field-0 helps
+    (λ none. let first = inv.first (all ∙ none) in (same ∙ first.0, first.1)) (inv.count ∙ all)
+    refl) c.ended-in-Branch-2.ensures
 
 pub returns-in-End-2-clause-dive : goal.returns-in-End-2-clause-dive
 returns-in-End-2-clause-dive c =
     let inv = c.loop.invariant in
-    let all : c.loop.counter ≡ c.args.allowance = omega (arith, c.loop-test.false, c.loop.auto.counter-end) in
-    let there = subst (IsStageAt c.args.best c.loop.graph) c.in-End-2.is c.in_ok-stage_of.ensures in
-    IfOk-weaker c.ended-in-End-2.result _ _ (λ dive is. ended_there c.args.best c.args.graph.now c.args.allowance c.loop.graph (sides_of c.loop.halves) inv.completes inv.below is.0 is.1 c.in-End-2.end dive is.2 c.loop.counter there (λ none. (inv.first none).0) inv.count (omega (arith, all))) c.ended-in-End-2.ensures
+    let rule = c.args.reckoning.now.rule in
+    let best = c.args.best in
+    let root = c.args.graph.now in
+    let sides = sides_of c.loop.halves in
+    let same = c.in_ok-stage_of.ensures.same in
+    let all : c.loop.counter ≡ c.args.allowance = omega
+    (arith, c.loop-test.false, c.loop.auto.counter-end) in
+    let there = subst (λ (n : Node). IsStageAt rule best n (stages.End c.in-End-2.end)) (sym same)
+    (subst (IsStageAt rule best c.loop.graph) c.in-End-2.is c.in_ok-stage_of.ensures.stage) in
+    let completes = subst (λ (n : Node). Completes rule best root n sides) (sym same) inv.completes
+    in
+    let below = subst (IsBelowNode root) (sym same) inv.below in
+    IfOk-weaker c.ended-in-End-2.result _ _ (λ dive is.
+    ended_there rule best root c.args.allowance _ sides completes below is.0 is.1 c.in-End-2.end
+    dive is.2 c.loop.counter there (λ none. same ∙ (inv.first none).0) inv.count
+    (omega (arith, all))) c.ended-in-End-2.ensures

@@ -7,7 +7,7 @@ abbrev pub invariant-loop : goal.invariant-loop
 invariant-loop l = record {
   problem : l.graph.problem ≡ l.problem;
   below : IsBelowNode l.initial.graph l.graph;
-  completes : Completes l.best l.initial.graph l.graph (sides_of l.halves);
+  completes : Completes l.reckoning.rule l.best l.initial.graph l.graph (sides_of l.halves);
   count : branches_in (sides_of l.halves) ≡ l.counter;
   first : l.counter ≡ 0 → (l.graph ≡ l.initial.graph) × (sides_of l.halves ≡ record { before = []; before_bounds = []; behind = []; behind_bounds = [] });
 }

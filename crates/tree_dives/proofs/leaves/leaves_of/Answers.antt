@@ -13,8 +13,8 @@ loop-decision-preserved c =
       same = c.in_ok-leaf.ensures.same ∙ inv.same;
       grows = λ best.
           let first : Decision = Go (record { train = 0; op = 0 }) 0 in
-          let leaf = subst (λ (n : Node). IsLeafOf (with_decision n (get_or c.args.decisions.now c.loop-decision.decision-index first)) c.in_ok-leaf.leaf) inv.same c.in_ok-leaf.ensures.leaf in
+          let leaf = subst (λ (n : Node). IsLeafOf c.args.reckoning.now.rule (with_decision n (get_or c.args.decisions.now c.loop-decision.decision-index first)) c.in_ok-leaf.leaf) inv.same c.in_ok-leaf.ensures.leaf in
           rw (c.in_ok-push_leaf.ensures.nodes, c.in_ok-push_leaf.ensures.bounds)
-          (leaf_more best c.args.graph.now c.args.decisions.now c.loop-decision.decision-index first c.in_ok-leaf.leaf c.loop-decision.grown.nodes.items c.loop-decision.grown.bounds.items c.loop-decision-test.true leaf (inv.grows best));
+          (leaf_more c.args.reckoning.now.rule best c.args.graph.now c.args.decisions.now c.loop-decision.decision-index first c.in_ok-leaf.leaf c.loop-decision.grown.nodes.items c.loop-decision.grown.bounds.items c.loop-decision-test.true leaf (inv.grows best));
       leaves = rw c.in_ok-push_leaf.ensures.nodes (branches_leaf c.loop-decision.grown.nodes.items _ ∙ inv.leaves);
     }

@@ -7,8 +7,8 @@ pub fetch_add-requires : goal.fetch_add-requires
 fetch_add-requires g c = let carried = c.requires.carries in let entry = MatchBool-at_true _ _ c.if-grew.true carried.3 in (
   search rules,
   search rules,
-  enters _ _ _ _ _ carried.0 c.requires.turn.0 c.requires.turn.1 entry.0 entry.1 entry.2 carried.2 _ carried.1,
+  enters _ _ _ _ _ _ _ carried.0 c.requires.turn.0 c.requires.turn.1 entry.0 entry.1 entry.2 carried.2 _ carried.1,
 )
 
 pub load-requires : goal.load-requires
-load-requires g c = (search rules, search rules, counts _ _ _ _ _ c.requires.turn.1)
+load-requires g c = (search rules, search rules, counts _ _ _ _ _ _ _ c.requires.turn.1)

@@ -7,5 +7,5 @@ pub split_seat-requires : goal.split_seat-requires
 split_seat-requires g c = let same = c.requires.named in (
   search rules,
   search rules,
-  splits _ _ _ _ g.C.Receiver.caller c.requires.first.0 (λ e. c.requires.new_caller.0 (same ∙ e)) (λ h. c.requires.new_caller.1 (subst (Contains _) (sym same) h)),
+  splits _ _ _ _ _ _ g.C.Receiver.caller c.requires.first.0 c.requires.first.1 (λ e. c.requires.new_caller.0 (same ∙ e)) (λ h. c.requires.new_caller.1 (subst (Contains _) (sym same) h)),
 )

@@ -1,7 +1,7 @@
 use Rattle.std.proofs.Common.{◌≡◌, take}
 use Rattle.std.specs.Prelude.{option_map}
 use Rattle.disp_model.specs.History.{last_plan}
-use Rattle.dispatch_cli.proofs.solve.last_plan.Given as goal
+use Rattle.dispatch_cli.proofs.journal.last_plan.Given as goal
 
 -- the last plan of the entries so far
 abbrev pub invariant-loop-entry : goal.invariant-loop-entry

@@ -1,0 +1,11 @@
+use Rattle.std.proofs.Common.{◌≡◌, ◌≤◌, ◌*◌, ◌^◌, take}
+use Rattle.std.specs.Prelude.{sum_by}
+use Rattle.disp_model.specs.Cost.{cost_in}
+use Rattle.dispatch_reports.specs.Tables.{of_train}
+use Rattle.dispatch_reports.proofs.numbers.train_cost.Given as goal
+
+abbrev pub invariant-loop-component : goal.invariant-loop-component
+invariant-loop-component l = record {
+  total : l.total ≡ sum_by (of_train l.train (cost_in l.events)) (take l.component-index l.component-items);
+  small : l.total ≤ l.component-index * 2 ^ 97;
+}

@@ -1,0 +1,151 @@
+use disp_model::{Component, List, Memory, Op, Operation, Problem};
+use std::alloc::Global;
+
+/// What the problem says of an operation.
+#[derive(Drop)]
+struct Fact {
+    op: Op,
+    lower: u64,
+    upper: Option<u64>,
+    min: u64,
+    components: List<Component>,
+}
+
+/// What the problem says of the operations, by their numbers, and the numbers of the trains' first.
+#[derive(Drop)]
+pub(crate) struct Facts {
+    each: Vec<Fact>,
+    firsts: Vec<u32>,
+}
+
+/// What the problem says of an operation, but for the costs.
+fn fact_of(alloc: Global, op: Op, operation: &Operation) -> Fact {
+    Fact {
+        op,
+        lower: u64::from(operation.lower),
+        upper: match operation.upper {
+            Some(upper) => Some(u64::from(upper)),
+            None => None,
+        },
+        min: u64::from(operation.min),
+        components: List::new(alloc),
+    }
+}
+
+/// What a component costs where its operation starts at a time.
+fn cost_at(component: &Component, time: u64) -> u64 {
+    match time.checked_sub(u64::from(component.threshold)) {
+        Some(late) => u64::from(component.coeff)
+            .saturating_mul(late)
+            .saturating_add(u64::from(component.increment)),
+        None => 0,
+    }
+}
+
+impl Facts {
+    /// What a problem says.
+    pub(crate) fn of(alloc: Global, problem: &Problem) -> Result<Facts, Memory> {
+        let mut facts = Facts {
+            each: Vec::new(alloc),
+            firsts: Vec::new(alloc),
+        };
+        let mut train = 0u32;
+        let mut number = 0u32;
+        for operations in problem.trains.as_slice() {
+            facts.firsts.push(number)?;
+            let mut op = 0u32;
+            for operation in operations.as_slice() {
+                facts
+                    .each
+                    .push(fact_of(alloc, Op { train, op }, operation))?;
+                op = op.saturating_add(1);
+                number = number.saturating_add(1);
+            }
+            train = train.saturating_add(1);
+        }
+        for component in problem.components.as_slice() {
+            facts.keep(*component)?;
+        }
+        Ok(facts)
+    }
+
+    /// Keeps a component with its operation.
+    fn keep(&mut self, component: Component) -> Result<(), Memory> {
+        let number = self
+            .first(component.train)
+            .saturating_add(component.operation);
+        if let Some(fact) = self.each.get_mut(number as usize) {
+            fact.components.push(component)?;
+        }
+        Ok(())
+    }
+
+    /// How many operations there are.
+    pub(crate) fn count(&self) -> usize {
+        self.each.len()
+    }
+
+    /// The number of a train's first operation.
+    pub(crate) fn first(&self, train: u32) -> u32 {
+        match self.firsts.get(train as usize) {
+            Some(first) => *first,
+            None => 0,
+        }
+    }
+
+    /// The operation of a number.
+    pub(crate) fn op(&self, number: u32) -> Op {
+        match self.each.get(number as usize) {
+            Some(fact) => fact.op,
+            None => Op { train: 0, op: 0 },
+        }
+    }
+
+    /// From when on an operation may start.
+    pub(crate) fn lower(&self, number: u32) -> u64 {
+        match self.each.get(number as usize) {
+            Some(fact) => fact.lower,
+            None => 0,
+        }
+    }
+
+    /// How long an operation lasts at least.
+    pub(crate) fn min(&self, number: u32) -> u64 {
+        match self.each.get(number as usize) {
+            Some(fact) => fact.min,
+            None => 0,
+        }
+    }
+
+    /// What an operation costs more at a time than at an earlier one; none where it may not start
+    /// then.
+    pub(crate) fn rise(&self, number: u32, before: u64, time: u64) -> Option<u64> {
+        let Some(fact) = self.each.get(number as usize) else {
+            return Some(0);
+        };
+        if fact.upper.is_some_and(|upper| upper < time) {
+            return None;
+        }
+        let mut rise = 0u64;
+        for component in fact.components.as_slice() {
+            let more = cost_at(component, time).saturating_sub(cost_at(component, before));
+            rise = rise.saturating_add(more);
+        }
+        Some(rise)
+    }
+
+    /// What an operation costs at a time; none where it may not start then.
+    pub(crate) fn cost(&self, number: u32, time: u64) -> Option<u64> {
+        let Some(fact) = self.each.get(number as usize) else {
+            return Some(0);
+        };
+        if fact.upper.is_some_and(|upper| upper < time) {
+            return None;
+        }
+        let mut cost = 0u64;
+        for component in fact.components.as_slice() {
+            cost = cost.saturating_add(cost_at(component, time));
+        }
+        Some(cost)
+    }
+}

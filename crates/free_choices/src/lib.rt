@@ -1,0 +1,27 @@
+//! The choice of a branch under the free rule, which takes any open one.
+//!
+//! `pick_free` asks an `Adviser` which choice shortens the search most, tests in a few looks that
+//! the choice is open and that something is to be picked, and falls back on what the fixed rule
+//! picks, which is always open. So the advice carries no proof but that it ends.
+#![tactic(auto)]
+
+mod adviser;
+mod clashes;
+mod facts;
+mod forks;
+mod holders;
+mod layers;
+mod open_order;
+mod open_route;
+mod open_run;
+mod open_touch;
+mod pick;
+mod span;
+mod spots;
+mod tolls;
+mod view;
+mod ways;
+
+pub use adviser::{Adviser, Strategy};
+pub use branch_rules::Pick;
+pub use pick::pick_free;

@@ -1,0 +1,49 @@
+ghost use Rattle.std.specs.Prelude.{◌≡◌, ◌≢◌, ◌↔◌, IsTrue, All};
+ghost use Rattle.disp_model.specs.declared.decision.Decision.TheVariants.{First};
+ghost use Rattle.disp_model.specs.Choices.{IsOpenOrder};
+
+use crate::open_order::release_at;
+use crate::span::span_of;
+use disp_model::{Decision, Op, Problem};
+use event_graph::Graph;
+
+/// Whether no decision is the order of one operation before another.
+fn is_undecided(decisions: &[Decision], a: Op, b: Op) -> bool
+    ensures { IsTrue result ↔ All (λ d. d ≢ First a b) decisions.now }
+{
+    let order = Decision::First { a, b };
+    decisions.iter().all(|decision| *decision != order)
+}
+
+/// Whether two operations list a resource, neither ends before the other starts, and their order is
+/// not decided, so that it is open.
+pub(crate) fn is_open_touch(problem: &Problem, graph: &Graph, a: Op, b: Op, resource: u32) -> bool
+    requires { graph.now.problem ≡ problem.now }
+    ensures { IsTrue result → IsOpenOrder graph.now a b }
+{
+    if a.train >= b.train {
+        return false;
+    }
+    let Some(first) = span_of(problem, graph, a) else {
+        return false;
+    };
+    let Some(second) = span_of(problem, graph, b) else {
+        return false;
+    };
+    let Some(_) = release_at(problem, a, resource) else {
+        return false;
+    };
+    let Some(_) = release_at(problem, b, resource) else {
+        return false;
+    };
+    if second.start > first.end {
+        return false;
+    }
+    if first.start > second.end {
+        return false;
+    }
+    if !is_undecided(graph.decisions(), a, b) {
+        return false;
+    }
+    is_undecided(graph.decisions(), b, a)
+}

@@ -1,0 +1,149 @@
+ghost use Rattle.std.specs.Prelude.{◌≡◌, IfOk, IfSome, Some};
+ghost use Rattle.disp_model.specs.declared.settings.Rule.TheVariants.{Free};
+ghost use Rattle.disp_model.specs.Nodes.{IsDead};
+ghost use Rattle.disp_model.specs.Earliest.{IsPicked};
+ghost use Rattle.free_choices.specs.Picks.{IsPickBy};
+
+use crate::adviser::{Advice, Adviser, Strategy};
+use crate::open_order::is_open_order;
+use crate::open_route::is_open_route;
+use crate::open_run::is_open_run;
+use crate::open_touch::is_open_touch;
+use branch_rules::{Pick, pick_fixed};
+use disp_model::{Choice, Memory, Op, Problem};
+use event_graph::Graph;
+use std::alloc::Global;
+
+/// The route of an operation, where it is open.
+fn tested_route(problem: &Problem, graph: &Graph, op: Op) -> Option<Choice>
+    requires { graph.now.problem ≡ problem.now }
+    ensures { IfSome result (λ choice. IsPicked graph.now Free (Some choice)) }
+{
+    if is_open_route(problem, graph, op) {
+        Some(Choice::Route(op))
+    } else {
+        None
+    }
+}
+
+/// The order of two operations, where it is open since both hold the resource at a time.
+fn tested_order(problem: &Problem, graph: &Graph, a: Op, b: Op, resource: u32) -> Option<Choice>
+    requires { graph.now.problem ≡ problem.now }
+    ensures { IfSome result (λ choice. IsPicked graph.now Free (Some choice)) }
+{
+    if is_open_order(problem, graph, a, b, resource) {
+        Some(Choice::Order(a, b))
+    } else {
+        None
+    }
+}
+
+/// The order of two operations, where it is open since one ends as the other starts, and something
+/// is to be picked since the routes part at another operation.
+fn tested_touch(
+    problem: &Problem,
+    graph: &Graph,
+    a: Op,
+    b: Op,
+    resource: u32,
+    fork: Op,
+) -> Option<Choice>
+    requires { graph.now.problem ≡ problem.now }
+    ensures { IfSome result (λ choice. IsPicked graph.now Free (Some choice)) }
+{
+    if !is_open_route(problem, graph, fork) {
+        return None;
+    }
+    if !is_open_touch(problem, graph, a, b, resource) {
+        return None;
+    }
+    Some(Choice::Order(a, b))
+}
+
+/// Whether an operation is run, where that is open. The graph is as before.
+fn tested_run(problem: &Problem, graph: &mut Graph, op: Op) -> Result<Option<Choice>, Memory>
+    requires { graph.old.problem ≡ problem.now }
+    ensures same { graph.new ≡ graph.old }
+    ensures picked { IfOk result
+        (λ found. IfSome found (λ choice. IsPicked graph.old Free (Some choice))) }
+{
+    if is_open_run(problem, graph, op)? {
+        Ok(Some(Choice::Run(op)))
+    } else {
+        Ok(None)
+    }
+}
+
+/// The choice that is advised, where it is open and something is to be picked. The graph is as
+/// before.
+fn tested(problem: &Problem, graph: &mut Graph, advice: Advice) -> Result<Option<Choice>, Memory>
+    requires { graph.old.problem ≡ problem.now }
+    ensures same { graph.new ≡ graph.old }
+    ensures picked { IfOk result
+        (λ found. IfSome found (λ choice. IsPicked graph.old Free (Some choice))) }
+{
+    match advice {
+        Advice::Route(op) => Ok(tested_route(problem, graph, op)),
+        Advice::Order { a, b, resource } => Ok(tested_order(problem, graph, a, b, resource)),
+        Advice::Touch {
+            a,
+            b,
+            resource,
+            fork,
+        } => Ok(tested_touch(problem, graph, a, b, resource, fork)),
+        Advice::Run(op) => tested_run(problem, graph, op),
+    }
+}
+
+/// The choice that an adviser names, where there is one, it is open and something is to be picked.
+/// The graph is as before.
+fn advised(
+    problem: &Problem,
+    graph: &mut Graph,
+    adviser: &mut Adviser,
+    strategy: Strategy,
+) -> Result<Option<Choice>, Memory>
+    requires { graph.old.problem ≡ problem.now }
+    ensures same { graph.new ≡ graph.old }
+    ensures picked { IfOk result
+        (λ found. IfSome found (λ choice. IsPicked graph.old Free (Some choice))) }
+{
+    match adviser.advise(problem, graph, strategy) {
+        Some(advice) => tested(problem, graph, advice),
+        None => Ok(None),
+    }
+}
+
+/// What the fixed rule finds: that serves the free rule too.
+fn fallen_back(alloc: Global, problem: &Problem, graph: &Graph) -> Result<Pick, Memory>
+    requires problem { graph.now.problem ≡ problem.now }
+    requires alive { IsDead graph.now → ⊥ }
+    ensures { IfOk result (IsPickBy Free graph.now) }
+{
+    pick_fixed(alloc, problem, graph)
+}
+
+/// What the free rule finds at the node of a graph, which is not dead: an open choice, or the plan
+/// of earliest starts where that is valid. Which open choice it is follows the strategy of an
+/// adviser for this problem, as far as that knows one. The graph is as before.
+///
+/// # Errors
+///
+/// `Memory` where memory runs out.
+pub fn pick_free(
+    alloc: Global,
+    problem: &Problem,
+    graph: &mut Graph,
+    adviser: &mut Adviser,
+    strategy: Strategy,
+) -> Result<Pick, Memory>
+    requires problem { graph.old.problem ≡ problem.now }
+    requires alive { IsDead graph.old → ⊥ }
+    ensures same { graph.new ≡ graph.old }
+    ensures picked { IfOk result (IsPickBy Free graph.old) }
+{
+    match advised(problem, graph, adviser, strategy)? {
+        Some(choice) => Ok(Pick::Choice(choice)),
+        None => fallen_back(alloc, problem, graph),
+    }
+}

@@ -1,0 +1,37 @@
+// Short leaves that show the bounds of nodes under the free rule.
+use super::graphs::root;
+use disp_model::{Memory, Problem};
+use share_bound::OwnComponents;
+use share_leaves::short_bound;
+use std::alloc::Global;
+use std::process::Abort;
+use std::test::Fail;
+use worked_problems::{forked, two_trains};
+
+/// At the root the bound is this one, shown by so many walks, and so many trains with so many walks
+/// together.
+fn check(
+    rt: &impl Abort,
+    alloc: Global,
+    problem: &Problem,
+    wanted: (u64, usize, usize, usize),
+) -> Result<(), Fail> {
+    let graph = root(alloc, problem)?;
+    let components = OwnComponents::of(alloc, problem)?;
+    let bound = short_bound(alloc, problem, &components, &graph)?;
+    let mut walks: usize = 0;
+    for listed in bound.trains.as_slice() {
+        walks = listed.walks.len().saturating_add(walks);
+    }
+    let found = (bound.cost, bound.walks.len(), bound.trains.len(), walks);
+    assert_eq!(rt; found, wanted);
+    Ok(())
+}
+
+// Where each train has one route, its components are walked to; a train whose share counts what
+// each of its routes costs is listed, without a walk where it is on time.
+#[test]
+fn leaves_of_shares_are_short(rt: HostRuntime) -> Result<(), Fail> {
+    check(&rt, rt.alloc(), &two_trains(rt.alloc())?, (14, 2, 0, 0))?;
+    check(&rt, rt.alloc(), &forked(rt.alloc())?, (5, 0, 1, 0))
+}

@@ -1,0 +1,3 @@
+mod Block
+mod Drawn
+mod Fitting

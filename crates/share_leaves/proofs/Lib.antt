@@ -1,0 +1,4 @@
+pub mod Basing
+pub mod Listing
+pub mod Beside
+pub mod Shortened

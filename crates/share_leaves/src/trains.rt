@@ -1,0 +1,83 @@
+ghost use Rattle.std.specs.Prelude.{◌≡◌, ◌+◌, ◌<◌, IfOk, OnOk, length};
+ghost use Rattle.share_bound.specs.Components.{AreOwnOf};
+ghost use Rattle.share_leaves.specs.Listed.{AreListed};
+
+use crate::listed::{ShownBases, shown_bases};
+use crate::needed::starts_later;
+use disp_model::{Component, List, Memory, Problem, TrainWalks};
+use event_graph::Graph;
+use share_bound::{OwnComponents, bases_of, cost_of, share_over, train_of};
+use std::alloc::Global;
+
+/// Trains with walks that show their shares, and what these come to at least.
+#[derive(Drop)]
+pub(crate) struct Listed {
+    pub trains: List<TrainWalks>,
+    pub cost: u64,
+}
+
+/// What the forced ones of a train's components cost at these lengths. It is advice.
+fn forced_cost(graph: &Graph, components: &[Component], train: u32, lengths: &[u64]) -> u64
+    requires { train < length graph.now.problem.trains }
+{
+    let routes = graph.routes(train);
+    let mut sum: u64 = 0;
+    for component in components {
+        if routes.forced(component.operation) {
+            if let Some(length) = lengths.get(component.operation as usize) {
+                sum = sum.saturating_add(cost_of(component, *length));
+            }
+        }
+    }
+    sum
+}
+
+/// Lists a train with its share, where its forced components cost less.
+fn list(
+    alloc: Global,
+    problem: &Problem,
+    components: &OwnComponents,
+    graph: &Graph,
+    train: u32,
+    listed: &mut Listed,
+) -> Result<(), Memory>
+    requires node { graph.now.problem ≡ problem.now }
+    requires own { AreOwnOf problem.now components.now }
+    requires train { train < length problem.now.trains }
+    requires before { AreListed graph.now train listed.old }
+    ensures { OnOk result (AreListed graph.now (train + 1) listed.new) }
+{
+    let operations = train_of(problem, train);
+    let lengths = bases_of(alloc, graph, train, operations.len())?;
+    let routes = graph.routes(train);
+    let later = starts_later(alloc, operations, routes.order(), routes.rows(), &lengths)?;
+    let ShownBases { bases, walks } = shown_bases(alloc, graph, train, &lengths, &later)?;
+    let share = share_over(alloc, problem, components, graph, train, &bases)?;
+    if share <= forced_cost(graph, components.of_train(train), train, &lengths) {
+        return Ok(());
+    }
+    listed.trains.push(TrainWalks { train, walks })?;
+    listed.cost = listed.cost.saturating_add(share);
+    Ok(())
+}
+
+/// The trains whose share is more than their forced components cost.
+pub(crate) fn list_trains(
+    alloc: Global,
+    problem: &Problem,
+    components: &OwnComponents,
+    graph: &Graph,
+) -> Result<Listed, Memory>
+    requires node { graph.now.problem ≡ problem.now }
+    requires own { AreOwnOf problem.now components.now }
+    ensures { IfOk result (AreListed graph.now (length problem.now.trains)) }
+{
+    let mut listed = Listed {
+        trains: List::new(alloc),
+        cost: 0,
+    };
+    for train in 0..problem.trains.len() {
+        list(alloc, problem, components, graph, train as u32, &mut listed)?;
+    }
+    Ok(listed)
+}

@@ -1,0 +1,6 @@
+pub mod Going
+pub mod LineCounts
+pub mod Joining
+pub mod Owing
+pub mod Entries
+pub mod Running

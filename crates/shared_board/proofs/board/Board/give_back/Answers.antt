@@ -1,0 +1,6 @@
+use Rattle.shared_board.specs.Board.{known}
+use Rattle.shared_board.proofs.Owing.{may_give_back}
+use Rattle.shared_board.proofs.board.Board.give_back.Goals as goal
+
+pub enter-requires-clause-may : goal.enter-requires-clause-may
+enter-requires-clause-may g c = may_give_back (known c.args.pass.now) c.args.work c.args.examined c.requires.examined

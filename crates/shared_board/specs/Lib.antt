@@ -1,0 +1,5 @@
+pub mod Callers
+pub mod Board
+pub mod Fresh
+pub mod Calls
+pub mod Standing

@@ -1,0 +1,51 @@
+use disp_model::{Memory, Problem};
+use free_choices::{Adviser, Strategy};
+use std::alloc::Global;
+use train_insertion::Target;
+
+/// After so many dives by tolls the choices are taken by time,
+const TOLL_DIVES: u32 = 960;
+
+/// and after so many of these by tolls again: a deadlock is often seen by time alone.
+const TIME_DIVES: u32 = 64;
+
+/// Advice for dives: which child is followed, and under the free rule which choice is taken.
+/// Nothing rests on it.
+#[derive(Drop)]
+pub struct Guide {
+    pub(crate) target: Target,
+    pub(crate) adviser: Adviser,
+    pub(crate) strategy: Strategy,
+    /// How many dives the strategy has had.
+    dives: u32,
+}
+
+impl Guide {
+    /// Advice for the dives of a problem that follow a target. Fails for memory alone.
+    pub fn new(alloc: Global, problem: &Problem, target: Target) -> Result<Guide, Memory> {
+        Ok(Guide {
+            target,
+            adviser: Adviser::new(alloc, problem)?,
+            strategy: Strategy::Toll,
+            dives: 0,
+        })
+    }
+
+    /// Makes this the target.
+    pub fn aim_at(&mut self, target: Target) {
+        self.target = target;
+    }
+
+    /// Counts a dive. Each of the two strategies gives way to the other after a number of dives.
+    pub fn count_dive(&mut self) {
+        self.dives = self.dives.saturating_add(1);
+        let (turn, other) = match self.strategy {
+            Strategy::Toll => (TOLL_DIVES, Strategy::Time),
+            Strategy::Time => (TIME_DIVES, Strategy::Toll),
+        };
+        if self.dives >= turn {
+            self.dives = 0;
+            self.strategy = other;
+        }
+    }
+}
