@@ -108,7 +108,7 @@ fn check_fork(rt: &impl Abort, alloc: Global, problem: &Problem) -> Result<(), F
     let found = "grown 1\npublished 5\noptimal 5\n";
     check(rt, alloc, problem, Rule::Fixed, 0, "grown 0\nstopped 0 3\n")?;
     check(rt, alloc, problem, Rule::Fixed, 1, found)?;
-    check(rt, alloc, problem, Rule::Free, 0, "grown 0\nstopped 0 5\n")?;
+    check(rt, alloc, problem, Rule::Free, 0, "grown 0\nstopped 0 3\n")?;
     check(rt, alloc, problem, Rule::Free, 1, found)
 }
 

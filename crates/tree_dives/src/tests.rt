@@ -141,7 +141,7 @@ fn check_fork(rt: &impl Abort, alloc: Global, problem: &Problem) -> Result<(), F
         9,
         "closed costs 3",
     )?;
-    check(rt, alloc, problem, Rule::Free, Some(5), 9, "closed other 5")?;
+    check(rt, alloc, problem, Rule::Free, Some(3), 9, "closed costs 3")?;
     check(
         rt,
         alloc,

@@ -6,7 +6,7 @@ use Rattle.std.proofs.lemmas.Option.{slice_get_within, none-some, same_Some}
 use Rattle.std.proofs.lemmas.List.Elements.{All-from_recursion}
 use Rattle.disp_model.specs.declared.limits.TheConstants.{GREATEST_NUMBER}
 use Rattle.disp_model.specs.WellFormed.{IsAcyclic, IsWellFormed}
-use Rattle.worked_problems.specs.Worked.{worked_component, block_costs, fork_costs, exit_costs, blocked_train, blocked_trains, swapping_train, forking_train, windowed_train, two_windowed}
+use Rattle.worked_problems.specs.Worked.{worked_component, block_costs, dear_fork_costs, fork_costs, exit_costs, blocked_train, blocked_trains, swapping_train, forking_train, windowed_train, two_windowed}
 use Rattle.worked_problems.proofs.Chains.{chain_is_acyclic}
 use Rattle.worked_problems.proofs.Forking.{fork_is_acyclic}
 
@@ -81,6 +81,19 @@ fork_made = record {
   numbers = search rules;
   references = search (rules, once_in_one, once_in_two, once_in_none);
   acyclic = All-from_recursion IsAcyclic (forking_train ∷ []) (fork_is_acyclic, tt);
+  named = search rules;
+  distinct = no_name;
+  trains_fit = omega arith;
+  operations_fit = omega arith;
+  components_fit = omega arith;
+  costs_fit = omega arith;
+}
+
+pub dear_fork_made : IsWellFormed (forking_train ∷ []) dear_fork_costs []
+dear_fork_made = record {
+  numbers = search rules;
+  references = search (rules, once_in_one, once_in_two, once_in_none);
+  acyclic = fork_made.acyclic;
   named = search rules;
   distinct = no_name;
   trains_fit = omega arith;

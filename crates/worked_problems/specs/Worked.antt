@@ -26,6 +26,10 @@ exit_costs = worked_component 0 3 1 0 ∷ []
 abbrev pub fork_costs : List Component
 fork_costs = worked_component 0 2 0 10 ∷ exit_costs
 
+-- so, and to run its operation 1 costs 4
+abbrev pub dear_fork_costs : List Component
+dear_fork_costs = worked_component 0 1 0 4 ∷ fork_costs
+
 -- a resource with a release time
 abbrev pub one_listing : ℕ → ℕ → List Listing
 one_listing resource release = record { resource = resource; release = release } ∷ []

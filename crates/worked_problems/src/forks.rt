@@ -1,6 +1,6 @@
 // A train with a choice of its way.
 ghost use Rattle.std.specs.Prelude.{◌≡◌, [], ◌∷◌, IfOk, length};
-ghost use Rattle.worked_problems.specs.Worked.{exit_costs, fork_costs, forking_train};
+ghost use Rattle.worked_problems.specs.Worked.{dear_fork_costs, exit_costs, fork_costs, forking_train};
 
 use crate::parts::{costing, lasting};
 use disp_model::{Component, List, Memory, Problem, Train};
@@ -26,6 +26,22 @@ pub fn forked(alloc: Global) -> Result<Problem, Memory>
 {
     let train = forking(alloc)?;
     let costs = vec![in alloc; costing(0, 2, 0, 10), costing(0, 3, 1, 0)]?;
+    Ok(Problem {
+        trains: List::from_vec(vec![in alloc; train]?),
+        components: List::from_vec(costs),
+        names: List::new(alloc),
+    })
+}
+
+/// `forked`, where to run 1 costs 4.
+pub fn dear_fork(alloc: Global) -> Result<Problem, Memory>
+    ensures count { IfOk result (λ problem. length problem.trains ≡ 1) }
+    ensures trains { IfOk result (λ problem. problem.trains ≡ forking_train ∷ []) }
+    ensures costs { IfOk result (λ problem. problem.components ≡ dear_fork_costs) }
+    ensures names { IfOk result (λ problem. problem.names ≡ []) }
+{
+    let train = forking(alloc)?;
+    let costs = vec![in alloc; costing(0, 1, 0, 4), costing(0, 2, 0, 10), costing(0, 3, 1, 0)]?;
     Ok(Problem {
         trains: List::from_vec(vec![in alloc; train]?),
         components: List::from_vec(costs),

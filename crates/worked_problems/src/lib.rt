@@ -11,5 +11,5 @@ mod parts;
 mod windows;
 
 pub use blocks::{swap, two_trains, two_trains_released, two_trains_until};
-pub use forks::{forked, plain_fork};
+pub use forks::{dear_fork, forked, plain_fork};
 pub use windows::{no_trains, two_windows, windowed};

@@ -6,7 +6,7 @@ use share_leaves::short_bound;
 use std::alloc::Global;
 use std::process::Abort;
 use std::test::Fail;
-use worked_problems::{forked, two_trains};
+use worked_problems::{dear_fork, forked, two_trains};
 
 /// At the root the bound is this one, shown by so many walks, and so many trains with so many walks
 /// together.
@@ -28,10 +28,11 @@ fn check(
     Ok(())
 }
 
-// Where each train has one route, its components are walked to; a train whose share counts what
-// each of its routes costs is listed, without a walk where it is on time.
+// A forced component is walked to. A train is listed where each of its routes costs more than what
+// it must pay, without a walk where it is on time.
 #[test]
 fn leaves_of_shares_are_short(rt: HostRuntime) -> Result<(), Fail> {
     check(&rt, rt.alloc(), &two_trains(rt.alloc())?, (14, 2, 0, 0))?;
-    check(&rt, rt.alloc(), &forked(rt.alloc())?, (5, 0, 1, 0))
+    check(&rt, rt.alloc(), &forked(rt.alloc())?, (3, 1, 0, 0))?;
+    check(&rt, rt.alloc(), &dear_fork(rt.alloc())?, (7, 0, 1, 0))
 }

@@ -105,23 +105,13 @@ fn a_spent_budget_is_told(rt: HostRuntime) -> Result<(), Fail> {
         3,
         "edition 0\nunfinished best none bound 14 spent 0\n",
     )?;
-    check_by(
+    check(
         &rt,
-        "fixed",
         FORK,
         "",
         "0",
         3,
         "edition 0\nunfinished best none bound 3 spent 0\n",
-    )?;
-    check_by(
-        &rt,
-        "free",
-        FORK,
-        "",
-        "0",
-        3,
-        "edition 0\nunfinished best none bound 5 spent 0\n",
     )
 }
 
