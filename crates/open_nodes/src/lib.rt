@@ -2,9 +2,10 @@
 //!
 //! `Nodes` is seen as its places by number, what they show, and the newest edition. A leaf is known
 //! dead where what is kept for it says so, and wanted where it is not and its kept bound is below
-//! the best cost, or there is no best. `take` gives a wanted leaf out, the last one grown first,
-//! from a stack, `give_back` takes it in again, and `grow` puts a fragment in its place. A leaf
-//! keeps its parent and one decision, so decisions are listed only for the work that is taken.
+//! the best cost, or there is no best. `take` gives a wanted leaf out, where many branches are
+//! wanted the last one grown, where few are wanted one of the least bound; `give_back` takes it in
+//! again, and `grow` puts a fragment in its place. A leaf keeps its parent and one decision, so
+//! decisions are listed only for the work that is taken.
 #![tactic(auto)]
 
 mod child;
@@ -13,6 +14,7 @@ pub mod laws;
 mod nodes;
 mod path;
 mod place;
+mod ready;
 mod search;
 mod shown;
 mod walk;

@@ -9,23 +9,21 @@ ghost use Rattle.open_nodes.specs.Preorder.{IsFirstSought, IsFirstUnmarked, preo
 use crate::graft::{Grafted, graft, put};
 use crate::path::{decisions, number_out};
 use crate::place::{Kind, Place};
-use crate::search::{count_out, first_takeable, is_ripe, least_bound, pop_takeable};
+use crate::ready::Ready;
+use crate::search::{count_out, first_takeable, is_ripe, least_bound};
 use crate::shown::{all_shown, index_of, leaf_at};
 use crate::walk::first_sought;
 use crate::work::{Fragment, GiveBack, Growth, Take, Work};
 use disp_model::{Decision, Leaf, List, Memory, Problem, Tree, TreeNode};
 use std::alloc::Global;
 use std::marker::Model;
-use std::ops::Range;
 
 /// The tree of a search: its places by number, what they show, and the newest edition.
 #[derive(Drop)]
 pub struct Nodes {
     places: Vec<Place>,
     kept: Vec<TreeNode>,
-    /// Leaves that may be taken, the last grown last. It is advice: a leaf may be missing, or be
-    /// no more such a leaf.
-    ready: Vec<usize>,
+    ready: Ready,
     edition: u32,
     allowed: u64,
 }
@@ -62,12 +60,10 @@ impl Nodes {
         })?;
         let mut kept = Vec::new(alloc);
         kept.push(TreeNode::Leaf(Leaf::Costs(List::new(alloc))))?;
-        let mut ready = Vec::new(alloc);
-        ready.push(0)?;
         Ok(Nodes {
             places,
             kept,
-            ready,
+            ready: Ready::new(alloc)?,
             edition: 0,
             allowed: 0,
         })
@@ -157,7 +153,8 @@ impl Nodes {
 
     /// Takes a leaf out: one that is wanted and in, and where `free` is 0 one that is not marked as
     /// examined under the newest edition. Its work may grow the less of `want` and `free` branches.
-    /// `seen` is the caller's place in the history, which the work keeps.
+    /// `seen` is the caller's place in the history, which the work keeps. Which leaf it is, is
+    /// advice: where few branches are wanted one of the least kept bound, else the last one grown.
     ///
     /// # Errors
     ///
@@ -174,7 +171,7 @@ impl Nodes {
         ensures ok { IfOk result (λ take. Takes self.old best free want seen take self.new) }
         ensures err { OnErr result (self.new ≡ self.old) }
     {
-        match self.find(best, free) {
+        match self.find(best, free, want) {
             Some(number) => {
                 let work = self.send(alloc, number, best, seen, want.min(free))?;
                 Ok(Take::Taken(work))
@@ -184,12 +181,14 @@ impl Nodes {
     }
 
     /// The number of a leaf that may be taken.
-    fn find(&mut self, best: Option<u64>, free: u32) -> Option<usize>
+    fn find(&mut self, best: Option<u64>, free: u32, want: u32) -> Option<usize>
         ensures same { self.new ≡ self.old }
         ensures found { MatchOption result (NoneTakeable self.old.edition best free self.old.places)
             (λ n. MayBeTaken self.old best free n) }
     {
-        let number = pop_takeable(&mut self.ready, &self.places, self.edition, best, free);
+        let number = self
+            .ready
+            .pop_takeable(&self.places, self.edition, best, free, want);
         match number {
             Some(number) => Some(number),
             None => first_takeable(&self.places, self.edition, best, free),
@@ -352,7 +351,8 @@ impl Nodes {
         let first = self.places.len();
         put(&mut self.places, &mut self.kept, number, grown, subtree)?;
         self.allowed -= allowance_in(place, self.edition);
-        keep_grown(&mut self.ready, number, first..self.places.len());
+        self.ready
+            .keep_grown(&self.places, number, first, place.out);
         Ok(())
     }
 
@@ -378,7 +378,7 @@ impl Nodes {
             return;
         }
         self.places[number] = fallen(place);
-        keep_ready(&mut self.ready, number);
+        self.ready.keep_back(number, fallen(place));
     }
 
     /// Takes the leaf of a work in again.
@@ -395,7 +395,7 @@ impl Nodes {
             ..place
         };
         self.allowed -= allowance_in(place, self.edition);
-        keep_ready(&mut self.ready, number);
+        self.ready.keep_back(number, place);
     }
 }
 
@@ -437,20 +437,5 @@ fn allowance_in(place: Place, edition: u32) -> u64
     match place.out {
         Some(errand) if errand.edition == edition => u64::from(errand.allowance),
         _ => 0,
-    }
-}
-
-/// Puts a leaf on the stack where there is room.
-fn keep_ready(ready: &mut Vec<usize>, number: usize) {
-    if ready.len() < ready.capacity() {
-        ready.push(number).is_ok();
-    }
-}
-
-/// Puts a leaf that has grown and its new places on the stack, as far as there is memory.
-fn keep_grown(ready: &mut Vec<usize>, number: usize, fresh: Range<usize>) {
-    ready.push(number).is_ok();
-    for leaf in fresh {
-        ready.push(leaf).is_ok();
     }
 }

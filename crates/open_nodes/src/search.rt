@@ -1,4 +1,4 @@
-ghost use Rattle.std.specs.Prelude.{◌≡◌, ◌↔◌, ◌∷◌, List, IsTrue, All, MatchOption, IfSome, slice_get};
+ghost use Rattle.std.specs.Prelude.{◌≡◌, ◌↔◌, ◌∷◌, List, IsTrue, All, MatchOption, slice_get};
 ghost use Rattle.open_nodes.specs.declared.place.Place.{Place};
 ghost use Rattle.open_nodes.specs.States.{IsBelow, IsWanted, IsTakeable, IsLeastBound, IsLess, out_count};
 
@@ -51,28 +51,6 @@ pub fn count_out(places: &[Place]) -> usize
     ensures { result ≡ out_count places.now }
 {
     places.iter().filter(|place| place.out.is_some()).count()
-}
-
-/// The last leaf of a stack that may be taken. It and those above it are taken off.
-pub fn pop_takeable(
-    ready: &mut Vec<usize>,
-    places: &[Place],
-    edition: u32,
-    best: Option<u64>,
-    free: u32,
-) -> Option<usize>
-    ensures { IfSome result (λ n. (p : Place) × (slice_get places.now n ≡ Some p)
-        × IsTakeable edition best free p) }
-{
-    for _ in 0..ready.len() {
-        let number = ready.pop()?;
-        if let Some(place) = places.get(number) {
-            if is_takeable(place, edition, best, free) {
-                return Some(number);
-            }
-        }
-    }
-    None
 }
 
 /// The less of a bound, if there is one, and another.

@@ -4,6 +4,7 @@
 //! stopped.
 #![tactic(auto)]
 
+mod effort;
 mod growth;
 mod hand_in;
 mod search;

@@ -7,6 +7,7 @@ ghost use Rattle.node_leaves.specs.Shown.{IsDeadLeaf};
 ghost use Rattle.search_workers.specs.declared.growth.Growth.TheVariants.{Subtree};
 ghost use Rattle.search_workers.specs.Searched.{GoesOn, IsClosed, IsOfNewest};
 
+use crate::effort::{Effort, FOR_PLAN};
 use crate::growth::{Growth, grow, leaf_alone, target_after};
 use crate::hand_in::hand_in;
 use crate::turn::{Turn, next_turn};
@@ -44,6 +45,7 @@ fn round(
     core: &mut Core,
     graph: &mut Graph,
     guide: &mut Guide,
+    effort: &mut Effort,
 ) -> Result<bool, Memory>
     requires problem { core.old.problem ≡ problem.now }
     requires reckons { ReckonsFor problem.now reckoning.now }
@@ -53,10 +55,12 @@ fn round(
     ensures newest { IsOfNewest core.new graph.new }
     ensures closed { IfOk result (λ closed. closed ≡ true → IsClosed core.new) }
 {
-    match next_turn(alloc, core)? {
+    let want = effort.want();
+    match next_turn(alloc, core, want)? {
         Turn::Work(work) => {
             let growth = grow(alloc, problem, reckoning, graph, &work, guide);
             guide.count_dive();
+            effort.count(want, &growth);
             aim_at(alloc, problem, guide, &growth);
             hand_in(alloc, core, work, growth)?;
             Ok(false)
@@ -74,7 +78,7 @@ fn round_of_dead(alloc: Global, core: &mut Core, leaf: &Leaf) -> Result<bool, Me
     ensures on { GoesOn core.old core.new }
     ensures closed { IfOk result (λ closed. closed ≡ true → IsClosed core.new) }
 {
-    match next_turn(alloc, core)? {
+    match next_turn(alloc, core, FOR_PLAN)? {
         Turn::Work(work) => {
             let growth = copy_alone(alloc, leaf);
             hand_in(alloc, core, work, growth)?;
@@ -101,8 +105,9 @@ fn rounds(
     ensures on { GoesOn core.old core.new }
     ensures closed { OnOk result (IsClosed core.new) }
 {
+    let mut effort = Effort::new();
     for _ in 0..u64::MAX {
-        if round(alloc, problem, reckoning, core, graph, guide)? {
+        if round(alloc, problem, reckoning, core, graph, guide, &mut effort)? {
             return Ok(());
         }
     }

@@ -11,10 +11,6 @@ use std::alloc::Global;
 /// The number of the one searcher.
 pub(crate) const SEARCHER: u32 = 0;
 
-/// How many branches a searcher asks for at a time: as many as a dive may need to reach a plan. A
-/// dive that is cut off goes on where the core says, which may be beside the target.
-const WANTED: u32 = 65_536;
-
 /// What there is for a searcher to do.
 #[derive(Drop)]
 pub(crate) enum Turn {
@@ -39,9 +35,9 @@ pub(crate) fn tell(alloc: Global, core: &mut Core, event: CoreEvent) -> Result<C
     }
 }
 
-/// Takes a leaf of the newest edition. Where none is wanted, settles it; where none may be taken,
-/// stops it.
-pub(crate) fn next_turn(alloc: Global, core: &mut Core) -> Result<Turn, Memory>
+/// Takes a leaf of the newest edition, to grow so many branches. Where none is wanted, settles it;
+/// where none may be taken, stops it.
+pub(crate) fn next_turn(alloc: Global, core: &mut Core, want: u32) -> Result<Turn, Memory>
     ensures on { GoesOn core.old core.new }
     ensures turn { IfOk result (IsTurn core.new) }
 {
@@ -49,7 +45,7 @@ pub(crate) fn next_turn(alloc: Global, core: &mut Core) -> Result<Turn, Memory>
     let take = CoreEvent::Take {
         searcher: SEARCHER,
         edition,
-        want: WANTED,
+        want,
     };
     match tell(alloc, core, take)? {
         CoreReply::Taken(work) => Ok(Turn::Work(work)),

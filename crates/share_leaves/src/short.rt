@@ -2,11 +2,11 @@ ghost use Rattle.std.specs.Prelude.{◌≡◌, IfOk};
 ghost use Rattle.share_bound.specs.Components.{AreOwnOf};
 ghost use Rattle.share_bound.specs.Free.{IsFreeBound};
 
-use crate::trains::{Listed, list_trains};
+use crate::trains::{Listed, Shares, list_trains};
 use crate::walks::{Walks, walks_beside};
 use disp_model::{Memory, Problem};
 use event_graph::Graph;
-use share_bound::{FreeBound, OwnComponents, free_bound, free_cost};
+use share_bound::{FreeBound, OwnComponents, free_bound};
 use std::alloc::Global;
 
 /// The bound of a node of the problem under the free rule, with a leaf that shows it: trains whose
@@ -22,13 +22,13 @@ pub fn short_bound(
     requires own { AreOwnOf problem.now components.now }
     ensures { IfOk result (IsFreeBound graph.now) }
 {
-    let total = free_cost(alloc, problem, components, graph)?;
-    let Listed { trains, cost } = list_trains(alloc, problem, components, graph)?;
-    let beside = walks_beside(alloc, problem, graph, trains.as_slice())?;
-    if cost.saturating_add(beside.cost) < total {
+    let Shares { listed, total } = list_trains(alloc, problem, components, graph)?;
+    let beside = walks_beside(alloc, problem, graph, listed.trains.as_slice())?;
+    if listed.cost.saturating_add(beside.cost) < total {
         return free_bound(alloc, problem, components, graph);
     }
     let Walks { walks, .. } = beside;
+    let Listed { trains, .. } = listed;
     Ok(FreeBound {
         cost: total,
         walks,

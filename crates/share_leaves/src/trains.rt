@@ -1,4 +1,6 @@
 ghost use Rattle.std.specs.Prelude.{◌≡◌, ◌+◌, ◌<◌, IfOk, OnOk, length};
+ghost use Rattle.disp_model.specs.Valid.{train_at};
+ghost use Rattle.share_bound.specs.Bases.{AddUpTo, AreBasesTo, IsShareWithin};
 ghost use Rattle.share_bound.specs.Components.{AreOwnOf};
 ghost use Rattle.share_leaves.specs.Listed.{AreListed};
 
@@ -32,7 +34,35 @@ fn forced_cost(graph: &Graph, components: &[Component], train: u32, lengths: &[u
     sum
 }
 
-/// Lists a train with its share, where its forced components cost less.
+/// Lists a train with the walks that its share needs, by the lengths of its operations.
+fn show(
+    alloc: Global,
+    problem: &Problem,
+    components: &OwnComponents,
+    graph: &Graph,
+    train: u32,
+    lengths: &[u64],
+    listed: &mut Listed,
+) -> Result<(), Memory>
+    requires node { graph.now.problem ≡ problem.now }
+    requires own { AreOwnOf problem.now components.now }
+    requires train { train < length problem.now.trains }
+    requires lengths { AreBasesTo graph.now train (length (train_at graph.now.problem train))
+        lengths.now }
+    requires before { AreListed graph.now train listed.old }
+    ensures { OnOk result (AreListed graph.now (train + 1) listed.new) }
+{
+    let operations = train_of(problem, train);
+    let routes = graph.routes(train);
+    let later = starts_later(alloc, operations, routes.order(), routes.rows(), lengths)?;
+    let ShownBases { bases, walks } = shown_bases(alloc, graph, train, lengths, &later)?;
+    let share = share_over(alloc, problem, components, graph, train, &bases)?;
+    listed.trains.push(TrainWalks { train, walks })?;
+    listed.cost = listed.cost.saturating_add(share);
+    Ok(())
+}
+
+/// The share of a train, which is listed where its forced components cost less.
 fn list(
     alloc: Global,
     problem: &Problem,
@@ -40,44 +70,54 @@ fn list(
     graph: &Graph,
     train: u32,
     listed: &mut Listed,
-) -> Result<(), Memory>
+) -> Result<u64, Memory>
     requires node { graph.now.problem ≡ problem.now }
     requires own { AreOwnOf problem.now components.now }
     requires train { train < length problem.now.trains }
     requires before { AreListed graph.now train listed.old }
-    ensures { OnOk result (AreListed graph.now (train + 1) listed.new) }
+    ensures share { IfOk result (IsShareWithin graph.now train) }
+    ensures listed { OnOk result (AreListed graph.now (train + 1) listed.new) }
 {
-    let operations = train_of(problem, train);
-    let lengths = bases_of(alloc, graph, train, operations.len())?;
-    let routes = graph.routes(train);
-    let later = starts_later(alloc, operations, routes.order(), routes.rows(), &lengths)?;
-    let ShownBases { bases, walks } = shown_bases(alloc, graph, train, &lengths, &later)?;
-    let share = share_over(alloc, problem, components, graph, train, &bases)?;
+    let count = train_of(problem, train).len();
+    let lengths = bases_of(alloc, graph, train, count)?;
+    let share = share_over(alloc, problem, components, graph, train, &lengths)?;
     if share <= forced_cost(graph, components.of_train(train), train, &lengths) {
-        return Ok(());
+        return Ok(share);
     }
-    listed.trains.push(TrainWalks { train, walks })?;
-    listed.cost = listed.cost.saturating_add(share);
-    Ok(())
+    show(alloc, problem, components, graph, train, &lengths, listed)?;
+    Ok(share)
 }
 
-/// The trains whose share is more than their forced components cost.
+/// The shares of all trains together, and those trains whose share is more than their forced
+/// components cost.
+#[derive(Drop)]
+pub(crate) struct Shares {
+    pub listed: Listed,
+    pub total: u64,
+}
+
+/// The shares of all trains, of which those are listed whose forced components cost less.
 pub(crate) fn list_trains(
     alloc: Global,
     problem: &Problem,
     components: &OwnComponents,
     graph: &Graph,
-) -> Result<Listed, Memory>
+) -> Result<Shares, Memory>
     requires node { graph.now.problem ≡ problem.now }
     requires own { AreOwnOf problem.now components.now }
-    ensures { IfOk result (AreListed graph.now (length problem.now.trains)) }
+    ensures listed { IfOk result
+        (λ shares. AreListed graph.now (length problem.now.trains) shares.listed) }
+    ensures total { IfOk result
+        (λ shares. AddUpTo graph.now (length problem.now.trains) shares.total) }
 {
     let mut listed = Listed {
         trains: List::new(alloc),
         cost: 0,
     };
+    let mut total = 0;
     for train in 0..problem.trains.len() {
-        list(alloc, problem, components, graph, train as u32, &mut listed)?;
+        let share = list(alloc, problem, components, graph, train as u32, &mut listed)?;
+        total += share;
     }
-    Ok(listed)
+    Ok(Shares { listed, total })
 }

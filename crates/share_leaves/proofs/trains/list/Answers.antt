@@ -1,25 +1,42 @@
-use Rattle.std.proofs.Common.{◌<◌, ◌≤◌, List, [], length, sym, subst, arith}
-use Rattle.std.proofs.lemmas.List.Sums.{get_or-le-sum_by}
+use Rattle.std.proofs.Common.{◌≡◌, ◌∙◌, ℕ, List, length, sym, ap, arith}
+use Rattle.std.specs.Prelude.{slice_index}
 use Rattle.disp_model.specs.declared.train.Operation.{Operation}
 use Rattle.disp_model.specs.declared.problem.Problem.{Problem}
-use Rattle.disp_model.specs.declared.limits.TheConstants.{MOST_COMPONENTS}
 use Rattle.disp_model.specs.Valid.{train_at}
-use Rattle.share_leaves.proofs.Listing.{listed_more}
+use Rattle.event_arcs.proofs.Shortness.{horizon_small}
+use Rattle.share_bound.proofs.Sharing.{each_base, share_of_bases}
 use Rattle.share_leaves.proofs.trains.list.Goals as goal
 
-pub returns : goal.returns
-returns c =
+pub share_over-requires-clause-bases : goal.share_over-requires-clause-bases
+share_over-requires-clause-bases c o =
+    let node = c.args.graph.now in
+    let value = ap (λ (l : List ℕ). slice_index l o) c.deref.ensures.value in
+    omega (
+      arith,
+      value,
+      each_base node c.args.train (length c.train_of-count.result.now)
+          c.in_ok-lengths.lengths.items c.in_ok-lengths.ensures o,
+      horizon_small node.problem,
+    )
+
+pub returns-then-share-forced_cost-clause-share : goal.returns-then-share-forced_cost-clause-share
+returns-then-share-forced_cost-clause-share c =
     let node = c.args.graph.now in
     let t = c.args.train in
-    let there = subst (λ (p : Problem). t < length p.trains) (sym c.requires.node) c.requires.train
-    in
-    let few : length (train_at node.problem t) ≤ MOST_COMPONENTS = omega (
-      arith,
-      get_or-le-sum_by (λ (train : List Operation). length train) node.problem.trains t [] there,
-      node.problem.well_formed.operations_fit,
-    ) in
-    listed_more node t (length (train_at node.problem t)) c.args.listed.now _
-    c.in_ok-bases.field-0 c.deref-4.result.now c.in_ok-share.share there
-    c.routes-routes.ensures.one few c.deref-4.ensures.value c.in_ok-share.ensures
-    c.in_ok-bases.ensures c.in_ok-push.ensures.ok (omega (arith, c.saturating_add-listed.ensures))
-    c.requires.before
+    let same : length c.train_of-count.result.now ≡ length (train_at node.problem t) = ap
+    (λ (l : List Operation). length l) (c.train_of-count.ensures
+    ∙ ap (λ (p : Problem). train_at p t) (sym c.requires.node)) in
+    share_of_bases node t (length c.train_of-count.result.now) c.in_ok-lengths.lengths.items
+    c.deref.result.now c.in_ok-share.share c.in_ok-lengths.ensures same c.deref.ensures.value
+    c.in_ok-share.ensures
+
+pub returns-clause-share : goal.returns-clause-share
+returns-clause-share c =
+    let node = c.args.graph.now in
+    let t = c.args.train in
+    let same : length c.train_of-count.result.now ≡ length (train_at node.problem t) = ap
+    (λ (l : List Operation). length l) (c.train_of-count.ensures
+    ∙ ap (λ (p : Problem). train_at p t) (sym c.requires.node)) in
+    share_of_bases node t (length c.train_of-count.result.now) c.in_ok-lengths.lengths.items
+    c.deref.result.now c.in_ok-share.share c.in_ok-lengths.ensures same c.deref.ensures.value
+    c.in_ok-share.ensures
