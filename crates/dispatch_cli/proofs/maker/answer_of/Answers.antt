@@ -1,10 +1,10 @@
-use Rattle.std.proofs.Common.{◌≡◌, ◌∙◌, List, [], Some, sym, subst}
+use Rattle.std.proofs.Common.{◌≡◌, ◌∙◌, List, [], sym, subst}
 use Rattle.std.proofs.lemmas.Result.{IfOk-at_ok}
 use Rattle.disp_model.specs.declared.entry.Entry.{Entry}
 use Rattle.disp_model.specs.declared.problem.Problem.{Problem}
 use Rattle.disp_model.specs.History.{IsStanding}
-use Rattle.dispatch_cli.specs.Answers.{IsFinished, made_settings, put_under}
-use Rattle.dispatch_cli.specs.Texts.{made_lines, problem_file}
+use Rattle.dispatch_cli.specs.Answers.{IsFinished, made_settings}
+use Rattle.dispatch_cli.specs.Texts.{made_lines}
 use Rattle.dispatch_cli.proofs.Searched.{finished_is}
 use Rattle.dispatch_cli.proofs.maker.answer_of.Goals as goal
 
