@@ -40,20 +40,36 @@ has_one s rows false required e = absurd (misses (s.arg_required_else_help && no
     (not (s.subcommand_negates_reqs && false) && list_any (λ a. a.required && not (is_given a.id rows)) s.rules) ≡ []) required e))
 
 abbrev pub NamesOne : Option (Text × List Row) → Type 0
-NamesOne found = (rows : List Row) × ((found ≡ Some (codes "solve", rows)) ⊎ ((found ≡ Some (codes "verify", rows)) ⊎ (found ≡ Some (codes "check", rows))))
+NamesOne found = (rows : List Row) × ((found ≡ Some (codes "solve", rows))
+    ⊎ ((found ≡ Some (codes "verify", rows)) ⊎ ((found ≡ Some (codes "check", rows))
+    ⊎ ((found ≡ Some (codes "report", rows)) ⊎ (found ≡ Some (codes "make", rows))))))
 
--- of three commands one is found, if any
-one_of_three : (s v k : Shape) (p : Text × List Text) (is_s is_v is_k : Bool) → s.name ≡ codes "solve" → v.name ≡ codes "verify" → k.name ≡ codes "check"
-    → is_some (option_map (λ c. rows_at c p.1) (cond is_s (Some s) (cond is_v (Some v) (cond is_k (Some k) None)))) ≡ true
-    → NamesOne (option_map (λ c. rows_at c p.1) (cond is_s (Some s) (cond is_v (Some v) (cond is_k (Some k) None))))
-one_of_three s v k p true is_v is_k named_s named_v named_k there = ((rows_at s p.1).1, inl (rw named_s refl))
-one_of_three s v k p false true is_k named_s named_v named_k there = ((rows_at v p.1).1, inr (inl (rw named_v refl)))
-one_of_three s v k p false false true named_s named_v named_k there = ((rows_at k p.1).1, inr (inr (rw named_k refl)))
-one_of_three s v k p false false false named_s named_v named_k there = cc
+-- of five commands one is found, if any
+module _ (s v k r m : Shape) (p : Text × List Text) where
+  abbrev found_of_five : Bool → Bool → Bool → Bool → Bool → Option (Text × List Row)
+  found_of_five is_s is_v is_k is_r is_m = option_map (λ c. rows_at c p.1) (cond is_s (Some s)
+      (cond is_v (Some v) (cond is_k (Some k) (cond is_r (Some r) (cond is_m (Some m) None)))))
 
-entered_one : (stop : Option (Text × List Text)) → is_some (entered (built program) stop) ≡ true → NamesOne (entered (built program) stop)
+  one_of_five : (is_s is_v is_k is_r is_m : Bool) → s.name ≡ codes "solve"
+      → v.name ≡ codes "verify" → k.name ≡ codes "check" → r.name ≡ codes "report"
+      → m.name ≡ codes "make" → is_some (found_of_five is_s is_v is_k is_r is_m) ≡ true
+      → NamesOne (found_of_five is_s is_v is_k is_r is_m)
+  one_of_five true is_v is_k is_r is_m ns nv nk nr nm there =
+      ((rows_at s p.1).1, inl (rw ns refl))
+  one_of_five false true is_k is_r is_m ns nv nk nr nm there =
+      ((rows_at v p.1).1, inr (inl (rw nv refl)))
+  one_of_five false false true is_r is_m ns nv nk nr nm there =
+      ((rows_at k p.1).1, inr (inr (inl (rw nk refl))))
+  one_of_five false false false true is_m ns nv nk nr nm there =
+      ((rows_at r p.1).1, inr (inr (inr (inl (rw nr refl)))))
+  one_of_five false false false false true ns nv nk nr nm there =
+      ((rows_at m p.1).1, inr (inr (inr (inr (rw nm refl)))))
+  one_of_five false false false false false ns nv nk nr nm there = cc
+
+entered_one : (stop : Option (Text × List Text))
+    → is_some (entered (built program) stop) ≡ true → NamesOne (entered (built program) stop)
 entered_one None there = cc
-entered_one (Some p) there = one_of_three _ _ _ p _ _ _ refl refl refl there
+entered_one (Some p) there = one_of_five _ _ _ _ _ p _ _ _ _ _ refl refl refl refl refl there
 
 pub taken_names_one : (words : List (List ℕ)) → AreTaken words → NamesOne (subcommand_of program words)
 taken_names_one words taken =

@@ -39,10 +39,34 @@ verify = with_rule (with_rule (with_rule (new_app (codes "verify")) (needed_rule
 abbrev pub check : App
 check = with_rule (with_rule (with_rule (with_rule (new_app (codes "check")) (needed_rule (codes "problem"))) (needed_rule (codes "tree"))) (optional_rule (codes "fixings"))) (optional_rule (codes "plan"))
 
+-- `report PROBLEM SOLUTION [--fixings F]`
+abbrev pub report : App
+report =
+    with_rule (with_rule (with_rule (new_app (codes "report")) (needed_rule (codes "problem")))
+    (needed_rule (codes "solution"))) (optional_rule (codes "fixings"))
+
+-- NUMBER, of 31 bits
+abbrev pub number : Rule
+number = record (needed_rule (codes "number")) { parser = Some (Signed (pos 0) (pos 2147483647)) }
+
+-- TRAINS, at least one and at most 2000
+abbrev pub trains : Rule
+trains = record (needed_rule (codes "trains")) { parser = Some (Signed (pos 1) (pos 2000)) }
+
+-- `make NUMBER TRAINS [--out FILE]`
+abbrev pub make : App
+make =
+    with_rule (with_rule (with_rule (new_app (codes "make")) number) trains)
+    (optional_rule (codes "out"))
+
 -- `solve` or `verify`; the words do not begin with the program's name
 abbrev pub first_commands : App
 first_commands = with_subcommand (with_subcommand (on_top (λ s. record s { no_binary_name = true; subcommand_required = true; disable_help_subcommand = true }) (new_app (codes "dispatch"))) solve.top) verify.top
 
--- one of these commands
+-- the same, or `check` or `report`
+abbrev pub more_commands : App
+more_commands = with_subcommand (with_subcommand first_commands check.top) report.top
+
+-- one of these commands, or `make`
 abbrev pub program : App
-program = with_subcommand first_commands check.top
+program = with_subcommand more_commands make.top

@@ -1,5 +1,5 @@
 -- What the words behind the program's name ask for.
-use Rattle.std.specs.Prelude.{◌≡◌, ◌⊎◌, ℕ, ◌<◌, ◌^◌, List, [], Option, Some, None, codes, unwrap_or}
+use Rattle.std.specs.Prelude.{◌≡◌, ◌⊎◌, ℕ, ◌<◌, ◌^◌, List, [], Option, Some, None, codes, unwrap_or, min}
 use Rattle.std.specs.Str.Parse.{IsNumeral, digits_value, without_leading_plus}
 use Rattle.clap.specs.Words.{Row, subcommand_of, first_of, one_of, fault_of}
 use Rattle.disp_model.specs.declared.settings.Rule.{Rule}
@@ -8,8 +8,10 @@ use Rattle.command_words.specs.Program.{program}
 use Rattle.command_words.specs.declared.read.WordsNo.{WordsNo}
 use Rattle.command_words.specs.declared.read.WordsNo.TheVariants.{Refused, Memory}
 use Rattle.command_words.specs.declared.task.SolveTask.{SolveTask}
+use Rattle.command_words.specs.declared.task.JudgeTask.{JudgeTask}
+use Rattle.command_words.specs.declared.task.MakeTask.{MakeTask}
 use Rattle.command_words.specs.declared.task.Task.{Task}
-use Rattle.command_words.specs.declared.task.Task.TheVariants.{Solve, Verify, Check}
+use Rattle.command_words.specs.declared.task.Task.TheVariants.{Solve, Verify, Report, Make, Check}
 
 -- clap finds no fault with the words
 abbrev pub AreTaken : List (List ℕ) → Type 0
@@ -25,10 +27,22 @@ pub record IsNumberText (text : List ℕ) (n : ℕ) : Type 0 where
   pub value : digits_value 10 (without_leading_plus text) ≡ n
   pub small : n < 2 ^ 32
 
+-- the number that a text says, and another one where there is none
+abbrev pub IsNumberOr : ℕ → Option (List ℕ) → ℕ → Type 0
+IsNumberOr other None n = n ≡ other
+IsNumberOr other (Some text) n =
+    IsNumberText text n ⊎ (((m : ℕ) → IsNumberText text m → ⊥) × (n ≡ other))
+
 -- the number that a text says, and a million where there is none (there always is one)
 abbrev pub IsBudget : Option (List ℕ) → ℕ → Type 0
-IsBudget None n = n ≡ 1000000
-IsBudget (Some text) n = IsNumberText text n ⊎ (((m : ℕ) → IsNumberText text m → ⊥) × (n ≡ 1000000))
+IsBudget found n = IsNumberOr 1000000 found n
+
+-- the number that a text says, and 1 where there is none (there always is one); at most so much, as
+-- it always is
+pub record IsWithin (most : ℕ) (found : Option (List ℕ)) (n : ℕ) : Type 0 where
+  pub said : ℕ
+  pub said_is : IsNumberOr 1 found said
+  pub is : n ≡ min said most
 
 -- the rule that a text names, and the free one where there is none
 abbrev pub IsRuleText : Option (List ℕ) → Rule → Type 0
@@ -55,14 +69,23 @@ pub record IsSolve (words : List (List ℕ)) (task : SolveTask) : Type 0 where
   pub plan_is : task.plan ≡ first_of (codes "plan") rows
   pub tree_is : task.tree ≡ first_of (codes "tree") rows
 
--- the values that clap finds for `verify`
-pub record IsVerify (words : List (List ℕ)) (problem solution : List ℕ) (fixings : Option (List ℕ)) : Type 0 where
+-- the values that clap finds for a command that judges a solution
+pub record IsJudge (command : List ℕ) (words : List (List ℕ)) (task : JudgeTask) : Type 0 where
   pub taken : AreTaken words
   pub rows : List Row
-  pub named : Names words (codes "verify") rows
-  pub problem_is : problem ≡ name_found (codes "problem") rows
-  pub solution_is : solution ≡ name_found (codes "solution") rows
-  pub fixings_is : fixings ≡ first_of (codes "fixings") rows
+  pub named : Names words command rows
+  pub problem_is : task.problem ≡ name_found (codes "problem") rows
+  pub solution_is : task.solution ≡ name_found (codes "solution") rows
+  pub fixings_is : task.fixings ≡ first_of (codes "fixings") rows
+
+-- the values that clap finds for `make`
+pub record IsMake (words : List (List ℕ)) (task : MakeTask) : Type 0 where
+  pub taken : AreTaken words
+  pub rows : List Row
+  pub named : Names words (codes "make") rows
+  pub number_is : IsWithin 2147483647 (one_of (codes "number") rows) task.number
+  pub trains_is : IsWithin 2000 (one_of (codes "trains") rows) task.trains
+  pub out_is : task.out ≡ first_of (codes "out") rows
 
 -- the values that clap finds for `check`
 pub record IsCheck (words : List (List ℕ)) (problem tree : List ℕ) (fixings plan : Option (List ℕ)) : Type 0 where
@@ -77,7 +100,9 @@ pub record IsCheck (words : List (List ℕ)) (problem tree : List ℕ) (fixings 
 -- the words ask for the task
 abbrev pub IsTask : List (List ℕ) → Task → Type 0
 IsTask words (Solve task) = IsSolve words task
-IsTask words (Verify problem solution fixings) = IsVerify words problem solution fixings
+IsTask words (Verify task) = IsJudge (codes "verify") words task
+IsTask words (Report task) = IsJudge (codes "report") words task
+IsTask words (Make task) = IsMake words task
 IsTask words (Check problem tree fixings plan) = IsCheck words problem tree fixings plan
 
 -- the words ask for `solve` by a rule that there is not

@@ -1,7 +1,8 @@
 ghost use Rattle.std.specs.Prelude.{◌≡◌, IfOk, false};
 ghost use Rattle.clap.specs.Words.{app_of, rule_of};
 ghost use Rattle.clap.specs.declared.builder.command.Command.TheViews.{out-Command as fields_of};
-ghost use Rattle.command_words.specs.Program.{needed_rule, optional_rule, budget, rule, solve_inputs, solve, verify, check, first_commands, program};
+ghost use Rattle.command_words.specs.Program.{needed_rule, optional_rule, budget, rule, solve_inputs, solve, verify, check, report, number};
+ghost use Rattle.command_words.specs.Program.{trains, make, first_commands, more_commands, program};
 
 use clap::{Arg, Command, value_parser};
 use std::alloc::{AllocError, Global};
@@ -76,6 +77,46 @@ fn verify<'a>(alloc: Global) -> Result<Command<'a>, AllocError>
         .arg(optional_rule(alloc, "fixings", "F"))
 }
 
+/// `report`, with its arguments.
+fn report<'a>(alloc: Global) -> Result<Command<'a>, AllocError>
+    ensures app { IfOk result (λ c. app_of c ≡ report) }
+    ensures own { IfOk result (λ c. (fields_of c).has_globals ≡ false) }
+{
+    Command::new(alloc, "report")
+        .about("Tells how late each train is in a solution")
+        .arg(needed_rule(alloc, "problem", "PROBLEM"))?
+        .arg(needed_rule(alloc, "solution", "SOLUTION"))?
+        .arg(optional_rule(alloc, "fixings", "F"))
+}
+
+/// The number of a problem that is made.
+fn number<'a>(alloc: Global) -> Arg<'a>
+    ensures rule { rule_of result ≡ number }
+    ensures own { result.global ≡ false }
+{
+    needed_rule(alloc, "number", "NUMBER").value_parser(value_parser!(u32).range(0..=2147483647))
+}
+
+/// How many trains it is to have.
+fn trains<'a>(alloc: Global) -> Arg<'a>
+    ensures rule { rule_of result ≡ trains }
+    ensures own { result.global ≡ false }
+{
+    needed_rule(alloc, "trains", "TRAINS").value_parser(value_parser!(u32).range(1..=2000))
+}
+
+/// `make`, with its arguments.
+fn make<'a>(alloc: Global) -> Result<Command<'a>, AllocError>
+    ensures app { IfOk result (λ c. app_of c ≡ make) }
+    ensures own { IfOk result (λ c. (fields_of c).has_globals ≡ false) }
+{
+    Command::new(alloc, "make")
+        .about("Makes a problem of a number, and solves it")
+        .arg(number(alloc))?
+        .arg(trains(alloc))?
+        .arg(optional_rule(alloc, "out", "FILE"))
+}
+
 /// `check`, with its arguments.
 fn check<'a>(alloc: Global) -> Result<Command<'a>, AllocError>
     ensures app { IfOk result (λ c. app_of c ≡ check) }
@@ -102,9 +143,18 @@ fn first_commands<'a>(alloc: Global) -> Result<Command<'a>, AllocError>
         .subcommand(verify(alloc)?)
 }
 
+/// The same with `check` and `report`.
+fn more_commands<'a>(alloc: Global) -> Result<Command<'a>, AllocError>
+    ensures { IfOk result (λ c. app_of c ≡ more_commands) }
+{
+    first_commands(alloc)?
+        .subcommand(check(alloc)?)?
+        .subcommand(report(alloc)?)
+}
+
 /// The program's command line.
 pub(crate) fn program<'a>(alloc: Global) -> Result<Command<'a>, AllocError>
     ensures { IfOk result (λ c. app_of c ≡ program) }
 {
-    first_commands(alloc)?.subcommand(check(alloc)?)
+    more_commands(alloc)?.subcommand(make(alloc)?)
 }

@@ -1,10 +1,12 @@
-ghost use Rattle.std.specs.Prelude.{◌≡◌, ℕ, List, IfOk, IfErr, MatchOption, map, option_map, string_bytes, codes};
+ghost use Rattle.std.specs.Prelude.{◌≡◌, ◌≤◌, ℕ, List, IfOk, IfErr, MatchOption, map, option_map, string_bytes, codes};
 ghost use Rattle.clap.specs.Words.{found_of, rows_of, subcommand_rows_of, subcommand_of, fault_of, first_of, one_of, HasKind};
 ghost use Rattle.command_words.specs.Program.{program};
-ghost use Rattle.command_words.specs.Task.{IsTask, AreTaken, Names, AskForNoRule, Denies, IsBudget, IsRuleText, NamesNoRule, name_found};
+ghost use Rattle.command_words.specs.Task.{IsTask, AreTaken, Names, AskForNoRule, Denies, IsJudge};
+ghost use Rattle.command_words.specs.Task.{IsNumberOr, IsBudget, IsWithin, IsRuleText, NamesNoRule};
+ghost use Rattle.command_words.specs.Task.{name_found};
 
 use crate::program::program;
-use crate::task::{SolveTask, Task};
+use crate::task::{JudgeTask, MakeTask, SolveTask, Task};
 use clap::error::ErrorKind;
 use clap::{ArgMatches, Error};
 use disp_model::{Rule, Text};
@@ -53,15 +55,31 @@ fn value<'a>(found: &ArgMatches<'a>, id: &str) -> Option<&'a str>
     found.get_str(id)
 }
 
-/// How often the search may branch.
+/// The number of an argument, or another one.
 #[tactic(auto, using(crate::proofs::Rows::one_is))]
+fn number_or(found: &ArgMatches, id: &str, other: u32) -> u32
+    ensures { IsNumberOr other (one_of id.now (rows_of (found_of found.now))) result }
+{
+    match found.get_one::<u32>(id) {
+        Some(number) => number,
+        None => other,
+    }
+}
+
+/// How often the search may branch.
 fn budget(found: &ArgMatches) -> u32
     ensures { IsBudget (one_of (codes "budget") (rows_of (found_of found.now))) result }
 {
-    match found.get_one::<u32>("budget") {
-        Some(number) => number,
-        None => 1_000_000,
-    }
+    number_or(found, "budget", 1_000_000)
+}
+
+/// The number of an argument, at most so much.
+fn within(found: &ArgMatches, id: &str, most: u32) -> u32
+    ensures within { IsWithin most (one_of id.now (rows_of (found_of found.now))) result }
+    ensures most { result ≤ most }
+{
+    let said = number_or(found, id, 1);
+    said.min(most)
 }
 
 /// A name that must be given.
@@ -143,16 +161,32 @@ fn solve(alloc: Global, found: &ArgMatches) -> Result<Task, WordsNo>
     }))
 }
 
-/// What is asked of `verify`.
-fn verify(alloc: Global, found: &ArgMatches) -> Result<Task, WordsNo>
-    ensures ok { IfOk result (λ task. (words : List (List ℕ)) → AreTaken words → Names words (codes "verify") (rows_of (found_of found.now)) → IsTask words task) }
+/// What is asked of a command that judges a solution.
+fn judge(alloc: Global, found: &ArgMatches) -> Result<JudgeTask, WordsNo>
+    ensures ok { IfOk result (λ task. (command : List ℕ) (words : List (List ℕ)) → AreTaken words
+        → Names words command (rows_of (found_of found.now)) → IsJudge command words task) }
     ensures err { IfErr result (λ no. no ≡ WordsNo.Memory) }
 {
-    Ok(Task::Verify {
+    Ok(JudgeTask {
         problem: name(alloc, found, "problem")?,
         solution: name(alloc, found, "solution")?,
         fixings: optional_name(alloc, found, "fixings")?,
     })
+}
+
+/// What is asked of `make`.
+fn make(alloc: Global, found: &ArgMatches) -> Result<Task, WordsNo>
+    ensures ok { IfOk result (λ task. (words : List (List ℕ)) → AreTaken words
+        → Names words (codes "make") (rows_of (found_of found.now)) → IsTask words task) }
+    ensures err { IfErr result (λ no. no ≡ WordsNo.Memory) }
+{
+    let number = within(found, "number", 2_147_483_647);
+    let trains = within(found, "trains", 2_000);
+    Ok(Task::Make(MakeTask {
+        number,
+        trains,
+        out: optional_name(alloc, found, "out")?,
+    }))
 }
 
 /// What is asked of `check`.
@@ -179,10 +213,16 @@ fn task(alloc: Global, matches: &ArgMatches) -> Result<Task, WordsNo>
         return solve(alloc, found);
     }
     if let Some(found) = matches.subcommand_matches("verify") {
-        return verify(alloc, found);
+        return Ok(Task::Verify(judge(alloc, found)?));
     }
     if let Some(found) = matches.subcommand_matches("check") {
         return check(alloc, found);
+    }
+    if let Some(found) = matches.subcommand_matches("report") {
+        return Ok(Task::Report(judge(alloc, found)?));
+    }
+    if let Some(found) = matches.subcommand_matches("make") {
+        return make(alloc, found);
     }
     Err(WordsNo::Refused(Text::from_string(String::new(alloc))))
 }

@@ -1,4 +1,4 @@
-ghost use Rattle.std.specs.Prelude.{◌≡◌};
+ghost use Rattle.std.specs.Prelude.{◌≡◌, ◌≤◌};
 ghost use Rattle.command_words.specs.Settings.{settings_of};
 
 use disp_model::{Rule, Settings, Text};
@@ -20,20 +20,41 @@ pub struct SolveTask {
     pub tree: Option<Text>,
 }
 
+/// What is asked of `verify` and `report`: whether a solution is valid for a problem.
+#[derive(Drop)]
+pub struct JudgeTask {
+    /// The name of the problem's file.
+    pub problem: Text,
+    /// The name of the solution's file.
+    pub solution: Text,
+    /// The name of a file of fixings that the plan is to meet, if there is one.
+    pub fixings: Option<Text>,
+}
+
+/// What is asked of `make`: a problem of a number, and its least cost.
+#[derive(Drop)]
+pub struct MakeTask {
+    /// The number.
+    pub number: u32,
+    /// How many trains the problem is to have.
+    pub trains: u32,
+    /// Where the problem is to be put, if anywhere.
+    pub out: Option<Text>,
+    pub ghost number_fits: { number ≤ 2147483647 },
+    pub ghost trains_fit: { trains ≤ 2000 },
+}
+
 /// What the words ask for. Names are those of files.
 #[derive(Drop)]
 pub enum Task {
     /// A plan of least cost for a problem.
     Solve(SolveTask),
     /// Whether a solution is valid for a problem.
-    Verify {
-        /// The name of the problem's file.
-        problem: Text,
-        /// The name of the solution's file.
-        solution: Text,
-        /// The name of a file of fixings that the plan is to meet, if there is one.
-        fixings: Option<Text>,
-    },
+    Verify(JudgeTask),
+    /// The table of a valid solution.
+    Report(JudgeTask),
+    /// A problem of a number.
+    Make(MakeTask),
     /// Whether a tree shows its verdict of a problem, and whether a plan fits the verdict.
     Check {
         /// The name of the problem's file.

@@ -1,5 +1,5 @@
 // Words are read as clap reads them.
-use crate::{Task, WordsNo, read_words};
+use crate::{JudgeTask, Task, WordsNo, read_words};
 use disp_model::Rule;
 use std::alloc::Global;
 use std::test::Fail;
@@ -10,6 +10,12 @@ fn words(alloc: Global, line: &str) -> Result<Vec<String>, Fail> {
         words.push(String::from_str(alloc, word)?)?;
     }
     Ok(words)
+}
+
+fn judged(alloc: Global, command: &str, task: &JudgeTask) -> Result<String, Fail> {
+    let fixings = task.fixings.as_ref().map_or("none", |name| name.as_str());
+    let (problem, solution) = (task.problem.as_str(), task.solution.as_str());
+    Ok(format!(in alloc; "{command} {problem} {solution} {fixings}")?)
 }
 
 fn shown(alloc: Global, task: &Task) -> Result<String, Fail> {
@@ -39,17 +45,12 @@ fn shown(alloc: Global, task: &Task) -> Result<String, Fail> {
                 tree.as_str()
             )?
         }
-        Task::Verify {
-            problem,
-            solution,
-            fixings,
-        } => {
-            let fixings = fixings.as_ref().map_or("none", |name| name.as_str());
-            format!(in alloc;
-                "verify {} {} {fixings}",
-                problem.as_str(),
-                solution.as_str()
-            )?
+        Task::Verify(task) => judged(alloc, "verify", task)?,
+        Task::Report(task) => judged(alloc, "report", task)?,
+        Task::Make(task) => {
+            let out = task.out.as_ref().map_or("none", |name| name.as_str());
+            let (number, trains) = (task.number, task.trains);
+            format!(in alloc; "make {number} {trains} {out}")?
         }
     };
     Ok(text)
@@ -118,6 +119,24 @@ fn words_of_a_check_have_their_values(rt: HostRuntime) -> Result<(), Fail> {
             "unexpected argument '--budget'"
         )?
     );
+    Ok(())
+}
+
+#[test]
+fn words_of_a_report_and_a_made_problem(rt: HostRuntime) -> Result<(), Fail> {
+    let alloc = rt.alloc();
+    assert_eq!(rt;
+        read(alloc, "report P S --fixings F")?.as_str(),
+        "report P S F"
+    );
+    assert_eq!(rt; read(alloc, "make 0 2000")?.as_str(), "make 0 2000 none");
+    assert_eq!(rt;
+        read(alloc, "make 2147483647 1 --out P")?.as_str(),
+        "make 2147483647 1 P"
+    );
+    assert!(rt; is_refused(alloc, "make 0 0", "0 is not in 1..=2000")?);
+    assert!(rt; is_refused(alloc, "make 0 2001", "2001 is not in 1..=2000")?);
+    assert!(rt; is_refused(alloc, "make 2147483648 1", "2147483648")?);
     Ok(())
 }
 

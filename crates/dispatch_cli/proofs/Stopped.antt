@@ -6,11 +6,13 @@ use Rattle.std.specs.Str.{bytes_eq}
 use Rattle.std.proofs.lemmas.Slice.Eq.{bytes_eq-Decides}
 use Rattle.disp_model.specs.declared.problem.Problem.{Problem}
 use Rattle.disp_model.specs.declared.limits.TheConstants.{MOST_FILE_BYTES}
+use Rattle.command_words.specs.declared.task.JudgeTask.{JudgeTask}
 use Rattle.command_words.specs.declared.task.SolveTask.{SolveTask}
 use Rattle.command_words.specs.declared.task.Task.{Task}
-use Rattle.command_words.specs.declared.task.Task.TheVariants.{Solve, Verify}
+use Rattle.command_words.specs.declared.task.Task.TheVariants.{Solve}
 use Rattle.command_words.specs.Task.{IsTask}
 use Rattle.dispatch_cli.specs.declared.answer.Answer.{Answer}
+use Rattle.dispatch_cli.specs.declared.judge.Telling.{Telling}
 use Rattle.dispatch_cli.specs.declared.cause.Cause.{Cause}
 use Rattle.dispatch_cli.specs.declared.cause.Cause.TheVariants.{Words, Failed, TooLong, NoProblem, NoSolution, BadLine, NoTree, WrongEdition, NoPlan, Memory}
 use Rattle.dispatch_cli.specs.declared.cause.Input.TheVariants as input
@@ -22,7 +24,7 @@ use Rattle.disp_model.specs.declared.fixing.Fixing.{Fixing}
 use Rattle.fixing_files.specs.declared.take.LineNo.{LineNo}
 use Rattle.dispatch_cli.specs.declared.cause.Input.{Input}
 use Rattle.dispatch_cli.specs.Answers.{IsJudgedFile}
-use Rattle.dispatch_cli.specs.Causes.{StopsProblem, StopsSolve, StopsSolution, StopsFixings, StopsGivenFixings, StopsJudging, StopsVerify, IsWant, IsBadFile, input_name, TakesProblem, StopsTask, StopsRun, CountsTask}
+use Rattle.dispatch_cli.specs.Causes.{StopsProblem, StopsSolve, StopsSolution, StopsFixings, StopsGivenFixings, StopsJudging, StopsVerify, IsWant, IsBadFile, input_name, judged_name, TakesProblem, StopsTask, StopsRun, CountsTask}
 
 different : false ≡ true → ⊥
 different e = cc
@@ -52,17 +54,21 @@ counts_of_two task old new counted others name = record {
     given unread (inr e) = unread input.Fixings e
 
 -- where files of a verification are read, the counts of other names stay
-pub counts_of_three : (problem solution : List ℕ) (fixings : Option (List ℕ)) (old new : Counts) → ((name : List ℕ) → old name ≤ new name)
-    → ((other : List ℕ) → (IsOneOfThree problem fixings solution other → ⊥) → new other ≡ old other) → (name : List ℕ) → CountsTask (Verify problem solution fixings) old new name
-counts_of_three problem solution fixings old new counted others name = record {
+pub counts_of_three : (task : Task) (judged : JudgeTask)
+    → ((which : Input) → input_name task which ≡ judged_name judged which) → (old new : Counts)
+    → ((name : List ℕ) → old name ≤ new name)
+    → ((other : List ℕ) → (IsOneOfThree judged.problem judged.fixings judged.solution other → ⊥)
+    → new other ≡ old other) → (name : List ℕ) → CountsTask task old new name
+counts_of_three task judged same old new counted others name = record {
   never_falls = counted name;
   stays = λ unread. others name (given unread);
 }
   where
-    given : ((which : Input) → input_name (Verify problem solution fixings) which ≡ Some name → ⊥) → IsOneOfThree problem fixings solution name → ⊥
-    given unread (inl e) = unread input.Problem (ap Some (sym e))
-    given unread (inr (inl e)) = unread input.Fixings e
-    given unread (inr (inr e)) = unread input.Solution (ap Some (sym e))
+    given : ((which : Input) → input_name task which ≡ Some name → ⊥)
+        → IsOneOfThree judged.problem judged.fixings judged.solution name → ⊥
+    given unread (inl e) = unread input.Problem (same input.Problem ∙ ap Some (sym e))
+    given unread (inr (inl e)) = unread input.Fixings (same input.Fixings ∙ e)
+    given unread (inr (inr e)) = unread input.Solution (same input.Solution ∙ ap Some (sym e))
 
 -- what a file held before another reading, which changed no file
 pub file_before : (holds mid : Holdings) (name bytes : List ℕ) → mid name ≡ holds name → IsFile mid name bytes → IsFile holds name bytes
@@ -242,41 +248,57 @@ given_before holds mid_holds old mid new problem (Some name) (BadLine number rea
 given_before holds mid_holds old mid new problem (Some name) Memory same counted stops = tt
 given_before holds mid_holds old mid new problem (Some name) cause same counted stops = absurd stops
 
-takes_problem : (holds : Holdings) (problem solution : List ℕ) (fixings : Option (List ℕ)) (read : Problem) → IsProblemFile holds problem read → TakesProblem holds (Verify problem solution fixings) read
-takes_problem holds problem solution fixings read file = record { name = problem; named = refl; file = file }
+-- what stopped the judging of a solution is what stopped its task
+module _ (holds : Holdings) (old new : Counts) (task : Task) (judged : JudgeTask)
+    (same : (which : Input) → input_name task which ≡ judged_name judged which) where
+  taken_for : (read : Problem) → HasFixings holds read judged.fixings
+      → HasFixings holds read (input_name task input.Fixings)
+  taken_for read taken = subst (HasFixings holds read) (sym (same input.Fixings)) taken
 
--- what stopped a verification is what stopped its task
-pub stops_verify : (holds : Holdings) (old new : Counts) (problem solution : List ℕ) (fixings : Option (List ℕ)) (cause : Cause) → StopsVerify holds old new problem fixings solution cause
-    → StopsTask holds old new (Verify problem solution fixings) cause
-stops_verify holds old new problem solution fixings (Failed which) (inl (is, lt)) = rw is (tt, (problem, refl, lt))
-stops_verify holds old new problem solution fixings (TooLong which) (inl (is, long)) = rw is (tt, (problem, refl, long))
-stops_verify holds old new problem solution fixings (NoProblem refusal) (inl bad) = (problem, refl, bad)
-stops_verify holds old new problem solution fixings Memory stops = tt
-stops_verify holds old new problem solution fixings (Words text) (inl stops) = absurd stops
-stops_verify holds old new problem solution fixings (NoSolution refusal) (inl stops) = absurd stops
-stops_verify holds old new problem solution fixings (BadLine number reason) (inl stops) = absurd stops
-stops_verify holds old new problem solution fixings (NoTree refusal) (inl stops) = absurd stops
-stops_verify holds old new problem solution fixings (WrongEdition named wanted) (inl stops) = absurd stops
-stops_verify holds old new problem solution fixings (NoPlan refusal) (inl stops) = absurd stops
-stops_verify holds old new problem solution fixings (Failed input.Problem) (inr (read, file, stops)) = absurd stops
-stops_verify holds old new problem solution fixings (Failed input.Fixings) (inr (read, file, (name, is, lt))) = ((read, takes_problem holds problem solution fixings read file), (name, is, lt))
-stops_verify holds old new problem solution fixings (Failed input.Solution) (inr (read, file, (taken, lt))) = ((read, takes_problem holds problem solution fixings read file, taken), (solution, refl, lt))
-stops_verify holds old new problem solution fixings (Failed input.Tree) (inr (read, file, stops)) = absurd stops
-stops_verify holds old new problem solution fixings (Failed input.Plan) (inr (read, file, stops)) = absurd stops
-stops_verify holds old new problem solution fixings (TooLong which) (inr (read, file, (is, taken, long))) = rw is ((read, takes_problem holds problem solution fixings read file, taken), (solution, refl, long))
-stops_verify holds old new problem solution fixings (NoSolution refusal) (inr (read, file, (taken, bad))) = ((read, takes_problem holds problem solution fixings read file, taken), (solution, refl, bad))
-stops_verify holds old new problem solution fixings (BadLine number reason) (inr (read, file, (name, is, refused))) =
-    record { problem = read; takes = takes_problem holds problem solution fixings read file; name = name; named = is; refused = refused }
-stops_verify holds old new problem solution fixings (NoTree refusal) (inr (read, file, stops)) = absurd stops
-stops_verify holds old new problem solution fixings (WrongEdition named wanted) (inr (read, file, stops)) = absurd stops
-stops_verify holds old new problem solution fixings (NoPlan refusal) (inr (read, file, stops)) = absurd stops
-stops_verify holds old new problem solution fixings (Words text) (inr (read, file, stops)) = absurd stops
-stops_verify holds old new problem solution fixings (NoProblem refusal) (inr (read, file, stops)) = absurd stops
+  stops_behind : (read : Problem) → TakesProblem holds task read → (cause : Cause)
+      → StopsJudging holds old new read judged.fixings judged.solution cause
+      → StopsTask holds old new task cause
+  stops_behind read takes (Words text) stops = absurd stops
+  stops_behind read takes (Failed input.Problem) stops = absurd stops
+  stops_behind read takes (Failed input.Fixings) (name, is, lt) =
+      ((read, takes), (name, same input.Fixings ∙ is, lt))
+  stops_behind read takes (Failed input.Solution) (taken, lt) =
+      ((read, takes, taken_for read taken), (judged.solution, same input.Solution, lt))
+  stops_behind read takes (Failed input.Tree) stops = absurd stops
+  stops_behind read takes (Failed input.Plan) stops = absurd stops
+  stops_behind read takes (TooLong which) (is, taken, long) =
+      rw is ((read, takes, taken_for read taken), (judged.solution, same input.Solution, long))
+  stops_behind read takes (NoProblem refusal) stops = absurd stops
+  stops_behind read takes (NoSolution refusal) (taken, bad) =
+      ((read, takes, taken_for read taken), (judged.solution, same input.Solution, bad))
+  stops_behind read takes (BadLine number reason) (name, is, refused) = record {
+    problem = read;
+    takes = takes;
+    name = name;
+    named = same input.Fixings ∙ is;
+    refused = refused;
+  }
+  stops_behind read takes (NoTree refusal) stops = absurd stops
+  stops_behind read takes (WrongEdition named wanted) stops = absurd stops
+  stops_behind read takes (NoPlan refusal) stops = absurd stops
+  stops_behind read takes Memory stops = tt
+
+  pub stops_judge : (cause : Cause)
+      → StopsVerify holds old new judged.problem judged.fixings judged.solution cause
+      → StopsTask holds old new task cause
+  stops_judge cause (inl stops) =
+      stops_at_problem holds old new task judged.problem cause (same input.Problem) stops
+  stops_judge cause (inr (read, file, stops)) =
+      stops_behind read (takes_named holds task judged.problem read (same input.Problem) file) cause
+      stops
 
 -- a solution that was judged behind another reading
-pub judged_file_before : (holds mid : Holdings) (problem : Problem) (fixings : List Fixing) (name : List ℕ) (answer : Answer) → ((other : List ℕ) → mid other ≡ holds other) → IsJudgedFile mid problem fixings name answer
-    → IsJudgedFile holds problem fixings name answer
-judged_file_before holds mid problem fixings name answer same h = record {
+pub judged_file_before : (holds mid : Holdings) (telling : Telling) (problem : Problem)
+    (fixings : List Fixing) (name : List ℕ) (answer : Answer)
+    → ((other : List ℕ) → mid other ≡ holds other)
+    → IsJudgedFile mid telling problem fixings name answer
+    → IsJudgedFile holds telling problem fixings name answer
+judged_file_before holds mid telling problem fixings name answer same h = record {
   plan = h.plan;
   stated = h.stated;
   file = record { bytes = h.file.bytes; file = file_before holds mid name h.file.bytes (same name) h.file.file; read = h.file.read };

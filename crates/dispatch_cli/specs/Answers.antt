@@ -12,6 +12,7 @@ use Rattle.disp_model.specs.declared.tree.Verdict.{Verdict}
 use Rattle.disp_model.specs.declared.tree.Verdict.TheVariants as verdict
 use Rattle.disp_model.specs.History.{edition_of, last_plan, IsStanding}
 use Rattle.disp_model.specs.declared.fixing.Change.{Change}
+use Rattle.disp_model.specs.declared.settings.Rule.TheVariants.{Free}
 use Rattle.disp_model.specs.declared.settings.Settings.{Settings}
 use Rattle.solution_verifier.specs.declared.fault.Fault.{Fault}
 use Rattle.solution_verifier.specs.First.{IsRight, IsFirstFault}
@@ -20,17 +21,23 @@ use Rattle.tree_checker.specs.declared.why.Checked.TheVariants.{Accepted, Refuse
 use Rattle.tree_checker.specs.Checks.{IsChecked}
 use Rattle.solved_problems.specs.Promised.{Promises}
 use Rattle.solved_problems.specs.Solved.{IsSearched}
+use Rattle.command_words.specs.declared.task.JudgeTask.{JudgeTask}
+use Rattle.command_words.specs.declared.task.MakeTask.{MakeTask}
 use Rattle.command_words.specs.declared.task.SolveTask.{SolveTask}
 use Rattle.command_words.specs.declared.task.Task.{Task}
-use Rattle.command_words.specs.declared.task.Task.TheVariants.{Solve, Verify, Check}
+use Rattle.command_words.specs.declared.task.Task.TheVariants.{Solve, Verify, Report, Make, Check}
 use Rattle.command_words.specs.Settings.{settings_of}
 use Rattle.command_words.specs.Task.{IsTask}
 use Rattle.dispatch_cli.specs.declared.answer.Answer.{Answer}
+use Rattle.dispatch_cli.specs.declared.judge.Telling.{Telling}
+use Rattle.dispatch_cli.specs.declared.judge.Telling.TheVariants.{Cost, Table}
+use Rattle.dispatch_reports.specs.Tables.{report_lines}
+use Rattle.instance_maker.specs.Made.{IsMade}
 use Rattle.dispatch_cli.specs.declared.answer.Put.{Put}
 use Rattle.dispatch_cli.specs.Outside.{Holdings}
 use Rattle.dispatch_cli.specs.Files.{IsProblemFile, IsSolutionFile, AreAsked, AreFixings, AreOfEdition, IsTreeFile, IsPlanFile}
 use Rattle.dispatch_cli.specs.Settled.{settled_tree, ShowsMark}
-use Rattle.dispatch_cli.specs.Texts.{answer_lines, plan_line, tree_file, valid_line, fault_line, accepted_line, refused_line, plan_fault_line, no_plan_line}
+use Rattle.dispatch_cli.specs.Texts.{answer_lines, made_lines, plan_line, tree_file, problem_file, valid_line, fault_line, accepted_line, refused_line, plan_fault_line, no_plan_line}
 
 -- the status for a mark
 abbrev pub status_of_mark : Mark → ℕ
@@ -87,12 +94,18 @@ pub record AnswersSolve (holds : Holdings) (task : SolveTask) (answer : Answer) 
   pub lines : AreAsked holds problem task.fixings asked
   pub solved : IsSolved problem task asked answer
 
+-- what is told of a valid plan: its cost, or the table of its trains
+abbrev pub told_lines : Telling → Problem → List Event → ℕ → List (List ℕ)
+told_lines Cost problem plan cost = valid_line cost ∷ []
+told_lines Table problem plan cost = report_lines problem plan
+
 -- the plan is valid, costs so much, and a stated cost is that
-pub record SaysValid (problem : Problem) (fixings : List Fixing) (plan : List Event) (stated : Option ℕ) (status : ℕ) (lines : List (List ℕ)) : Type 0 where
+pub record SaysValid (telling : Telling) (problem : Problem) (fixings : List Fixing)
+    (plan : List Event) (stated : Option ℕ) (status : ℕ) (lines : List (List ℕ)) : Type 0 where
   pub cost : ℕ
   pub right : IsRight problem fixings plan stated cost
   pub status_is : status ≡ 0
-  pub lines_are : lines ≡ valid_line cost ∷ []
+  pub lines_are : lines ≡ told_lines telling problem plan cost
 
 -- the plan has this first fault
 pub record SaysFault (problem : Problem) (fixings : List Fixing) (plan : List Event) (stated : Option ℕ) (status : ℕ) (lines : List (List ℕ)) : Type 0 where
@@ -102,21 +115,24 @@ pub record SaysFault (problem : Problem) (fixings : List Fixing) (plan : List Ev
   pub lines_are : lines ≡ fault_line problem fault ∷ []
 
 -- a plan with a stated cost is judged
-pub record IsJudged (problem : Problem) (fixings : List Fixing) (plan : List Event) (stated : Option ℕ) (answer : Answer) : Type 0 where
+pub record IsJudged (telling : Telling) (problem : Problem) (fixings : List Fixing)
+    (plan : List Event) (stated : Option ℕ) (answer : Answer) : Type 0 where
   pub journal : answer.journal ≡ []
   pub puts : answer.puts ≡ []
-  pub says : SaysValid problem fixings plan stated answer.status answer.lines ⊎ SaysFault problem fixings plan stated answer.status answer.lines
+  pub says : SaysValid telling problem fixings plan stated answer.status answer.lines
+      ⊎ SaysFault problem fixings plan stated answer.status answer.lines
 
 -- the named files are a problem's, fixings', if they are given, and a solution's, which is judged
-pub record AnswersVerify (holds : Holdings) (problem_name solution_name : List ℕ) (fixings_name : Option (List ℕ)) (answer : Answer) : Type 0 where
+pub record AnswersJudge (holds : Holdings) (telling : Telling) (task : JudgeTask) (answer : Answer) :
+    Type 0 where
   pub problem : Problem
-  pub problem_file : IsProblemFile holds problem_name problem
+  pub problem_file : IsProblemFile holds task.problem problem
   pub fixings : List Fixing
-  pub fixings_file : AreFixings holds problem fixings_name fixings
+  pub fixings_file : AreFixings holds problem task.fixings fixings
   pub plan : List Event
   pub stated : Option ℕ
-  pub solution_file : IsSolutionFile holds solution_name plan stated
-  pub judged : IsJudged problem fixings plan stated answer
+  pub solution_file : IsSolutionFile holds task.solution plan stated
+  pub judged : IsJudged telling problem fixings plan stated answer
 
 -- the first fault of a plan under a verdict of this cost: the first with the plan's own stated cost, or where it has none, the
 -- first with the verdict's cost as stated
@@ -172,9 +188,26 @@ pub record AnswersCheck (holds : Holdings) (problem_name tree_name : List ℕ) (
   pub plan_file : IsPlanFile holds plan_name plan
   pub checked : IsTreeChecked problem fixings verdict tree plan answer
 
+-- what the search of a problem that is made is given: the greatest budget, and the free rule
+abbrev pub made_settings : Settings
+made_settings = record { budget = 4294967295; rule = Free }
+
+-- the problem of the number is made, and solved: the lines are those for its size and for where the
+-- search stands, and the problem is to be put
+pub record AnswersMake (task : MakeTask) (answer : Answer) : Type 0 where
+  pub problem : Problem
+  pub made : IsMade task.number task.trains problem
+  pub standing : Standing
+  pub finished : IsFinished problem made_settings [] answer.journal standing
+  pub status : answer.status ≡ status_of_mark standing.mark
+  pub lines : answer.lines ≡ made_lines problem standing
+  pub puts : answer.puts ≡ put_under task.out (Some (problem_file problem))
+
 abbrev pub AnswersTask : Holdings → Task → Answer → Type 0
 AnswersTask holds (Solve task) answer = AnswersSolve holds task answer
-AnswersTask holds (Verify problem solution fixings) answer = AnswersVerify holds problem solution fixings answer
+AnswersTask holds (Verify task) answer = AnswersJudge holds Cost task answer
+AnswersTask holds (Report task) answer = AnswersJudge holds Table task answer
+AnswersTask holds (Make task) answer = AnswersMake task answer
 AnswersTask holds (Check problem tree fixings plan) answer = AnswersCheck holds problem tree fixings plan answer
 
 -- the words ask for a task, and this is the answer to it
@@ -210,18 +243,28 @@ pub record IsOneLine (line : List ℕ) (status : ℕ) (answer : Answer) : Type 0
   pub lines : answer.lines ≡ line ∷ []
   pub status_is : answer.status ≡ status
 
+-- the answer tells a valid plan
+pub record IsTold (telling : Telling) (problem : Problem) (plan : List Event) (cost : ℕ)
+    (answer : Answer) : Type 0 where
+  pub journal : answer.journal ≡ []
+  pub puts : answer.puts ≡ []
+  pub lines : answer.lines ≡ told_lines telling problem plan cost
+  pub status_is : answer.status ≡ 0
+
 -- the name's file is a solution's, which is judged with fixings
-pub record IsJudgedFile (holds : Holdings) (problem : Problem) (fixings : List Fixing) (name : List ℕ) (answer : Answer) : Type 0 where
+pub record IsJudgedFile (holds : Holdings) (telling : Telling) (problem : Problem)
+    (fixings : List Fixing) (name : List ℕ) (answer : Answer) : Type 0 where
   pub plan : List Event
   pub stated : Option ℕ
   pub file : IsSolutionFile holds name plan stated
-  pub judged : IsJudged problem fixings plan stated answer
+  pub judged : IsJudged telling problem fixings plan stated answer
 
 -- so is one with the fixings of a file, if there is one
-pub record IsJudgedBy (holds : Holdings) (problem : Problem) (fixings_name : Option (List ℕ)) (name : List ℕ) (answer : Answer) : Type 0 where
+pub record IsJudgedBy (holds : Holdings) (telling : Telling) (problem : Problem)
+    (fixings_name : Option (List ℕ)) (name : List ℕ) (answer : Answer) : Type 0 where
   pub fixings : List Fixing
   pub fixings_file : AreFixings holds problem fixings_name fixings
-  pub judged : IsJudgedFile holds problem fixings name answer
+  pub judged : IsJudgedFile holds telling problem fixings name answer
 
 -- the answer is two lines and a status
 pub record IsTwoLines (first second : List ℕ) (status : ℕ) (answer : Answer) : Type 0 where

@@ -21,8 +21,9 @@ use Rattle.fixing_lines.specs.Entries.{refusal_text}
 use Rattle.fixing_files.specs.declared.take.LineNo.{LineNo}
 use Rattle.fixing_files.specs.declared.take.LineNo.TheVariants as reason
 use Rattle.fixing_files.specs.Files.{StopsAt}
+use Rattle.command_words.specs.declared.task.JudgeTask.{JudgeTask}
 use Rattle.command_words.specs.declared.task.Task.{Task}
-use Rattle.command_words.specs.declared.task.Task.TheVariants.{Solve, Verify, Check}
+use Rattle.command_words.specs.declared.task.Task.TheVariants.{Solve, Verify, Report, Make, Check}
 use Rattle.command_words.specs.Task.{IsTask, AreRefused}
 use Rattle.dispatch_cli.specs.declared.cause.Cause.{Cause}
 use Rattle.dispatch_cli.specs.declared.cause.Cause.TheVariants.{Words, Failed, TooLong, NoProblem, NoSolution, BadLine, NoTree, WrongEdition, NoPlan, Memory}
@@ -97,6 +98,14 @@ status_of Memory = 5
 
 -- ---- what has happened
 
+-- the name that is given for an input to judge a solution
+abbrev pub judged_name : JudgeTask → Input → Option (List ℕ)
+judged_name task input.Problem = Some task.problem
+judged_name task input.Solution = Some task.solution
+judged_name task input.Fixings = task.fixings
+judged_name task input.Tree = None
+judged_name task input.Plan = None
+
 -- the name that a task gives for an input
 abbrev pub input_name : Task → Input → Option (List ℕ)
 input_name (Solve task) input.Problem = Some task.problem
@@ -104,11 +113,9 @@ input_name (Solve task) input.Solution = None
 input_name (Solve task) input.Fixings = task.fixings
 input_name (Solve task) input.Tree = None
 input_name (Solve task) input.Plan = None
-input_name (Verify problem solution fixings) input.Problem = Some problem
-input_name (Verify problem solution fixings) input.Solution = Some solution
-input_name (Verify problem solution fixings) input.Fixings = fixings
-input_name (Verify problem solution fixings) input.Tree = None
-input_name (Verify problem solution fixings) input.Plan = None
+input_name (Verify task) which = judged_name task which
+input_name (Report task) which = judged_name task which
+input_name (Make task) which = None
 input_name (Check problem tree fixings plan) input.Problem = Some problem
 input_name (Check problem tree fixings plan) input.Solution = None
 input_name (Check problem tree fixings plan) input.Fixings = fixings

@@ -1,11 +1,13 @@
 -- The lines that the program prints.
-use Rattle.std.specs.Prelude.{ℕ, List, [], ◌∷◌, ◌++◌, codes, Option, Some, None}
+use Rattle.std.specs.Prelude.{ℕ, List, [], ◌∷◌, ◌++◌, length, codes, Option, Some, None}
 use Rattle.std.specs.Fmt.{decimal}
 use Rattle.disp_model.specs.declared.plan.Event.{Event}
 use Rattle.disp_model.specs.declared.entry.Mark.{Mark}
 use Rattle.disp_model.specs.declared.entry.Mark.TheVariants.{Working, Optimal, Infeasible, Stopped}
 use Rattle.disp_model.specs.declared.entry.Standing.{Standing}
 use Rattle.disp_model.specs.declared.problem.Problem.{Problem}
+use Rattle.disp_model.specs.WellFormed.{operation_count}
+use Rattle.problem_text.specs.Texts.{problem_text}
 use Rattle.solution_text.specs.Texts.{solution_text}
 use Rattle.solution_verifier.specs.declared.fault.Fault.{Fault}
 use Rattle.solution_verifier.specs.FaultText.{with_numbers, fault_text}
@@ -57,6 +59,29 @@ answer_lines standing plan Working = []
 answer_lines standing plan (Optimal cost) = edition_line standing.edition ∷ optimal_line cost ∷ plan_lines plan
 answer_lines standing plan Infeasible = edition_line standing.edition ∷ infeasible_line ∷ []
 answer_lines standing plan (Stopped spent bound) = edition_line standing.edition ∷ unfinished_line standing.best bound spent ∷ plan_lines plan
+
+-- the line of the verdict, where there is one
+abbrev pub verdict_line : Standing → Mark → List ℕ
+verdict_line standing Working = []
+verdict_line standing (Optimal cost) = optimal_line cost
+verdict_line standing Infeasible = infeasible_line
+verdict_line standing (Stopped spent bound) = unfinished_line standing.best bound spent
+
+abbrev pub trains_line : ℕ → List ℕ
+trains_line count = line (codes "trains " ++ decimal count)
+
+abbrev pub operations_line : ℕ → List ℕ
+operations_line count = line (codes "operations " ++ decimal count)
+
+-- the lines for a problem that was made: how large it is, and where its search stands
+abbrev pub made_lines : Problem → Standing → List (List ℕ)
+made_lines problem standing =
+    trains_line (length problem.trains) ∷ operations_line (operation_count problem.trains)
+    ∷ verdict_line standing standing.mark ∷ []
+
+-- the text of a problem, as a file
+abbrev pub problem_file : Problem → List ℕ
+problem_file problem = line (problem_text problem)
 
 -- the line for a plan that is valid, with its cost
 abbrev pub valid_line : ℕ → List ℕ

@@ -1,5 +1,5 @@
 ghost use Rattle.std.specs.Prelude.{◌≡◌, IfOk, [], ◌∷◌, string_bytes};
-ghost use Rattle.dispatch_cli.specs.Texts.{edition_line, optimal_line, infeasible_line, cost_or_none, unfinished_line, plan_line, valid_line, fault_line};
+ghost use Rattle.dispatch_cli.specs.Texts.{trains_line, operations_line, edition_line, optimal_line, infeasible_line, cost_or_none, unfinished_line, plan_line, valid_line, fault_line};
 
 use disp_model::{Event, List, Memory, Problem};
 use solution_text::write_solution;
@@ -66,6 +66,22 @@ pub(crate) fn plan_line(alloc: Global, plan: &[Event], cost: u64) -> Result<List
     let mut bytes = write_solution(alloc, plan, cost)?;
     bytes.push(b'\n')?;
     Ok(List::from_vec(bytes))
+}
+
+/// The line of how many trains there are.
+pub(crate) fn trains_line(alloc: Global, count: usize) -> Result<List<u8>, Memory>
+    ensures { IfOk result (λ line. line ≡ trains_line count) }
+{
+    let text = format!(in alloc; "trains {count}\n")?;
+    Ok(List::from_vec(text.into_bytes()))
+}
+
+/// The line of how many operations there are.
+pub(crate) fn operations_line(alloc: Global, count: u128) -> Result<List<u8>, Memory>
+    ensures { IfOk result (λ line. line ≡ operations_line count) }
+{
+    let text = format!(in alloc; "operations {count}\n")?;
+    Ok(List::from_vec(text.into_bytes()))
 }
 
 /// The line of a valid plan's cost.

@@ -63,14 +63,18 @@ fn publish<S: Shelf, O: Sink>(alloc: Global, shelf: &mut S, out: &mut O, answer:
 /// the sink the edition, the verdict, and the best plan, where there is one, one line each; with
 /// `--plan OUT` that plan is put under that name before, and with `--tree OUT` the tree that shows
 /// the verdict, where the search came to one. What is refused is told in one line; for refused
-/// words that is clap's text. `verify PROBLEM SOLUTION` judges a solution, and `check
-/// PROBLEM TREE` a tree and, with `--plan P`, a plan behind it; both read fixings with `--fixings
-/// F`. The gate is not used so far.
+/// words that is clap's text. `verify PROBLEM SOLUTION` judges a solution and tells its cost,
+/// `report PROBLEM SOLUTION` judges it too and writes the table of its trains, and `check PROBLEM
+/// TREE` judges a tree and, with `--plan P`, a plan behind it; all read fixings with `--fixings F`.
+/// `make NUMBER TRAINS` makes the problem of a number, solves it, and writes how large it is and the
+/// verdict; with `--out FILE` that problem is put under that name before. The gate is not used so
+/// far.
 ///
 /// The status is 0 where a plan of least cost was found, a solution is valid or a tree is accepted,
 /// 1 where no plan is valid, a solution has a fault, or a tree is refused, 2 where the words or a
 /// file are refused, 3 where the budget is spent before the search ended, 4 where a reading of a
-/// file, a putting of the plan or the tree, or a write failed, and 5 where memory ran out.
+/// file, a putting of the plan, the tree or the problem, or a write failed, and 5 where memory ran
+/// out.
 pub fn dispatch<R, S: Shelf, O: Sink, G: Gate>(
     _rt: &R,
     alloc: Global,

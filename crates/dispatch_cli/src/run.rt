@@ -1,16 +1,17 @@
 ghost use Rattle.std.specs.Prelude.{◌≡◌, ◌<◌, ℕ, List, Some, IfOk, IfErr, IsErrAnd, map, option_map, string_bytes};
 ghost use Rattle.command_words.specs.Task.{IsTask};
 ghost use Rattle.dispatch_cli.specs.Outside.{FailsOfOne, ReadsOne, ReadsNames, IsGiven, IsProblemOrFixings, IsOneOfTwo, IsOneOfThree};
-ghost use Rattle.dispatch_cli.specs.Answers.{IsAnswer, AnswersTask, AnswersSolve, IsSolvedWith, AnswersVerify, IsJudgedFile, IsJudgedBy};
+ghost use Rattle.dispatch_cli.specs.Answers.{IsAnswer, AnswersTask, AnswersSolve, IsSolvedWith, AnswersJudge, IsJudgedFile, IsJudgedBy};
 ghost use Rattle.dispatch_cli.specs.Causes.{RefusesWords, StopsRun, StopsTask, StopsGivenFixings, StopsSolve, StopsSolution, StopsJudging, StopsVerify, IsReadingFault, IsAnswerStatus, CountsReading, CountsTask};
 
 use crate::answer::Answer;
 use crate::cause::Cause;
 use crate::check::run_check;
 use crate::input::{asked_of, fixings_file, problem_file, solution_file};
-use crate::judge::judge;
+use crate::judge::{Telling, judge};
+use crate::maker::run_make;
 use crate::solve::solve;
-use command_words::{SolveTask, Task, WordsNo, read_words};
+use command_words::{JudgeTask, SolveTask, Task, WordsNo, read_words};
 use disp_model::{Fixing, Problem, Text};
 use disp_outside::Shelf;
 use std::alloc::Global;
@@ -75,9 +76,10 @@ fn judge_file<S: Shelf>(
     problem: &Problem,
     fixings: &[Fixing],
     solution: &str,
+    telling: Telling,
 ) -> Result<Answer, Cause>
     ensures ok { IfOk result
-        (IsJudgedFile (S.holds shelf.old) problem.now fixings.now solution.now) }
+        (IsJudgedFile (S.holds shelf.old) telling problem.now fixings.now solution.now) }
     ensures no { IfErr result
         (StopsSolution (S.holds shelf.old) (S.reading_faults shelf.old) (S.reading_faults shelf.new)
         solution.now) }
@@ -87,7 +89,7 @@ fn judge_file<S: Shelf>(
         (S.holds shelf.new) (IsErrAnd result IsReadingFault) }
 {
     let (plan, stated) = solution_file(alloc, shelf, solution)?;
-    Ok(judge(alloc, problem, fixings, &plan, stated)?)
+    Ok(judge(alloc, problem, fixings, &plan, stated, telling)?)
 }
 
 /// Judges the solution of a file with the fixings of another.
@@ -97,9 +99,10 @@ fn judge_with<S: Shelf>(
     problem: &Problem,
     name: &Text,
     solution: &str,
+    telling: Telling,
 ) -> Result<Answer, Cause>
     ensures ok { IfOk result
-        (IsJudgedBy (S.holds shelf.old) problem.now (Some name.now) solution.now) }
+        (IsJudgedBy (S.holds shelf.old) telling problem.now (Some name.now) solution.now) }
     ensures no { IfErr result
         (StopsJudging (S.holds shelf.old) (S.reading_faults shelf.old) (S.reading_faults shelf.new)
         problem.now (Some name.now) solution.now) }
@@ -110,7 +113,14 @@ fn judge_with<S: Shelf>(
         (S.holds shelf.old) (S.holds shelf.new) (IsErrAnd result IsReadingFault) }
 {
     match fixings_file(alloc, shelf, problem, name.as_str()) {
-        Ok(mut editions) => judge_file(alloc, shelf, problem, editions.fixings(), solution),
+        Ok(mut editions) => judge_file(
+            alloc,
+            shelf,
+            problem,
+            editions.fixings(),
+            solution,
+            telling,
+        ),
         Err(cause) => Err(cause),
     }
 }
@@ -122,9 +132,10 @@ fn judge_files<S: Shelf>(
     problem: &Problem,
     fixings: Option<&Text>,
     solution: &str,
+    telling: Telling,
 ) -> Result<Answer, Cause>
     ensures ok { IfOk result
-        (IsJudgedBy (S.holds shelf.old) problem.now (option_map (λ name. name.now) fixings.entry)
+        (IsJudgedBy (S.holds shelf.old) telling problem.now (option_map (λ name. name.now) fixings.entry)
         solution.now) }
     ensures no { IfErr result
         (StopsJudging (S.holds shelf.old) (S.reading_faults shelf.old) (S.reading_faults shelf.new)
@@ -137,34 +148,41 @@ fn judge_files<S: Shelf>(
         (IsErrAnd result IsReadingFault) }
 {
     match fixings {
-        Some(name) => judge_with(alloc, shelf, problem, name, solution),
-        None => judge_file(alloc, shelf, problem, &[], solution),
+        Some(name) => judge_with(alloc, shelf, problem, name, solution, telling),
+        None => judge_file(alloc, shelf, problem, &[], solution, telling),
     }
 }
 
 /// Judges the solution of a file for the problem of another.
-fn run_verify<S: Shelf>(
+fn run_judge<S: Shelf>(
     alloc: Global,
     shelf: &mut S,
-    problem: &Text,
-    solution: &Text,
-    fixings: Option<&Text>,
+    task: &JudgeTask,
+    telling: Telling,
 ) -> Result<Answer, Cause>
-    ensures ok { IfOk result
-        (AnswersVerify (S.holds shelf.old) problem.now solution.now
-        (option_map (λ name. name.now) fixings.entry)) }
+    ensures ok { IfOk result (AnswersJudge (S.holds shelf.old) telling task.now) }
     ensures no { IfErr result
         (StopsVerify (S.holds shelf.old) (S.reading_faults shelf.old) (S.reading_faults shelf.new)
-        problem.now (option_map (λ name. name.now) fixings.entry) solution.now) }
+        task.now.problem task.now.fixings task.now.solution) }
     ensures status { IfOk result (λ answer. IsAnswerStatus answer.status) }
     ensures reads { ReadsNames
-        (IsOneOfThree problem.now (option_map (λ name. name.now) fixings.entry) solution.now)
+        (IsOneOfThree task.now.problem task.now.fixings task.now.solution)
         (S.reading_faults shelf.old) (S.reading_faults shelf.new) (S.putting_faults shelf.old)
         (S.putting_faults shelf.new) (S.holds shelf.old) (S.holds shelf.new)
         (IsErrAnd result IsReadingFault) }
 {
-    match problem_file(alloc, shelf, problem.as_str()) {
-        Ok(problem) => judge_files(alloc, shelf, &problem, fixings, solution.as_str()),
+    match problem_file(alloc, shelf, task.problem.as_str()) {
+        Ok(problem) => {
+            let fixings = task.fixings.as_ref();
+            judge_files(
+                alloc,
+                shelf,
+                &problem,
+                fixings,
+                task.solution.as_str(),
+                telling,
+            )
+        }
         Err(cause) => Err(cause),
     }
 }
@@ -188,11 +206,9 @@ fn run_task<S: Shelf>(alloc: Global, shelf: &mut S, task: &Task) -> Result<Answe
 {
     match task {
         Task::Solve(task) => run_solve(alloc, shelf, task),
-        Task::Verify {
-            problem,
-            solution,
-            fixings,
-        } => run_verify(alloc, shelf, problem, solution, fixings.as_ref()),
+        Task::Verify(task) => run_judge(alloc, shelf, task, Telling::Cost),
+        Task::Report(task) => run_judge(alloc, shelf, task, Telling::Table),
+        Task::Make(task) => run_make(alloc, task),
         Task::Check {
             problem,
             tree,

@@ -7,7 +7,8 @@ ghost use Rattle.disp_model.specs.History.{newest, mark_of};
 ghost use Rattle.solved_problems.specs.Solved.{IsSearched, MayBeAsked};
 ghost use Rattle.dispatch_cli.specs.Answers.{IsSolved, put_under, puts_of, status_of_mark};
 ghost use Rattle.dispatch_cli.specs.Causes.{IsAnswerStatus, IsWant};
-ghost use Rattle.dispatch_cli.specs.Texts.{edition_line, plan_line, plan_lines, answer_lines, tree_file};
+ghost use Rattle.dispatch_cli.specs.Texts.{edition_line, verdict_line, plan_line, plan_lines};
+ghost use Rattle.dispatch_cli.specs.Texts.{answer_lines, tree_file};
 
 use crate::answer::{Answer, Put};
 use crate::cause::Cause;
@@ -39,6 +40,18 @@ fn lines_with(
         lines.push(plan_line(alloc, plan.as_slice(), cost)?)?;
     }
     Ok(lines)
+}
+
+/// The line of the verdict, where there is one.
+pub(crate) fn verdict_line(alloc: Global, standing: &Standing) -> Result<List<u8>, Memory>
+    ensures { IfOk result (λ line. line ≡ verdict_line standing.now standing.now.mark) }
+{
+    match standing.mark {
+        Mark::Working => Ok(List::new(alloc)),
+        Mark::Optimal(cost) => optimal_line(alloc, cost),
+        Mark::Infeasible => infeasible_line(alloc),
+        Mark::Stopped { spent, bound } => unfinished_line(alloc, standing.best, bound, spent),
+    }
 }
 
 /// The lines for where a search stands, with the best plan.
@@ -131,7 +144,7 @@ fn puts_of(
 }
 
 /// The status for a mark.
-fn status_of(mark: Mark) -> u8
+pub(crate) fn status_of(mark: Mark) -> u8
     requires { mark ≢ Working }
     ensures is { result ≡ status_of_mark mark }
     ensures answer { IsAnswerStatus result }

@@ -1,2 +1,3 @@
 mod fixed;
 mod judged;
+mod reported;

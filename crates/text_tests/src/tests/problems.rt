@@ -11,6 +11,7 @@ mod limits;
 mod places;
 mod printed;
 mod refusals;
+mod written;
 
 /// Asserts what is printed for the refusal of a text; `accepted` where it is taken.
 fn expect(rt: &impl Abort, alloc: Global, text: &str, wanted: &str) -> Result<(), Fail> {

@@ -20,7 +20,7 @@ returns-in-Ok-clause-ok g c =
     IfOk-weaker c.judge_file.result _ _ (λ answer h. record {
       fixings = standing_of c.in-Ok.editions.changes;
       fixings_file = record { told = taken.told; lines = taken.lines; changes = c.in-Ok.editions.changes; taken = taken.taken; edition = edition; standing = refl };
-      judged = judged_file_before holds mid c.args.problem.now (standing_of c.in-Ok.editions.changes) c.args.solution.now answer c.in-Ok.ensures.reads.held (rw (← c.fixings.ensures.all) h);
+      judged = judged_file_before holds mid c.args.telling c.args.problem.now (standing_of c.in-Ok.editions.changes) c.args.solution.now answer c.in-Ok.ensures.reads.held (rw (← c.fixings.ensures.all) h);
     }) c.judge_file.ensures.ok
 
 pub returns-in-Ok-clause-no : goal.returns-in-Ok-clause-no
