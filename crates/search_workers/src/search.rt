@@ -55,7 +55,9 @@ fn round(
 {
     match next_turn(alloc, core)? {
         Turn::Work(work) => {
-            let growth = grow(alloc, problem, reckoning, graph, &work, guide);
+            let growth = grow(
+                alloc, problem, reckoning, graph, &work, work.best, guide,
+            );
             guide.count_dive();
             aim_at(alloc, problem, guide, &growth);
             hand_in(alloc, core, work, growth)?;
