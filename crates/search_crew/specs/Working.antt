@@ -9,14 +9,11 @@ use Rattle.disp_model.specs.declared.settings.Rule.{Rule}
 use Rattle.disp_model.specs.declared.tree.TreeNode.{TreeNode}
 use Rattle.disp_model.specs.declared.tree.Verdict.TheVariants as verdict
 use Rattle.disp_model.specs.History.{newest}
-use Rattle.turn_lock.specs.Known.{StartsWith}
-use Rattle.turn_lock.specs.Section.{OwnsPlaces}
 use Rattle.shared_board.specs.declared.board.Board.{Board}
 use Rattle.shared_board.specs.declared.pass.Pass.{Pass}
-use Rattle.shared_board.specs.Board.{board_of, problem_of, own_board, known, fetched, lines}
-use Rattle.shared_board.specs.Callers.{caller_of}
+use Rattle.shared_board.specs.Board.{board_of, problem_of, own_board, known, lines}
 use Rattle.shared_board.specs.Calls.{IsSearcher}
-use Rattle.shared_board.specs.Standing.{SameRole}
+use Rattle.shared_board.specs.Onward.{GoesOn}
 
 -- the pass is a searcher's, of a board with this rule, and has seen the edition
 pub record IsAtWork (board : Board) (rule : Rule) (edition : ℕ) (pass : Pass) : Type 0 where
@@ -26,14 +23,10 @@ pub record IsAtWork (board : Board) (rule : Rule) (edition : ℕ) (pass : Pass) 
   pub rule_is : searcher.terms.settings.rule ≡ rule
   pub edition_is : edition ≤ newest (known pass).seen
 
--- calls came between that let the pass see more at most, and left its places those of its caller
+-- calls came between, none of them for a line
 pub record KeepsOn (before after : Pass) : Type 0 where
-  pub board_is : own_board after ≡ own_board before
-  pub fetched_is : fetched after ≡ fetched before
+  pub goes : GoesOn before after
   pub lines_are : lines after ≡ lines before
-  pub role : SameRole (known before) (known after)
-  pub starts : StartsWith (known after).seen (known before).seen
-  pub owns : OwnsPlaces caller_of (known before) → OwnsPlaces caller_of (known after)
 
 -- an entry settled or stopped the edition so, or a newer one is the newest
 abbrev pub IsAnswered : ℕ → List Entry → Answer → Type 0
