@@ -1,16 +1,18 @@
 -- Entries answer lines, one after the other.
 use Rattle.std.proofs.Common.{◌≡◌, ◌∙◌, ℕ, zero, suc, ◌+◌, ◌<◌, ◌≤◌, List, [], ◌∷◌, ◌++◌, length, drop, Option, None, Some, refl, sym, ap, subst, arith}
 use Rattle.std.specs.Prelude.{IfSome}
-use Rattle.std.proofs.lemmas.List.{length-append, length-drop}
+use Rattle.std.proofs.lemmas.List.{drop_all, length-append, length-drop}
 use Rattle.std.proofs.lemmas.Option.{none-some, same_Some}
-use Rattle.disp_outside.specs.Lines.{NoneLeft}
+use Rattle.disp_outside.specs.Lines.{GivesLine, NoneLeft, Skips, text_of, without_end}
 use Rattle.disp_model.specs.declared.entry.Entry.{Entry}
+use Rattle.disp_model.specs.declared.entry.Entry.TheVariants.{Asked, Unread, Shown, Grown, Published, Settled, Stopped}
+use Rattle.disp_model.specs.declared.entry.Unasked.TheVariants.{Unreadable, Long, TooMany}
 use Rattle.disp_model.specs.declared.limits.TheConstants.{MOST_LINES}
 use Rattle.feed_reader.specs.declared.read.Reading.{Reading}
 use Rattle.feed_reader.specs.declared.read.Reading.TheVariants as reading
-use Rattle.feed_reader.specs.Answered.{AnswersLine, AnswerLines, AnswersAs, AnsweredSome, AnswersNext, IsReadTo, one_too_many}
+use Rattle.feed_reader.specs.Answered.{AnswersText, AnswersLine, AnswerLines, AnswersAs, AnsweredSome, AnswersNext, IsReadTo, one_too_many}
 
-Lines : Type 0
+abbrev pub Lines : Type 0
 Lines = List (List ℕ)
 
 head_same : (l line : List ℕ) (ls rest : Lines) → l ∷ ls ≡ line ∷ rest → l ≡ line
@@ -28,12 +30,11 @@ answer_more feed first (l ∷ lines) (entry ∷ entries) line rest one (here, is
     shift : (n m : ℕ) → n + suc m ≡ n + 1 + m
     shift n m = omega arith
 
-drop_next : (k : ℕ) (lines : Lines) (line : List ℕ) (rest : Lines) → drop k lines ≡ line ∷ rest → (k < length lines) × (drop (k + 1) lines ≡ rest)
-drop_next k [] line rest is = absurd (by_place k is)
+drop_next : (k : ℕ) (lines : Lines) (line : List ℕ) (rest : Lines) → drop k lines ≡ line ∷ rest → (k < length lines) × (drop (suc k) lines ≡ rest)
+drop_next k [] line rest is = absurd (empty (sym (drop_all k [] (omega arith)) ∙ is))
   where
-    by_place : (k : ℕ) → drop {X = List ℕ} k [] ≡ line ∷ rest → ⊥
-    by_place zero none = cc
-    by_place (suc k) none = cc
+    empty : [] ≡ line ∷ rest → ⊥
+    empty e = cc
 drop_next zero (l ∷ lines) line rest is = (omega arith, cc)
 drop_next (suc k) (l ∷ lines) line rest is = let more = drop_next k lines line rest is in (let lt = more.0 in omega arith, more.1)
 
@@ -58,7 +59,7 @@ module _ (feed count lines : ℕ) where
           let here : drop (length before) all ≡ line ∷ rest = sym (same_Some (line ∷ rest) (drop (length before) all) left_is) in
           let further = drop_next (length before) all line rest here in
           let number : lines + 1 ≡ 1 + length before = (let c = to.counted in let m = to.as_many in omega arith) in
-          let place : length after ≡ length before + 1 = (let l = longer one is in let m = to.as_many in omega arith) in
+          let place : length after ≡ suc (length before) = (let l = longer one is in let m = to.as_many in omega arith) in
           record {
             counted = counted_then;
             as_many = longer one is;
@@ -68,6 +69,31 @@ module _ (feed count lines : ℕ) where
               (let lt = further.0 in omega (arith, lt, place)),
               next_is ∙ ap Some (sym (ap (λ (n : ℕ). drop n all) place ∙ further.1)));
           }
+
+-- ---- one line is answered
+
+line_answers : (feed number : ℕ) (line : List ℕ) (one : Entry) → length (without_end line) ≤ 256 → AnswersText feed number (text_of line) one → AnswersLine feed number line one
+line_answers feed number line (Asked f n change told) short answers = (short, answers)
+line_answers feed number line (Shown f n standing) short answers = (short, answers)
+line_answers feed number line (Unread f n Unreadable) short answers = (short, answers)
+line_answers feed number line (Unread f n Long) short answers = absurd answers
+line_answers feed number line (Unread f n TooMany) short answers = absurd answers
+line_answers feed number line (Grown searcher edition seen node splits) short answers = absurd answers
+line_answers feed number line (Published edition plan cost) short answers = absurd answers
+line_answers feed number line (Settled edition verdict tree) short answers = absurd answers
+line_answers feed number line (Stopped edition spent bound) short answers = absurd answers
+
+pub got_answers : (feed number : ℕ) (told left : Option Lines) (text : List ℕ) (before after : List Entry) → GivesLine told left text
+    → ((one : Entry) × AnswersText feed number text one × (after ≡ before ++ one ∷ [])) → AnswersNext feed number told left before after
+got_answers feed number None left text before after is (one, answers, added) = (is, (one, added))
+got_answers feed number (Some []) left text before after is (one, answers, added) = absurd is
+got_answers feed number (Some (line ∷ rest)) left text before after (same, short, left_is) (one, answers, added) =
+    (left_is, (one, line_answers feed number line one short (subst (λ (t : List ℕ). AnswersText feed number t one) same answers), added))
+
+pub long_answers : (feed number : ℕ) (told left : Option Lines) (before after : List Entry) → Skips told left → after ≡ before ++ Unread feed number Long ∷ [] → AnswersNext feed number told left before after
+long_answers feed number None left before after is added = (is, (Unread feed number Long, added))
+long_answers feed number (Some []) left before after is added = absurd is
+long_answers feed number (Some (line ∷ rest)) left before after (long, left_is) added = (left_is, (Unread feed number Long, ((refl, refl), long), added))
 
 -- ---- how the reading ends
 

@@ -1,2 +1,3 @@
 mod Entering
 mod Answering
+mod Passing

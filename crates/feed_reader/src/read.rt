@@ -146,7 +146,7 @@ pub fn read_lines<W: Wait, F: Feed, G: Gate>(
     ensures name { F.name feed.new ≡ F.name feed.old }
 {
     let mut line = LineBuf::new();
-    for _ in 0..MOST_LINES {
+    for _read in 0..MOST_LINES {
         match read_next(rt, alloc, board, pass, feed, &mut line, gate) {
             Ok(false) => {}
             Ok(true) => return Reading::Ended,
