@@ -13,8 +13,8 @@ use Rattle.search_crew.specs.declared.ground.Ground.TheVariants as ground
 
 -- a graph at a node of the problem under these fixings, which are an edition's; or a leaf that shows that the root is dead
 abbrev pub IsGround : Problem → List Fixing → Ground → Type 0
-IsGround problem fixings (ground.Alive graph guide) =
-    (graph.problem ≡ problem) × (graph.fixings ≡ fixings) × IsOfEdition graph
+IsGround problem fixings (ground.Alive alive) =
+    (alive.graph.problem ≡ problem) × (alive.graph.fixings ≡ fixings) × IsOfEdition alive.graph
 IsGround problem fixings (ground.Dead leaf) = IsDeadLeaf (node_at problem fixings []) leaf
 
 -- what is below the first is below the second

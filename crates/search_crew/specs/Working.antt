@@ -1,5 +1,5 @@
 -- What a search of an edition asks of its searcher's pass, and what it leaves of it.
-use Rattle.std.specs.Prelude.{◌≡◌, ℕ, ◌<◌, ◌≤◌, ◌×◌, List, Contains}
+use Rattle.std.specs.Prelude.{◌≡◌, ℕ, ◌<◌, ◌≤◌, List, Contains}
 use Rattle.disp_model.specs.declared.answer.Answer.{Answer}
 use Rattle.disp_model.specs.declared.answer.Answer.TheVariants as answer
 use Rattle.disp_model.specs.declared.answer.Unfinished.TheVariants.{Budget, Newer}

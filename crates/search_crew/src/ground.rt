@@ -1,4 +1,4 @@
-ghost use Rattle.std.specs.Prelude.{◌≡◌, [], ℕ, List, IfOk, Option, ◌×◌};
+ghost use Rattle.std.specs.Prelude.{◌≡◌, [], ℕ, List, IfOk, Option};
 ghost use Rattle.disp_model.specs.declared.fixing.Fixing.{Fixing as FixingOf};
 ghost use Rattle.disp_model.specs.Node.{node_at};
 ghost use Rattle.event_graph.specs.Joined.{IsOfEdition};
@@ -15,11 +15,18 @@ use std::alloc::Global;
 use train_insertion::{INSERTIONS, target};
 use tree_dives::Guide;
 
+/// A graph of an edition, which is moved from work to work, and what guides the dives.
+#[derive(Drop)]
+pub(crate) struct Alive<'p> {
+    graph: Graph<'p>,
+    guide: Guide,
+}
+
 /// Where the works of an edition are grown.
 #[derive(Drop)]
 pub(crate) enum Ground<'p> {
-    /// A graph of the edition, which is moved from work to work, and what guides the dives.
-    Alive { graph: Graph<'p>, guide: Guide },
+    /// The root is not known to be dead.
+    Alive(Alive<'p>),
     /// The root is dead, as this leaf shows, and so is each node below.
     Dead(Leaf),
 }
@@ -41,7 +48,7 @@ pub(crate) fn ground_of<'p>(
 {
     let guide = guide_to(alloc, problem, fixings)?;
     match Graph::new(alloc, problem, fixings) {
-        Ok(graph) => Ok(Ground::Alive { graph, guide }),
+        Ok(graph) => Ok(Ground::Alive(Alive { graph, guide })),
         Err(no) => Ok(Ground::Dead(refused_leaf(no)?)),
     }
 }
@@ -66,6 +73,40 @@ fn aim_at(alloc: Global, problem: &Problem, guide: &mut Guide, growth: &Result<G
     }
 }
 
+impl<'p> Alive<'p> {
+    /// Grows the leaf of a work, where what branches costs less than this best. A plan that is found
+    /// is the target from then on.
+    fn grow(
+        &mut self,
+        alloc: Global,
+        problem: &'p Problem,
+        reckoning: &Reckoning,
+        work: &Work,
+        best: Option<u64>,
+    ) -> Result<Growth, Memory>
+        requires reckons { ReckonsFor problem.now reckoning.now }
+        requires graph { (self.old.graph.problem ≡ problem.now) × IsOfEdition self.old.graph }
+        ensures beside { (self.new.graph.problem ≡ self.old.graph.problem)
+            × (self.new.graph.fixings ≡ self.old.graph.fixings) }
+        ensures grown { IfOk result (IsGrownOf reckoning.now.rule
+            (node_at self.old.graph.problem self.old.graph.fixings work.now.decisions) best
+            work.now.allowance work.now.bound) }
+    {
+        let growth = grow(
+            alloc,
+            problem,
+            reckoning,
+            &mut self.graph,
+            work,
+            best,
+            &mut self.guide,
+        );
+        self.guide.count_dive();
+        aim_at(alloc, problem, &mut self.guide, &growth);
+        growth
+    }
+}
+
 impl<'p> Ground<'p> {
     /// Grows the leaf of a work, where what branches costs less than this best.
     pub(crate) fn grow(
@@ -86,12 +127,7 @@ impl<'p> Ground<'p> {
             work.now.bound) }
     {
         match self {
-            Ground::Alive { graph, guide } => {
-                let growth = grow(alloc, problem, reckoning, graph, work, best, guide);
-                guide.count_dive();
-                aim_at(alloc, problem, guide, &growth);
-                growth
-            }
+            Ground::Alive(alive) => alive.grow(alloc, problem, reckoning, work, best),
             Ground::Dead(leaf) => leaf_alone(alloc, leaf.copy()?),
         }
     }

@@ -11,8 +11,8 @@ mod crew;
 mod ground;
 mod hand_in;
 mod round;
-mod search;
+mod searching;
 mod turn;
 
 pub use crew::{Crew, Hand, crew_of};
-pub use search::search;
+pub use searching::search;
