@@ -207,3 +207,18 @@ Steps core (event.GiveBack work examined) told after = IsGiveBack core work exam
 Steps core (event.Publish edition plan) told after = IsPublish core edition plan told after
 Steps core (event.Settle edition) told after = IsSettle core edition told after
 Steps core (event.Stop edition) told after = IsStopped core edition told after
+
+-- the event may want memory; each other one is answered without
+abbrev pub TakesMemory : CoreEvent → Type 0
+TakesMemory (event.Ask feed line change) = Unit {0}
+TakesMemory (event.Unread feed line why) = Unit {0}
+TakesMemory (event.Show feed line) = Unit {0}
+TakesMemory (event.FeedEnd feed) = ⊥
+TakesMemory (event.Leave searcher) = ⊥
+TakesMemory event.Next = ⊥
+TakesMemory (event.Take searcher edition want) = Unit {0}
+TakesMemory (event.Grow searcher fragment) = Unit {0}
+TakesMemory (event.GiveBack work examined) = ⊥
+TakesMemory (event.Publish edition plan) = Unit {0}
+TakesMemory (event.Settle edition) = Unit {0}
+TakesMemory (event.Stop edition) = Unit {0}

@@ -1,7 +1,7 @@
 ghost use Rattle.std.specs.Prelude.{◌≡◌, IfOk, IfErr, OnErr};
 ghost use Rattle.dispatch_core.specs.declared.event.StepNo.TheVariants.{Memory as OutOfMemory};
 ghost use Rattle.dispatch_core.specs.Asked.{MayStep};
-ghost use Rattle.dispatch_core.specs.Replies.{Steps};
+ghost use Rattle.dispatch_core.specs.Replies.{Steps, TakesMemory};
 
 use crate::event::{CoreEvent, CoreReply, StepNo};
 use crate::machine::Core;
@@ -12,11 +12,13 @@ impl Core {
     ///
     /// # Errors
     ///
-    /// The event and `Memory` where memory runs out; then nothing has changed.
+    /// The event and `Memory` where memory runs out; then nothing has changed. `Next`, `FeedEnd`,
+    /// `Leave` and `GiveBack` take none.
     pub fn step(&mut self, alloc: Global, event: CoreEvent) -> Result<CoreReply, StepNo>
         requires { MayStep self.old event }
         ensures ok { IfOk result (λ told. Steps self.old event told self.new) }
         ensures back { IfErr result (λ no. no ≡ OutOfMemory event) }
+        ensures memory { IfErr result (λ _. TakesMemory event) }
         ensures err { OnErr result (self.new ≡ self.old) }
     {
         match event {

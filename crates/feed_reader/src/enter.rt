@@ -2,6 +2,7 @@ ghost use Rattle.std.specs.Prelude.{◌≡◌, ◌+◌, ◌++◌, ◌∷◌, [],
 ghost use Rattle.disp_model.specs.declared.entry.Entry.{Entry};
 ghost use Rattle.disp_model.specs.declared.entry.Entry.TheVariants.{Unread};
 ghost use Rattle.shared_board.specs.Board.{board_of, own_board, known, lines};
+ghost use Rattle.shared_board.specs.Calls.{HasLines};
 ghost use Rattle.shared_board.specs.Onward.{entries_by, GoesOn};
 ghost use Rattle.feed_reader.specs.Answered.{AnswersText};
 
@@ -19,7 +20,8 @@ pub(crate) fn enter_unread<W: Wait>(
     pass: &mut Pass,
     why: Unasked,
 ) -> Result<(), Memory>
-    requires { own_board pass.old ≡ board_of board.now }
+    requires board { own_board pass.old ≡ board_of board.now }
+    requires feed { HasLines (known pass.old) }
     ensures on { GoesOn pass.old pass.new }
     ensures entered { OnOk result (entries_by (known pass.old).caller (known pass.new).seen
         ≡ entries_by (known pass.old).caller (known pass.old).seen
@@ -40,7 +42,8 @@ pub(crate) fn enter_text<W: Wait>(
     pass: &mut Pass,
     text: &[u8],
 ) -> Result<(), Memory>
-    requires { own_board pass.old ≡ board_of board.now }
+    requires board { own_board pass.old ≡ board_of board.now }
+    requires feed { HasLines (known pass.old) }
     ensures on { GoesOn pass.old pass.new }
     ensures entered { OnOk result ((entry : Entry)
         × AnswersText (known pass.old).caller (lines pass.old + 1) text.now entry

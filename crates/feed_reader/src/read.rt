@@ -2,6 +2,7 @@ ghost use Rattle.std.specs.Prelude.{◌≡◌, ◌≤◌, ◌<◌, ◌+◌, ◌�
 ghost use Rattle.disp_model.specs.declared.limits.TheConstants.{MOST_LINES};
 ghost use Rattle.disp_outside.specs.Lines.{NoneLeft};
 ghost use Rattle.shared_board.specs.Board.{board_of, own_board, known, lines};
+ghost use Rattle.shared_board.specs.Calls.{IsFeed};
 ghost use Rattle.shared_board.specs.Onward.{entries_by, GoesOn};
 ghost use Rattle.feed_reader.specs.Answered.{AnswersAs, AnswersNext, IsReadTo, one_too_many};
 
@@ -47,6 +48,7 @@ fn read_next<W: Wait, F: Feed, G: Gate>(
     gate: &G,
 ) -> Result<bool, Reading>
     requires board { own_board pass.old ≡ board_of board.now }
+    requires feed { IsFeed (known pass.old) }
     requires open { F.has_ended feed.old ≡ false }
     ensures on { GoesOn pass.old pass.new }
     ensures given { result ≡ Ok false
@@ -90,6 +92,7 @@ fn read_end<W: Wait, F: Feed>(
     line: &mut LineBuf,
 ) -> Reading
     requires board { own_board pass.old ≡ board_of board.now }
+    requires feed { IsFeed (known pass.old) }
     requires open { F.has_ended feed.old ≡ false }
     requires read { lines pass.old ≡ MOST_LINES }
     ensures on { GoesOn pass.old pass.new }
@@ -133,6 +136,7 @@ pub fn read_lines<W: Wait, F: Feed, G: Gate>(
     gate: &G,
 ) -> Reading
     requires board { own_board pass.old ≡ board_of board.now }
+    requires feed { IsFeed (known pass.old) }
     requires none { (lines pass.old ≡ 0)
         × (entries_by (known pass.old).caller (known pass.old).seen ≡ []) }
     requires open { F.has_ended feed.old ≡ false }

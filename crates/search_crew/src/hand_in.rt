@@ -23,10 +23,11 @@ use std::sync::Wait;
 /// Gives a work back as examined.
 fn give_back_examined<W: Wait>(rt: &W, alloc: Global, board: &Board, pass: &mut Pass, work: Work)
     requires board { own_board pass.old ≡ board_of board.now }
+    requires searcher { IsSearcher (known pass.old) }
     requires examined { IsExaminedFor (known pass.old) work }
     ensures { KeepsOn pass.old pass.new }
 {
-    let _told = board.give_back(rt, alloc, pass, work, true);
+    board.give_back(rt, alloc, pass, work, true);
 }
 
 /// Puts what grew in the place of its leaf. Where memory runs out the work is given back.
@@ -163,6 +164,7 @@ pub(crate) fn hand_in<W: Wait>(
     growth: Result<Growth, Memory>,
 ) -> Result<(), Memory>
     requires board { own_board pass.old ≡ board_of board.now }
+    requires searcher { IsSearcher (known pass.old) }
     requires grown { IfOk growth (λ growth. (rule : RuleOf)
         × IsAtWork board.now rule work.edition pass.old × IsGrownOf rule
         (node_at (problem_of board.now) (fixings_after work.edition (known pass.old).seen)

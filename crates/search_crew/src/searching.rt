@@ -4,7 +4,7 @@ ghost use Rattle.disp_model.specs.History.{fixings_after};
 ghost use Rattle.event_graph.specs.Joined.{IsOfEdition};
 ghost use Rattle.node_leaves.specs.Reckoned.{ReckonsFor};
 ghost use Rattle.shared_board.specs.Board.{board_of, problem_of, own_board, known};
-ghost use Rattle.shared_board.specs.Calls.{IsLegalSeen};
+ghost use Rattle.shared_board.specs.Calls.{IsSearcher};
 ghost use Rattle.search_crew.specs.Crews.{IsHandOf, IsSameHand};
 ghost use Rattle.search_crew.specs.Grounds.{IsGround};
 ghost use Rattle.search_crew.specs.Working.{IsAnswered, IsAtWork, KeepsOn};
@@ -86,7 +86,8 @@ fn search_newest<'b, W: Wait, G: Gate>(
 
 /// Gives back each work that a searcher keeps.
 fn give_all_back<W: Wait>(rt: &W, alloc: Global, board: &Board, pass: &mut Pass, hand: &mut Hand)
-    requires { own_board pass.old ≡ board_of board.now }
+    requires board { own_board pass.old ≡ board_of board.now }
+    requires searcher { IsSearcher (known pass.old) }
     ensures on { KeepsOn pass.old pass.new }
     ensures hand { IsSameHand hand.old hand.new }
 {

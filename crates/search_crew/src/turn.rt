@@ -45,10 +45,11 @@ pub(crate) fn give_back<W: Wait>(
     pass: &mut Pass,
     work: Work,
 ) 
-    requires { own_board pass.old ≡ board_of board.now }
+    requires board { own_board pass.old ≡ board_of board.now }
+    requires searcher { IsSearcher (known pass.old) }
     ensures { KeepsOn pass.old pass.new }
 {
-    let _told = board.give_back(rt, alloc, pass, work, false);
+    board.give_back(rt, alloc, pass, work, false);
 }
 
 /// Settles an edition, if it can be.

@@ -1,5 +1,5 @@
 -- What a call asks of its pass, and what it does.
-use Rattle.std.specs.Prelude.{◌≡◌, ℕ, ◌<◌, ◌≤◌, ◌⊎◌, List, [], ◌∷◌, All, Some}
+use Rattle.std.specs.Prelude.{◌≡◌, ℕ, ◌<◌, ◌≤◌, ◌⊎◌, true, List, [], ◌∷◌, All, Some}
 use Rattle.disp_model.specs.declared.entry.Entry.{Entry}
 use Rattle.disp_model.specs.declared.plan.Event.{Event}
 use Rattle.disp_model.specs.WellFormed.{horizon}
@@ -46,6 +46,16 @@ pub record IsSearcher (v : Known Entry Terms) : Type 0 where
   pub terms_are : v.terms ≡ Some terms
   pub above : searcher_caller 0 ≤ v.caller
   pub within : v.caller < searcher_caller terms.searchers
+
+-- the pass is of a feed of the board, or the first
+abbrev pub HasLines : Known Entry Terms → Type 0
+HasLines v = IsFeed v ⊎ (v.first ≡ true)
+
+-- the caller is a feed or a searcher of the pass's board
+pub record HasCaller (v : Known Entry Terms) (caller : ℕ) : Type 0 where
+  pub terms : Terms
+  pub terms_are : v.terms ≡ Some terms
+  pub there : (caller < terms.feeds) ⊎ ((searcher_caller 0 ≤ caller) × (caller < searcher_caller terms.searchers))
 
 -- ---- what searchers owe
 

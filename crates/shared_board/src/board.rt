@@ -19,11 +19,13 @@ pub struct Board {
 
 impl Board {
     ghost use Rattle.std.specs.Prelude.{◌≡◌, ◌≤◌, ◌<◌, ℕ, true, IfOk, Contains, Some, length};
+    ghost use Rattle.disp_model.specs.declared.limits.TheConstants.{MOST_CALLERS};
     ghost use Rattle.dispatch_core.specs.States.{IsSound};
     ghost use Rattle.shared_board.specs.Callers.{terms_of, caller_of};
+    ghost use Rattle.shared_board.specs.Calls.{HasCaller};
 
-    /// A board of a problem without entries, and the first pass, which is this caller's: that of
-    /// the feeds together, by their number.
+    /// A board of a problem without entries, for at most 64 feeds and as many searchers, and the
+    /// first pass, which is this caller's: that of the feeds together, by their number.
     ///
     /// # Errors
     ///
@@ -35,6 +37,7 @@ impl Board {
         feeds: u32,
         searchers: u32,
     ) -> Result<(Board, Pass), Memory>
+        requires limits { (feeds ≤ MOST_CALLERS) × (searchers ≤ MOST_CALLERS) }
         ensures problem { IfOk result (λ made. problem_of made.0 ≡ problem.now) }
         ensures pass { IfOk result (λ made. (own_board made.1 ≡ board_of made.0)
             × (known made.1 ≡ first_known feeds (record {
@@ -58,11 +61,12 @@ impl Board {
         ))
     }
 
-    /// A pass for another caller, from the first pass. It begins with what this one has seen, and
-    /// has fetched nothing.
+    /// A pass for another caller, a feed or a searcher of the board, from the first pass. It begins
+    /// with what this one has seen, and has fetched nothing.
     pub fn split(&self, pass: &mut Pass, caller: u32) -> Pass
         requires board { own_board pass.old ≡ board_of self.now }
         requires first { (known pass.old).first ≡ true }
+        requires caller { HasCaller (known pass.old) caller }
         requires new_caller { (caller ≡ (known pass.old).caller → ⊥)
             × (Contains (known pass.old).given caller → ⊥) }
         ensures board { (own_board pass.new ≡ own_board pass.old)

@@ -1,6 +1,7 @@
 //! One event under the lock.
 ghost use Rattle.std.specs.Prelude.{◌≡◌, ◌+◌, IfOk, IfErr};
 ghost use Rattle.dispatch_core.specs.declared.event.StepNo.TheVariants.{Memory as OutOfMemory};
+ghost use Rattle.dispatch_core.specs.Replies.{TakesMemory};
 ghost use Rattle.turn_lock.specs.Known.{with_miss};
 ghost use Rattle.shared_board.specs.Board.{board_of, own_board, known, fetched, lines};
 ghost use Rattle.shared_board.specs.Calls.{MayEnter, Enters, Looked, IsLegalSeen, lines_in};
@@ -27,13 +28,38 @@ impl Board {
         requires quiet { lines_in event ≡ 0 }
         ensures board { own_board pass.new ≡ own_board pass.old }
         ensures counts { (fetched pass.new ≡ fetched pass.old) × (lines pass.new ≡ lines pass.old) }
-        ensures entered { IfOk result (λ told. Enters (known pass.old) event told (known pass.new)) }
+        ensures entered { IfOk result (λ told.
+            Enters (known pass.old) event told (known pass.new)) }
         ensures back { IfErr result (λ no. no ≡ OutOfMemory event) }
+        ensures memory { IfErr result (λ _. TakesMemory event) }
         ensures looked { IfErr result (λ _. Looked (known pass.old) (known pass.new)) }
         ensures legal { IsLegalSeen (known pass.new) }
     {
         self.turns
             .with(rt, &mut pass.turn, |stored| stored.step(alloc, event))
+    }
+
+    /// The same of an event that takes no memory, so that it always has its reply.
+    pub(crate) fn enter_without_memory<W: Wait>(
+        &self,
+        rt: &W,
+        alloc: Global,
+        pass: &mut Pass,
+        event: CoreEvent,
+    ) -> CoreReply
+        requires board { own_board pass.old ≡ board_of self.now }
+        requires may { MayEnter (known pass.old) event }
+        requires quiet { lines_in event ≡ 0 }
+        requires none { TakesMemory event → ⊥ }
+        ensures board { own_board pass.new ≡ own_board pass.old }
+        ensures counts { (fetched pass.new ≡ fetched pass.old) × (lines pass.new ≡ lines pass.old) }
+        ensures entered { Enters (known pass.old) event result (known pass.new) }
+        ensures legal { IsLegalSeen (known pass.new) }
+    {
+        match self.enter(rt, alloc, pass, event) {
+            Ok(told) => told,
+            Err(_) => unreachable!(),
+        }
     }
 
     /// The same of an event that answers the next line of the pass's caller.

@@ -2,7 +2,7 @@
 ghost use Rattle.std.specs.Prelude.{◌≡◌, ◌+◌, IfOk, OnErr};
 ghost use Rattle.dispatch_core.specs.declared.event.CoreEvent.TheVariants as event;
 ghost use Rattle.shared_board.specs.Board.{board_of, own_board, known, fetched, lines};
-ghost use Rattle.shared_board.specs.Calls.{Enters, Looked, SeesOnly, IsLegalSeen, IsFeed};
+ghost use Rattle.shared_board.specs.Calls.{Enters, SeesOnly, IsLegalSeen, IsFeed, HasLines};
 
 use crate::board::Board;
 use crate::pass::Pass;
@@ -19,7 +19,7 @@ pub(crate) fn next_line(lines: u64) -> Result<u64, Memory>
 }
 
 impl Board {
-    /// Asks for a change in the caller's next line.
+    /// Asks for a change in the next line of the caller, a feed of the board or the first pass.
     ///
     /// # Errors
     ///
@@ -31,7 +31,8 @@ impl Board {
         pass: &mut Pass,
         change: Change,
     ) -> Result<CoreReply, Memory>
-        requires { own_board pass.old ≡ board_of self.now }
+        requires board { own_board pass.old ≡ board_of self.now }
+        requires lines { HasLines (known pass.old) }
         ensures board { own_board pass.new ≡ own_board pass.old }
         ensures fetched { fetched pass.new ≡ fetched pass.old }
         ensures asked { IfOk result (λ told. Enters (known pass.old)
@@ -47,13 +48,11 @@ impl Board {
             line,
             change,
         };
-        match self.enter_line(rt, alloc, pass, line, event) {
-            Ok(told) => Ok(told),
-            Err(_) => Err(Memory),
-        }
+        self.enter_line(rt, alloc, pass, line, event)
+            .map_err(|_| Memory)
     }
 
-    /// Notes that the caller's next line asks nothing.
+    /// Notes that the next line of the caller, a feed of the board or the first pass, asks nothing.
     ///
     /// # Errors
     ///
@@ -65,7 +64,8 @@ impl Board {
         pass: &mut Pass,
         why: Unasked,
     ) -> Result<CoreReply, Memory>
-        requires { own_board pass.old ≡ board_of self.now }
+        requires board { own_board pass.old ≡ board_of self.now }
+        requires lines { HasLines (known pass.old) }
         ensures board { own_board pass.new ≡ own_board pass.old }
         ensures fetched { fetched pass.new ≡ fetched pass.old }
         ensures noted { IfOk result (λ told. Enters (known pass.old)
@@ -81,19 +81,19 @@ impl Board {
             line,
             why,
         };
-        match self.enter_line(rt, alloc, pass, line, event) {
-            Ok(told) => Ok(told),
-            Err(_) => Err(Memory),
-        }
+        self.enter_line(rt, alloc, pass, line, event)
+            .map_err(|_| Memory)
     }
 
-    /// Shows where the search stands, in the caller's next line.
+    /// Shows where the search stands, in the next line of the caller, a feed of the board or the
+    /// first pass.
     ///
     /// # Errors
     ///
     /// `Memory` where memory runs out; then at most what was seen has grown.
     pub fn show<W: Wait>(&self, rt: &W, alloc: Global, pass: &mut Pass) -> Result<CoreReply, Memory>
-        requires { own_board pass.old ≡ board_of self.now }
+        requires board { own_board pass.old ≡ board_of self.now }
+        requires lines { HasLines (known pass.old) }
         ensures board { own_board pass.new ≡ own_board pass.old }
         ensures fetched { fetched pass.new ≡ fetched pass.old }
         ensures shown { IfOk result (λ told. Enters (known pass.old)
@@ -108,36 +108,21 @@ impl Board {
             feed: pass.caller,
             line,
         };
-        match self.enter_line(rt, alloc, pass, line, event) {
-            Ok(told) => Ok(told),
-            Err(_) => Err(Memory),
-        }
+        self.enter_line(rt, alloc, pass, line, event)
+            .map_err(|_| Memory)
     }
 
-    /// Notes that the caller, a feed of the board, has no more lines.
-    ///
-    /// # Errors
-    ///
-    /// `Memory` where memory runs out; then only what was seen has grown.
-    pub fn feed_end<W: Wait>(
-        &self,
-        rt: &W,
-        alloc: Global,
-        pass: &mut Pass,
-    ) -> Result<CoreReply, Memory>
+    /// Notes that the caller, a feed of the board, has no more lines. It takes no memory.
+    pub fn feed_end<W: Wait>(&self, rt: &W, alloc: Global, pass: &mut Pass) -> CoreReply
         requires board { own_board pass.old ≡ board_of self.now }
         requires feed { IsFeed (known pass.old) }
         ensures board { own_board pass.new ≡ own_board pass.old }
         ensures counts { (fetched pass.new ≡ fetched pass.old) × (lines pass.new ≡ lines pass.old) }
-        ensures noted { IfOk result (λ told. Enters (known pass.old)
-            (event.FeedEnd (known pass.old).caller) told (known pass.new)) }
+        ensures noted { Enters (known pass.old) (event.FeedEnd (known pass.old).caller) result
+            (known pass.new) }
         ensures legal { IsLegalSeen (known pass.new) }
-        ensures err { OnErr result (Looked (known pass.old) (known pass.new)) }
     {
         let event = CoreEvent::FeedEnd { feed: pass.caller };
-        match self.enter(rt, alloc, pass, event) {
-            Ok(told) => Ok(told),
-            Err(_) => Err(Memory),
-        }
+        self.enter_without_memory(rt, alloc, pass, event)
     }
 }

@@ -6,7 +6,7 @@ ghost use Rattle.dispatch_core.specs.States.{Core as State};
 ghost use Rattle.turn_lock.specs.Known.{with_count};
 ghost use Rattle.shared_board.specs.Board.{board_of, own_board, known, fetched, lines};
 ghost use Rattle.shared_board.specs.Fresh.{IsEditionIn, IsEnded};
-ghost use Rattle.shared_board.specs.Calls.{Enters, Looks, Looked, SeesOnly, IsLegalSeen, ShowsNot};
+ghost use Rattle.shared_board.specs.Calls.{Enters, Looks, Looked, SeesOnly, IsLegalSeen, ShowsNot, HasLines};
 
 use crate::board::Board;
 use crate::errors::TryNo;
@@ -64,14 +64,16 @@ impl Board {
             .with(rt, &mut pass.turn, |stored| stored.edition(alloc))
     }
 
-    /// Shows where the search stands, in the caller's next line, where one try gets the turn.
+    /// Shows where the search stands, in the next line of the caller, a feed of the board or the
+    /// first pass, where one try gets the turn.
     ///
     /// # Errors
     ///
     /// `Busy` only where that try found it taken. `Memory` where memory runs out; then at most what
     /// was seen has grown.
     pub fn try_show(&self, alloc: Global, pass: &mut Pass) -> Result<Standing, TryNo>
-        requires { own_board pass.old ≡ board_of self.now }
+        requires board { own_board pass.old ≡ board_of self.now }
+        requires lines { HasLines (known pass.old) }
         ensures board { own_board pass.new ≡ own_board pass.old }
         ensures fetched { fetched pass.new ≡ fetched pass.old }
         ensures shown { IfOk result (λ standing. Enters (known pass.old)

@@ -24,25 +24,15 @@ fn searcher_of(caller: u32) -> u32
 }
 
 impl Board {
-    /// What is there to do.
-    ///
-    /// # Errors
-    ///
-    /// `Memory` where memory runs out; then only what was seen has grown.
-    pub fn next<W: Wait>(&self, rt: &W, alloc: Global, pass: &mut Pass) -> Result<CoreReply, Memory>
+    /// What is there to do. It takes no memory.
+    pub fn next<W: Wait>(&self, rt: &W, alloc: Global, pass: &mut Pass) -> CoreReply
         requires { own_board pass.old ≡ board_of self.now }
         ensures board { own_board pass.new ≡ own_board pass.old }
         ensures counts { (fetched pass.new ≡ fetched pass.old) × (lines pass.new ≡ lines pass.old) }
-        ensures told { IfOk result (λ told. Enters (known pass.old)
-            (event.Next) told (known pass.new)) }
+        ensures told { Enters (known pass.old) event.Next result (known pass.new) }
         ensures legal { IsLegalSeen (known pass.new) }
-        ensures err { OnErr result (Looked (known pass.old) (known pass.new)) }
     {
-        let event = CoreEvent::Next;
-        match self.enter(rt, alloc, pass, event) {
-            Ok(told) => Ok(told),
-            Err(_) => Err(Memory),
-        }
+        self.enter_without_memory(rt, alloc, pass, CoreEvent::Next)
     }
 
     /// Takes a wanted leaf of an edition for the caller, a searcher of the board, to grow at most so
@@ -74,10 +64,7 @@ impl Board {
             edition,
             want,
         };
-        match self.enter(rt, alloc, pass, event) {
-            Ok(told) => Ok(told),
-            Err(_) => Err(Memory),
-        }
+        self.enter(rt, alloc, pass, event).map_err(|_| Memory)
     }
 
     /// Puts what the caller, a searcher of the board, grew in the place of its leaf.
@@ -100,7 +87,8 @@ impl Board {
         ensures told { IfOk result (λ told. Enters (known pass.old)
             (event.Grow (searcher_of (known pass.old).caller) fragment) told (known pass.new)) }
         ensures legal { IsLegalSeen (known pass.new) }
-        ensures back { IfErr result (λ no. no ≡ OutOfMemory (event.Grow (searcher_of (known pass.old).caller) fragment)) }
+        ensures back { IfErr result (λ no. no
+            ≡ OutOfMemory (event.Grow (searcher_of (known pass.old).caller) fragment)) }
         ensures err { OnErr result (Looked (known pass.old) (known pass.new)) }
     {
         let searcher = searcher_of(pass.caller);
@@ -108,11 +96,8 @@ impl Board {
         self.enter(rt, alloc, pass, event)
     }
 
-    /// Takes the leaf of a work in again, as examined or not.
-    ///
-    /// # Errors
-    ///
-    /// `Memory` where memory runs out, with the event; then only what was seen has grown.
+    /// Takes the leaf of a work of the caller, a searcher of the board, in again, as examined or
+    /// not. It takes no memory.
     pub fn give_back<W: Wait>(
         &self,
         rt: &W,
@@ -120,19 +105,18 @@ impl Board {
         pass: &mut Pass,
         work: Work,
         examined: bool,
-    ) -> Result<CoreReply, StepNo>
+    ) -> CoreReply
         requires board { own_board pass.old ≡ board_of self.now }
+        requires searcher { IsSearcher (known pass.old) }
         requires examined { examined ≡ true → IsExaminedFor (known pass.old) work }
         ensures board { own_board pass.new ≡ own_board pass.old }
         ensures counts { (fetched pass.new ≡ fetched pass.old) × (lines pass.new ≡ lines pass.old) }
-        ensures told { IfOk result (λ told. Enters (known pass.old)
-            (event.GiveBack work examined) told (known pass.new)) }
+        ensures told { Enters (known pass.old) (event.GiveBack work examined) result
+            (known pass.new) }
         ensures legal { IsLegalSeen (known pass.new) }
-        ensures back { IfErr result (λ no. no ≡ OutOfMemory (event.GiveBack work examined)) }
-        ensures err { OnErr result (Looked (known pass.old) (known pass.new)) }
     {
         let event = CoreEvent::GiveBack { work, examined };
-        self.enter(rt, alloc, pass, event)
+        self.enter_without_memory(rt, alloc, pass, event)
     }
 
     /// Publishes a plan for an edition, where it is valid for the newest and better than the best.
@@ -158,10 +142,7 @@ impl Board {
         ensures err { OnErr result (Looked (known pass.old) (known pass.new)) }
     {
         let event = CoreEvent::Publish { edition, plan };
-        match self.enter(rt, alloc, pass, event) {
-            Ok(told) => Ok(told),
-            Err(_) => Err(Memory),
-        }
+        self.enter(rt, alloc, pass, event).map_err(|_| Memory)
     }
 
     /// Settles an edition, where no leaf is wanted any more.
@@ -185,10 +166,7 @@ impl Board {
         ensures err { OnErr result (Looked (known pass.old) (known pass.new)) }
     {
         let event = CoreEvent::Settle { edition };
-        match self.enter(rt, alloc, pass, event) {
-            Ok(told) => Ok(told),
-            Err(_) => Err(Memory),
-        }
+        self.enter(rt, alloc, pass, event).map_err(|_| Memory)
     }
 
     /// Stops an edition, where its budget is spent and each wanted leaf is examined.
@@ -212,37 +190,20 @@ impl Board {
         ensures err { OnErr result (Looked (known pass.old) (known pass.new)) }
     {
         let event = CoreEvent::Stop { edition };
-        match self.enter(rt, alloc, pass, event) {
-            Ok(told) => Ok(told),
-            Err(_) => Err(Memory),
-        }
+        self.enter(rt, alloc, pass, event).map_err(|_| Memory)
     }
 
-    /// Notes that the caller, a searcher of the board, leaves.
-    ///
-    /// # Errors
-    ///
-    /// `Memory` where memory runs out; then only what was seen has grown.
-    pub fn leave<W: Wait>(
-        &self,
-        rt: &W,
-        alloc: Global,
-        pass: &mut Pass,
-    ) -> Result<CoreReply, Memory>
+    /// Notes that the caller, a searcher of the board, leaves. It takes no memory.
+    pub fn leave<W: Wait>(&self, rt: &W, alloc: Global, pass: &mut Pass) -> CoreReply
         requires board { own_board pass.old ≡ board_of self.now }
         requires searcher { IsSearcher (known pass.old) }
         ensures board { own_board pass.new ≡ own_board pass.old }
         ensures counts { (fetched pass.new ≡ fetched pass.old) × (lines pass.new ≡ lines pass.old) }
-        ensures told { IfOk result (λ told. Enters (known pass.old)
-            (event.Leave (searcher_of (known pass.old).caller)) told (known pass.new)) }
+        ensures told { Enters (known pass.old) (event.Leave (searcher_of (known pass.old).caller))
+            result (known pass.new) }
         ensures legal { IsLegalSeen (known pass.new) }
-        ensures err { OnErr result (Looked (known pass.old) (known pass.new)) }
     {
         let searcher = searcher_of(pass.caller);
-        let event = CoreEvent::Leave { searcher };
-        match self.enter(rt, alloc, pass, event) {
-            Ok(told) => Ok(told),
-            Err(_) => Err(Memory),
-        }
+        self.enter_without_memory(rt, alloc, pass, CoreEvent::Leave { searcher })
     }
 }

@@ -2,7 +2,7 @@
 ghost use Rattle.std.specs.Prelude.{◌≡◌, ◌≤◌, IfOk, IfErr, OnErr, length};
 ghost use Rattle.dispatch_core.specs.declared.event.StepNo.TheVariants.{Memory as OutOfMemory};
 ghost use Rattle.dispatch_core.specs.Asked.{MayStep};
-ghost use Rattle.dispatch_core.specs.Replies.{Steps};
+ghost use Rattle.dispatch_core.specs.Replies.{Steps, TakesMemory};
 ghost use Rattle.shared_board.specs.Fresh.{IsEditionIn, IsNewsOf};
 
 use crate::news::{Edition, News};
@@ -55,6 +55,7 @@ impl Stored {
         requires { MayStep self.old.core event }
         ensures ok { IfOk result (λ told. Steps self.old.core event told self.new.core) }
         ensures back { IfErr result (λ no. no ≡ OutOfMemory event) }
+        ensures memory { IfErr result (λ _. TakesMemory event) }
         ensures err { OnErr result (self.new.core ≡ self.old.core) }
     {
         self.core.step(alloc, event)

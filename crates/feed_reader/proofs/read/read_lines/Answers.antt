@@ -1,7 +1,8 @@
 use Rattle.std.proofs.Common.{◌≡◌, ◌+◌, refl, rules, arith, true, false}
 use Rattle.std.specs.Prelude.{Ok}
 use Rattle.disp_model.specs.declared.limits.TheConstants.{MOST_LINES}
-use Rattle.shared_board.proofs.Onward.{goes_goes}
+use Rattle.shared_board.specs.Board.{known}
+use Rattle.shared_board.proofs.Onward.{feed_on, goes_goes}
 use Rattle.feed_reader.proofs.Passing.{all_read, end_read, one_read, some_read}
 use Rattle.feed_reader.proofs.read.read_lines.Goals as goal
 
@@ -12,6 +13,7 @@ loop-read-preserved g c =
     let given = c.read_next.ensures.given is in
     record {
       on = goes_goes c.args.pass.now c.loop-read.pass c.read_next.new.pass inv.on c.read_next.ensures.on;
+      feed = feed_on (known c.loop-read.pass) (known c.read_next.new.pass) c.read_next.ensures.on.role inv.feed;
       open_ = given.2;
       faults = search rules;
       named = search rules;

@@ -1,0 +1,24 @@
+-- Whose passes a board of two feeds and one searcher gives.
+use Rattle.std.proofs.Common.{◌≡◌, ◌∙◌, ℕ, ◌<◌, inl, inr, ap, arith}
+use Rattle.disp_model.specs.declared.entry.Entry.{Entry}
+use Rattle.turn_lock.specs.Known.{Known, given_known}
+use Rattle.shared_board.specs.declared.terms.Terms.{Terms}
+use Rattle.shared_board.specs.Calls.{HasCaller, IsFeed, IsSearcher}
+use Rattle.board_tests.specs.Callers.{IsNew}
+
+module _ (v w : Known Entry Terms) (new : IsNew v) (same : w.terms ≡ v.terms) where
+  pub has_feed : (feed : ℕ) → feed < 2 → HasCaller w feed
+  has_feed feed within = let two = new.feeds in record { terms = new.terms; terms_are = same ∙ new.terms_are; there = inl (omega (arith, within)) }
+
+  pub has_searcher : HasCaller w 256
+  has_searcher = let one = new.searchers in record { terms = new.terms; terms_are = same ∙ new.terms_are; there = inr (omega arith, omega arith) }
+
+  pub feed_given : (feed : ℕ) (given : Known Entry Terms) → given ≡ given_known w feed → feed < 2 → IsFeed given
+  feed_given feed given is within =
+      let two = new.feeds in let own : given.caller ≡ feed = ap (λ (z : Known Entry Terms). z.caller) is in
+      record { terms = new.terms; terms_are = ap (λ (z : Known Entry Terms). z.terms) is ∙ (same ∙ new.terms_are); within = omega (arith, within) }
+
+  pub searcher_given : (given : Known Entry Terms) → given ≡ given_known w 256 → IsSearcher given
+  searcher_given given is =
+      let one = new.searchers in let own : given.caller ≡ 256 = ap (λ (z : Known Entry Terms). z.caller) is in
+      record { terms = new.terms; terms_are = ap (λ (z : Known Entry Terms). z.terms) is ∙ (same ∙ new.terms_are); above = omega arith; within = omega arith }
