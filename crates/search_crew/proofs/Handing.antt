@@ -1,5 +1,5 @@
 -- What a searcher may hand in.
-use Rattle.std.proofs.Common.{◌≡◌, ℕ, ◌≤◌, List, [], ◌∷◌, ◌++◌, length, map, Option, Some, sym, subst}
+use Rattle.std.proofs.Common.{◌≡◌, ◌∙◌, ℕ, ◌≤◌, List, [], ◌∷◌, ◌++◌, length, map, Option, Some, sym, subst}
 use Rattle.std.specs.Prelude.{All}
 use Rattle.disp_model.specs.declared.decision.Choice.{Choice}
 use Rattle.disp_model.specs.declared.entry.Entry.{Entry}
@@ -16,10 +16,13 @@ use Rattle.open_nodes.specs.declared.work.Fragment.{Fragment}
 use Rattle.open_nodes.specs.declared.work.Work.{Work}
 use Rattle.tree_growth.specs.Grown.{Helps, Grows, branches}
 use Rattle.dispatch_core.specs.States.{IsExamined}
+use Rattle.turn_lock.specs.Known.{Known}
 use Rattle.shared_board.specs.declared.board.Board.{Board}
 use Rattle.shared_board.specs.declared.pass.Pass.{Pass}
+use Rattle.shared_board.specs.declared.terms.Terms.{Terms}
 use Rattle.shared_board.specs.Board.{problem_of, known}
 use Rattle.shared_board.specs.Calls.{IsGrowthOf, IsExaminedFor, IsPlanFor}
+use Rattle.shared_board.specs.Standing.{SameRole}
 use Rattle.search_workers.specs.declared.growth.Growth.{Growth}
 use Rattle.search_workers.specs.declared.growth.Growth.TheVariants as growth
 use Rattle.search_workers.specs.Grown.{IsPlanAt, IsGrownOf}
@@ -47,6 +50,10 @@ module _ (best other : Option ℕ) (less : IsNoMore best other) (rule : Rule) wh
   grown_more node allowance bound growth.Examined is = is
 
 -- ---- what the board asks
+
+pub plan_on : (v w : Known Entry Terms) → SameRole v w → (plan : List Event) → IsPlanFor v plan → IsPlanFor w plan
+plan_on v w role plan is = record { terms = is.terms; terms_are = role.terms ∙ is.terms_are; within = is.within }
+
 
 module _ (board : Board) (rule : Rule) (pass : Pass) (work : Work) (at : IsAtWork board rule work.edition pass) where
   node : Node

@@ -36,4 +36,4 @@ module _ (before after : Pass) (same : own_board after ≡ own_board before) (co
   -- whatever a call answered
   pub call_keeps : {F : Type 0} (asked : CoreEvent) (answer : Result CoreReply F) → IfOk answer (λ told. Enters (known before) asked told (known after)) → OnErr answer (Looked (known before) (known after)) → KeepsOn before after
   call_keeps asked (Ok told) ok err = entered_keeps asked told ok
-  call_keeps asked (Err no) ok err = looked_keeps err
+  call_keeps asked (Err fault) ok err = looked_keeps err

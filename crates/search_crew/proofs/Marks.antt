@@ -1,5 +1,5 @@
 -- The entry that gave an edition its mark.
-use Rattle.std.proofs.Common.{◌≡◌, ◌≢◌, ◌⊎◌, ℕ, ◌==◌, Bool, true, false, inl, inr, List, [], ◌∷◌, refl, sym, ◌∙◌, ap, subst, arith}
+use Rattle.std.proofs.Common.{◌≡◌, ◌≢◌, ◌⊎◌, ℕ, ◌<◌, ◌==◌, Bool, true, false, inl, inr, List, [], ◌∷◌, refl, sym, ◌∙◌, ap, subst, arith}
 use Rattle.std.specs.Prelude.{Contains, if◌then◌else◌}
 use Rattle.std.proofs.lemmas.Bool.{eqb-true}
 use Rattle.disp_model.specs.declared.answer.Answer.TheVariants as answer
@@ -16,7 +16,7 @@ use Rattle.incremental_paths.proofs.Members.{Contains-there}
 use Rattle.search_crew.specs.Working.{IsAnswered}
 
 -- an entry gave the edition this mark, which is not that of one that is worked on
-pub IsMarkedBy : ℕ → List Entry → Mark → Type 0
+abbrev pub IsMarkedBy : ℕ → List Entry → Mark → Type 0
 IsMarkedBy edition history mark.Working = ⊥
 IsMarkedBy edition history (mark.Optimal cost) = IsAnswered edition history (answer.Optimal cost)
 IsMarkedBy edition history mark.Infeasible = IsAnswered edition history answer.Infeasible
@@ -56,13 +56,13 @@ from_before : (edition : ℕ) (before : Mark) (history : List Entry) → (mark_f
 from_before edition before [] = inl refl
 from_before edition before (entry ∷ history) = by_rest (from_before edition (mark_after edition before entry) history) (after_one edition before entry history)
   where
-    then : Mark
-    then = mark_from edition (mark_after edition before entry) history
+    after : Mark
+    after = mark_from edition (mark_after edition before entry) history
 
-    by_rest : (then ≡ mark_after edition before entry) ⊎ IsMarkedBy edition history then
+    by_rest : (after ≡ mark_after edition before entry) ⊎ IsMarkedBy edition history after
         → (mark_after edition before entry ≡ before) ⊎ IsMarkedBy edition (entry ∷ history) (mark_after edition before entry)
-        → (then ≡ before) ⊎ IsMarkedBy edition (entry ∷ history) then
-    by_rest (inr marked) one = inr (one_more edition entry history then marked)
+        → (after ≡ before) ⊎ IsMarkedBy edition (entry ∷ history) after
+    by_rest (inr marked) one = inr (one_more edition entry history after marked)
     by_rest (inl same) (inl one) = inl (same ∙ one)
     by_rest (inl same) (inr one) = inr (subst (IsMarkedBy edition (entry ∷ history)) (sym same) one)
 

@@ -8,7 +8,6 @@ use crate::turn::Turn;
 use disp_model::{Answer, Mark, Unfinished};
 
 /// The answer for an edition that has this mark.
-#[tactic(auto, using(crate::proofs::Marks::marked))]
 pub(crate) fn answered(mark: Mark) -> Turn
     ensures { (edition : ℕ) (history : List Entry) → mark ≡ mark_of edition history
         → mark ≢ Working → IsTurn edition history result }
