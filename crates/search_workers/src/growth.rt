@@ -20,7 +20,7 @@ use tree_dives::{Dive, End, Guide, dive};
 
 /// What a searcher makes of a leaf.
 #[derive(Drop)]
-pub(crate) enum Growth {
+pub enum Growth {
     /// Nodes in preorder, the bounds of the leaves among them, and a plan if one was found.
     Subtree {
         nodes: List<TreeNode>,
@@ -31,8 +31,8 @@ pub(crate) enum Growth {
     Examined,
 }
 
-/// A leaf with the bound 0.
-pub(crate) fn leaf_alone(alloc: Global, leaf: Leaf) -> Result<Growth, Memory>
+/// A leaf with the bound 0. Fails for memory alone.
+pub fn leaf_alone(alloc: Global, leaf: Leaf) -> Result<Growth, Memory>
     ensures { IfOk result (λ growth. growth ≡ Subtree (LeafNode leaf ∷ []) (0 ∷ []) None) }
 {
     Ok(Growth::Subtree {
@@ -43,7 +43,7 @@ pub(crate) fn leaf_alone(alloc: Global, leaf: Leaf) -> Result<Growth, Memory>
 }
 
 /// The target that the plan of a growth is, where it has one and there is memory for it.
-pub(crate) fn target_after(alloc: Global, problem: &Problem, growth: &Growth) -> Option<Target> {
+pub fn target_after(alloc: Global, problem: &Problem, growth: &Growth) -> Option<Target> {
     match growth {
         Growth::Subtree {
             plan: Some(plan),
@@ -95,14 +95,19 @@ fn of_dive(found: Dive, allowance: u32, bound: u64) -> Growth
     }
 }
 
-/// Grows the leaf of a work, by a dive from its node along a guide. Where the node is not reached, a
-/// leaf shows that it is dead.
-pub(crate) fn grow(
+/// Grows the leaf of a work, by a dive from its node along a guide, where what branches costs less
+/// than this best. Where the node is not reached, a leaf shows that it is dead.
+///
+/// # Errors
+///
+/// `Memory` where memory runs out.
+pub fn grow(
     alloc: Global,
     problem: &Problem,
     reckoning: &Reckoning,
     graph: &mut Graph,
     work: &Work,
+    best: Option<u64>,
     guide: &mut Guide,
 ) -> Result<Growth, Memory>
     requires problem { graph.old.problem ≡ problem.now }
@@ -110,8 +115,8 @@ pub(crate) fn grow(
     requires reckons { ReckonsFor problem.now reckoning.now }
     ensures beside { IsBeside graph.old graph.new }
     ensures grown { IfOk result (IsGrownOf reckoning.now.rule
-        (node_at graph.old.problem graph.old.fixings work.now.decisions) work.now.best
-        work.now.allowance work.now.bound) }
+        (node_at graph.old.problem graph.old.fixings work.now.decisions) best work.now.allowance
+        work.now.bound) }
 {
     if let Some(leaf) = go_to(graph, work.decisions.as_slice())? {
         return leaf_alone(alloc, leaf);
@@ -121,7 +126,7 @@ pub(crate) fn grow(
         problem,
         reckoning,
         graph,
-        work.best,
+        best,
         work.allowance,
         guide,
     )?;

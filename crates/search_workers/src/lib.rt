@@ -11,7 +11,9 @@ mod search;
 mod turn;
 mod walk;
 
+pub use growth::{Growth, grow, leaf_alone, target_after};
 pub use search::search_alone;
+pub use walk::refused_leaf;
 
 #[cfg(test)]
 mod tests;

@@ -58,7 +58,9 @@ fn round(
     let want = effort.want();
     match next_turn(alloc, core, want)? {
         Turn::Work(work) => {
-            let growth = grow(alloc, problem, reckoning, graph, &work, guide);
+            let growth = grow(
+                alloc, problem, reckoning, graph, &work, work.best, guide,
+            );
             guide.count_dive();
             effort.count(want, &growth);
             aim_at(alloc, problem, guide, &growth);

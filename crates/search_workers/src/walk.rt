@@ -29,8 +29,8 @@ fn common(one: &[Decision], other: &[Decision]) -> usize
     least
 }
 
-/// The leaf that shows that a node is dead which a graph refused.
-pub(crate) fn refused_leaf(no: ExtendNo) -> Result<Leaf, Memory>
+/// The leaf that shows that a node is dead which a graph refused. Fails for memory alone.
+pub fn refused_leaf(no: ExtendNo) -> Result<Leaf, Memory>
     ensures { (node : Node) → IsRefusedAt node no → IfOk result (IsDeadLeaf node) }
 {
     match no {

@@ -4,3 +4,4 @@ pub mod Joining
 pub mod Owing
 pub mod Entries
 pub mod Running
+pub mod Onward

@@ -19,7 +19,7 @@ pub lines_more : (caller : ℕ) (history : List Entry) (entry : Entry) → lines
 lines_more caller history entry = omega (arith, sum_by-append (λ e. lines_at caller e) history (entry ∷ []))
 
 -- a line's entry names its caller
-named_line : (caller : ℕ) (entry : Entry) → is_line_of caller entry ≡ true → caller_of entry ≡ Some caller
+pub named_line : (caller : ℕ) (entry : Entry) → is_line_of caller entry ≡ true → caller_of entry ≡ Some caller
 named_line caller (Asked feed line change reply) is = ap Some (eqb-true feed caller is)
 named_line caller (Unread feed line why) is = ap Some (eqb-true feed caller is)
 named_line caller (Shown feed line standing) is = ap Some (eqb-true feed caller is)
@@ -37,7 +37,7 @@ none_named caller (entry ∷ entries) fresh =
     let zero_here : lines_at caller entry ≡ 0 = ap (λ (b : Bool). if b then 1 else 0) none in
     omega (arith, sum_by-append (λ e. lines_at caller e) (entry ∷ []) entries)
 
-behind_get : (seen rest : List Entry) (place : ℕ) → slice_get (seen ++ rest) (length seen + place) ≡ slice_get rest place
+pub behind_get : (seen rest : List Entry) (place : ℕ) → slice_get (seen ++ rest) (length seen + place) ≡ slice_get rest place
 behind_get [] rest place = ap (slice_get rest) (omega arith)
 behind_get (entry ∷ seen) rest place = ap (slice_get (entry ∷ seen ++ rest)) (shift (length seen) place) ∙ behind_get seen rest place
   where

@@ -3,3 +3,4 @@ pub mod Board
 pub mod Fresh
 pub mod Calls
 pub mod Standing
+pub mod Onward

@@ -19,7 +19,7 @@ mod terms;
 
 pub use board::Board;
 pub use errors::TryNo;
-pub use news::News;
+pub use news::{Edition, News};
 pub use pass::Pass;
 pub use plain_values::Memory;
 pub use terms::{SEARCHERS_FROM, Terms};

@@ -5,13 +5,13 @@ ghost use Rattle.dispatch_core.specs.declared.event.CoreReply.TheVariants as rep
 ghost use Rattle.dispatch_core.specs.States.{Core as State};
 ghost use Rattle.turn_lock.specs.Known.{with_count};
 ghost use Rattle.shared_board.specs.Board.{board_of, own_board, known, fetched, lines};
-ghost use Rattle.shared_board.specs.Fresh.{IsEnded};
+ghost use Rattle.shared_board.specs.Fresh.{IsEditionIn, IsEnded};
 ghost use Rattle.shared_board.specs.Calls.{Enters, Looks, Looked, SeesOnly, IsLegalSeen, ShowsNot, HasLines};
 
 use crate::board::Board;
 use crate::errors::TryNo;
 use crate::feeds::next_line;
-use crate::news::News;
+use crate::news::{Edition, News};
 use crate::pass::Pass;
 use disp_model::{Memory, Standing};
 use dispatch_core::{CoreEvent, CoreReply};
@@ -45,6 +45,23 @@ impl Board {
             .with(rt, &mut pass.turn, |stored| stored.news(alloc, fetched))?;
         pass.fetched = found.1;
         Ok(found.0)
+    }
+
+    /// The newest edition.
+    ///
+    /// # Errors
+    ///
+    /// `Memory` where memory runs out; then only what was seen has grown.
+    pub fn edition<W: Wait>(&self, rt: &W, alloc: Global, pass: &mut Pass) -> Result<Edition, Memory>
+        requires { own_board pass.old ≡ board_of self.now }
+        ensures board { own_board pass.new ≡ own_board pass.old }
+        ensures counts { (fetched pass.new ≡ fetched pass.old) × (lines pass.new ≡ lines pass.old) }
+        ensures edition { IfOk result (IsEditionIn (known pass.new).seen) }
+        ensures legal { IsLegalSeen (known pass.new) }
+        ensures looked { Looked (known pass.old) (known pass.new) }
+    {
+        self.turns
+            .with(rt, &mut pass.turn, |stored| stored.edition(alloc))
     }
 
     /// Shows where the search stands, in the next line of the caller, a feed of the board or the

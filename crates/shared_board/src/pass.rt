@@ -17,3 +17,15 @@ pub struct Pass {
     pub ghost fetched_within: { fetched ≤ length turn.seat.me.0.seen },
     pub ghost lines_are: { lines ≡ lines_of caller turn.seat.me.0.seen },
 }
+
+impl Pass {
+    ghost use Rattle.std.specs.Prelude.{◌≡◌};
+    ghost use Rattle.shared_board.specs.Board.{known};
+
+    /// The caller whose pass it is.
+    pub fn caller(&self) -> u32
+        ensures { result ≡ (known self.now).caller }
+    {
+        self.caller
+    }
+}

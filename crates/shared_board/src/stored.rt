@@ -3,9 +3,9 @@ ghost use Rattle.std.specs.Prelude.{◌≡◌, ◌≤◌, IfOk, IfErr, OnErr, le
 ghost use Rattle.dispatch_core.specs.declared.event.StepNo.TheVariants.{Memory as OutOfMemory};
 ghost use Rattle.dispatch_core.specs.Asked.{MayStep};
 ghost use Rattle.dispatch_core.specs.Replies.{Steps, TakesMemory};
-ghost use Rattle.shared_board.specs.Fresh.{IsNewsOf};
+ghost use Rattle.shared_board.specs.Fresh.{IsEditionIn, IsNewsOf};
 
-use crate::news::News;
+use crate::news::{Edition, News};
 use crate::terms::Terms;
 use disp_model::{Copied, Entry, List, Memory};
 use dispatch_core::{Core, CoreEvent, CoreReply, StepNo};
@@ -73,5 +73,16 @@ impl Stored {
             ended: self.core.ended(),
         };
         Ok((news, history.len() as u64))
+    }
+
+    /// The newest edition.
+    pub(crate) fn edition(&self, alloc: Global) -> Result<Edition, Memory>
+        ensures { IfOk result (IsEditionIn self.now.core.history) }
+    {
+        let fixings = self.core.fixings(alloc)?;
+        Ok(Edition {
+            number: self.core.edition(),
+            fixings: List::from_vec(fixings),
+        })
     }
 }

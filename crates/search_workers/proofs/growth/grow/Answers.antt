@@ -15,4 +15,4 @@ returns-in-Some-clause-grown c =
     subst (Arrives (node_at before.problem before.fixings c.as_slice.result.now) c.go_to.new.graph) c.in-Some.is c.in_ok-leaf.ensures.at in
     let here : IsDeadLeaf (node_at before.problem before.fixings work.decisions) c.in-Some.leaf =
     subst (λ (ds : List Decision). IsDeadLeaf (node_at before.problem before.fixings ds) c.in-Some.leaf) c.as_slice.ensures dead in
-    IfOk-weaker c.leaf_alone.result _ _ (λ grown same. alone_grows c.args.reckoning.now.rule (node_at before.problem before.fixings work.decisions) work.best work.allowance work.bound c.in-Some.leaf here grown same) c.leaf_alone.ensures
+    IfOk-weaker c.leaf_alone.result _ _ (λ grown same. alone_grows c.args.reckoning.now.rule (node_at before.problem before.fixings work.decisions) c.args.best work.allowance work.bound c.in-Some.leaf here grown same) c.leaf_alone.ensures
