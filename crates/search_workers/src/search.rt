@@ -58,9 +58,7 @@ fn round(
     let want = effort.want();
     match next_turn(alloc, core, want)? {
         Turn::Work(work) => {
-            let growth = grow(
-                alloc, problem, reckoning, graph, &work, work.best, guide,
-            );
+            let growth = grow(alloc, problem, reckoning, graph, &work, work.best, guide);
             guide.count_dive();
             effort.count(want, &growth);
             aim_at(alloc, problem, guide, &growth);

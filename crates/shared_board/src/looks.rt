@@ -52,7 +52,12 @@ impl Board {
     /// # Errors
     ///
     /// `Memory` where memory runs out; then only what was seen has grown.
-    pub fn edition<W: Wait>(&self, rt: &W, alloc: Global, pass: &mut Pass) -> Result<Edition, Memory>
+    pub fn edition<W: Wait>(
+        &self,
+        rt: &W,
+        alloc: Global,
+        pass: &mut Pass,
+    ) -> Result<Edition, Memory>
         requires { own_board pass.old ≡ board_of self.now }
         ensures board { own_board pass.new ≡ own_board pass.old }
         ensures counts { (fetched pass.new ≡ fetched pass.old) × (lines pass.new ≡ lines pass.old) }

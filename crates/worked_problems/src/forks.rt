@@ -41,7 +41,11 @@ pub fn dear_fork(alloc: Global) -> Result<Problem, Memory>
     ensures names { IfOk result (λ problem. problem.names ≡ []) }
 {
     let train = forking(alloc)?;
-    let costs = vec![in alloc; costing(0, 1, 0, 4), costing(0, 2, 0, 10), costing(0, 3, 1, 0)]?;
+    let costs = vec![in alloc;
+        costing(0, 1, 0, 4),
+        costing(0, 2, 0, 10),
+        costing(0, 3, 1, 0),
+    ]?;
     Ok(Problem {
         trains: List::from_vec(vec![in alloc; train]?),
         components: List::from_vec(costs),

@@ -1,3 +1,0 @@
-mod Entering
-mod Answering
-mod Passing

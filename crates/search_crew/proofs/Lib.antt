@@ -1,4 +1,0 @@
-mod Marks
-mod Keeping
-mod Handing
-mod Grounding

@@ -1,4 +1,0 @@
-pub mod Crews
-pub mod Working
-pub mod Grounds
-pub mod Turns
