@@ -42,6 +42,11 @@ fn what_is_made_is_told_and_solved(rt: HostRuntime) -> Result<(), Fail> {
     )?;
     row(
         &rt,
+        &["make", "0", "40"],
+        "trains 40\noperations 120\noptimal 39\n",
+    )?;
+    row(
+        &rt,
         &["make", "1", "2"],
         "trains 2\noperations 6\noptimal 21\n",
     )?;
