@@ -1,4 +1,4 @@
-# The common part of editions.sh and verify.sh, which source it: a program of their own that is proved and run.
+# The common part of editions.sh, verify.sh and turns.sh, which source it: a program of their own that is proved and run.
 
 # Makes a scratch folder, which goes away, for the program NAME over copies of crates, by these lines of crates.txt,
 # and goes to the program's folder: open_scratch NAME LINES CRATE..
@@ -19,6 +19,24 @@ open_scratch() {
   done
   mkdir -p "crates/$name"/{src,specs,proofs}
   cd "crates/$name"
+}
+
+# Prints the lines of these crates in crates.txt: lines_of CRATE..
+lines_of() {
+  top=$(cd "$(dirname "$0")/.." && pwd)
+  for crate in "$@"; do
+    grep -E "^$crate( |:)" "$top/crates.txt"
+  done
+}
+
+# Copies the libraries of these crates where a check left them: add_libraries CRATE..
+add_libraries() {
+  for crate in "$@"; do
+    if [ -d "$top/crates/$crate/out/rlib" ]; then
+      mkdir -p "../$crate/out"
+      cp -r "$top/crates/$crate/out/rlib" "../$crate/out/"
+    fi
+  done
 }
 
 # Adds the function `copies` to the program.
