@@ -1,0 +1,42 @@
+use Rattle.std.proofs.Common.{◌≡◌, ◌+◌, refl, rules, arith, true, false}
+use Rattle.std.specs.Prelude.{Ok}
+use Rattle.disp_model.specs.declared.limits.TheConstants.{MOST_LINES}
+use Rattle.shared_board.specs.Board.{known}
+use Rattle.shared_board.proofs.Onward.{feed_on, goes_goes}
+use Rattle.feed_reader.proofs.Passing.{all_read, end_read, one_read, some_read}
+use Rattle.feed_reader.proofs.read.read_lines.Goals as goal
+
+pub loop-read-preserved : goal.loop-read-preserved
+loop-read-preserved g c =
+    let inv = c.loop-read.invariant in
+    let is : c.read_next.result ≡ Ok false = search rules in
+    let given = c.read_next.ensures.given is in
+    record {
+      on = goes_goes c.args.pass.now c.loop-read.pass c.read_next.new.pass inv.on c.read_next.ensures.on;
+      feed = feed_on (known c.loop-read.pass) (known c.read_next.new.pass) c.read_next.ensures.on.role inv.feed;
+      open_ = given.2;
+      faults = search rules;
+      named = search rules;
+      read = one_read c.args.pass.now c.loop-read.pass c.read_next.new.pass inv.on c.loop-read._read (g.F.Feed.lines c.args.feed.now) (g.F.Feed.lines c.loop-read.feed) inv.read
+          (g.F.Feed.lines c.read_next.new.feed) given.0 given.1;
+    }
+
+pub returns-in-Ok-true-clause-answered : goal.returns-in-Ok-true-clause-answered
+returns-in-Ok-true-clause-answered g c =
+    let inv = c.loop-read.invariant in
+    let is : c.read_next.result ≡ Ok true = search rules in
+    let none = c.read_next.ensures.none is in
+    all_read c.args.pass.now c.loop-read.pass c.read_next.new.pass inv.on c.loop-read._read (g.F.Feed.lines c.args.feed.now) (g.F.Feed.lines c.loop-read.feed) inv.read none.0 none.1
+
+pub returns-in-Err-clause-answered : goal.returns-in-Err-clause-answered
+returns-in-Err-clause-answered g c =
+    let inv = c.loop-read.invariant in
+    some_read c.args.pass.now c.loop-read.pass c.read_next.new.pass inv.on c.loop-read._read (g.F.Feed.lines c.args.feed.now) (g.F.Feed.lines c.loop-read.feed) inv.read c.in-Err.no
+    c.in-Err.ensures.why c.in-Err.ensures.no
+
+pub returns-clause-answered : goal.returns-clause-answered
+returns-clause-answered g c =
+    let inv = c.loop-read.invariant in
+    let full : c.loop-read._read ≡ MOST_LINES = search rules in
+    end_read c.args.pass.now c.loop-read.pass c.read_end.new.pass inv.on c.loop-read._read (g.F.Feed.lines c.args.feed.now) (g.F.Feed.lines c.loop-read.feed) inv.read c.read_end.result full
+    c.read_end.ensures.ended c.read_end.ensures.more c.read_end.ensures.quiet

@@ -1,0 +1,87 @@
+-- What a searcher may hand in.
+use Rattle.std.proofs.Common.{◌≡◌, ◌∙◌, ℕ, ◌≤◌, List, [], ◌∷◌, ◌++◌, length, map, Option, Some, sym, subst}
+use Rattle.std.specs.Prelude.{All}
+use Rattle.disp_model.specs.declared.decision.Choice.{Choice}
+use Rattle.disp_model.specs.declared.entry.Entry.{Entry}
+use Rattle.disp_model.specs.declared.plan.Event.{Event}
+use Rattle.disp_model.specs.declared.problem.Problem.{Problem}
+use Rattle.disp_model.specs.declared.settings.Rule.{Rule}
+use Rattle.disp_model.specs.declared.tree.TreeNode.{TreeNode}
+use Rattle.disp_model.specs.declared.tree.TreeNode.TheVariants.{Branch, Leaf}
+use Rattle.disp_model.specs.WellFormed.{horizon}
+use Rattle.disp_model.specs.History.{fixings_after}
+use Rattle.disp_model.specs.Node.{Node, node_at, with_decision}
+use Rattle.disp_model.specs.Trees.{children_of}
+use Rattle.open_nodes.specs.declared.work.Fragment.{Fragment}
+use Rattle.open_nodes.specs.declared.work.Work.{Work}
+use Rattle.tree_growth.specs.Grown.{Helps, Grows, branches}
+use Rattle.dispatch_core.specs.States.{IsExamined}
+use Rattle.turn_lock.specs.Known.{Known}
+use Rattle.shared_board.specs.declared.board.Board.{Board}
+use Rattle.shared_board.specs.declared.pass.Pass.{Pass}
+use Rattle.shared_board.specs.declared.terms.Terms.{Terms}
+use Rattle.shared_board.specs.Board.{problem_of, known}
+use Rattle.shared_board.specs.Calls.{IsGrowthOf, IsExaminedFor, IsPlanFor}
+use Rattle.shared_board.specs.Standing.{SameRole}
+use Rattle.search_workers.specs.declared.growth.Growth.{Growth}
+use Rattle.search_workers.specs.declared.growth.Growth.TheVariants as growth
+use Rattle.search_workers.specs.Grown.{IsPlanAt, IsGrownOf}
+use Rattle.search_crew.specs.Grounds.{IsNoMore}
+use Rattle.search_crew.specs.Working.{IsAtWork}
+
+-- ---- what grew below a lesser cost grew below a greater
+
+module _ (best other : Option ℕ) (less : IsNoMore best other) (rule : Rule) where
+  helps_more : (node : Node) (choice : Choice) → Helps rule best node choice → Helps rule other node choice
+  helps_more node choice is = record { alive = is.alive; picked = is.picked; bound = is.bound; bound_is = is.bound_is; below = less is.bound is.below }
+
+  grows_more : (places : List Node) (tree : List TreeNode) (bounds : List ℕ) → Grows rule best places tree bounds → Grows rule other places tree bounds
+  grows_more [] [] [] is = tt
+  grows_more [] [] (bound ∷ bounds) is = absurd is
+  grows_more [] (top ∷ tree) bounds is = absurd is
+  grows_more (node ∷ places) [] bounds is = absurd is
+  grows_more (node ∷ places) (Leaf leaf ∷ tree) [] is = absurd is
+  grows_more (node ∷ places) (Leaf leaf ∷ tree) (bound ∷ bounds) (keeps, rest) = (keeps, grows_more places tree bounds rest)
+  grows_more (node ∷ places) (Branch choice children ∷ tree) bounds (helps, count, rest) =
+      (helps_more node choice helps, count, grows_more (map (with_decision node) (children_of node.problem choice) ++ places) tree bounds rest)
+
+  pub grown_more : (node : Node) (allowance bound : ℕ) (grown : Growth) → IsGrownOf rule node best allowance bound grown → IsGrownOf rule node other allowance bound grown
+  grown_more node allowance bound (growth.Subtree nodes bounds plan) (grows, few, planned) = (grows_more (node ∷ []) nodes bounds grows, few, planned)
+  grown_more node allowance bound growth.Examined is = is
+
+-- ---- what the board asks
+
+pub plan_on : (v w : Known Entry Terms) → SameRole v w → (plan : List Event) → IsPlanFor v plan → IsPlanFor w plan
+plan_on v w role plan is = record { terms = is.terms; terms_are = role.terms ∙ is.terms_are; within = is.within }
+
+module _ (board : Board) (rule : Rule) (pass : Pass) (work : Work) (at : IsAtWork board rule work.edition pass) where
+  -- the node of the work under the fixings of its edition
+  abbrev pub node : Node
+  node = node_at (problem_of board) (fixings_after work.edition (known pass).seen) work.decisions
+
+  pub growth_of : (nodes : List TreeNode) (bounds : List ℕ) → Grows rule work.best (node ∷ []) nodes bounds → branches nodes ≤ work.allowance
+      → IsGrowthOf (known pass) (record { work = work; subtree = nodes; bounds = bounds })
+  growth_of nodes bounds grows few = record {
+    terms = at.searcher.terms;
+    terms_are = at.searcher.terms_are;
+    edition = at.edition_is;
+    grows = subst (λ (r : Rule). Grows r work.best (node_at at.searcher.terms.problem (fixings_after work.edition (known pass).seen) work.decisions ∷ []) nodes bounds) (sym at.rule_is)
+        (subst (λ (p : Problem). Grows rule work.best (node_at p (fixings_after work.edition (known pass).seen) work.decisions ∷ []) nodes bounds) (sym at.problem) grows);
+    few = few;
+  }
+
+  pub examined_of : IsExamined rule node work.bound → IsExaminedFor (known pass) work
+  examined_of is = record {
+    terms = at.searcher.terms;
+    terms_are = at.searcher.terms_are;
+    edition = at.edition_is;
+    examined = subst (λ (r : Rule). IsExamined r (node_at at.searcher.terms.problem (fixings_after work.edition (known pass).seen) work.decisions) work.bound) (sym at.rule_is)
+        (subst (λ (p : Problem). IsExamined rule (node_at p (fixings_after work.edition (known pass).seen) work.decisions) work.bound) (sym at.problem) is);
+  }
+
+  pub plan_of : (plan : List Event) → IsPlanAt node plan → IsPlanFor (known pass) plan
+  plan_of plan is = record {
+    terms = at.searcher.terms;
+    terms_are = at.searcher.terms_are;
+    within = subst (λ (p : Problem). All (λ e. e.time ≤ horizon p.trains) plan) (sym at.problem) is.within;
+  }

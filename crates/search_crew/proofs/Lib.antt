@@ -1,0 +1,4 @@
+mod Marks
+mod Keeping
+mod Handing
+mod Grounding

@@ -1,0 +1,22 @@
+-- Where works of an edition are grown.
+use Rattle.std.specs.Prelude.{◌≡◌, ℕ, List, [], Option, Some, IfOk}
+use Rattle.disp_model.specs.declared.entry.Entry.{Entry}
+use Rattle.disp_model.specs.declared.fixing.Fixing.{Fixing}
+use Rattle.disp_model.specs.declared.problem.Problem.{Problem}
+use Rattle.disp_model.specs.History.{newest, fixings_after}
+use Rattle.disp_model.specs.Node.{node_at}
+use Rattle.event_graph.specs.Joined.{IsOfEdition}
+use Rattle.node_leaves.specs.Shown.{IsDeadLeaf}
+use Rattle.open_nodes.specs.States.{IsBelow}
+use Rattle.search_crew.specs.declared.ground.Ground.{Ground}
+use Rattle.search_crew.specs.declared.ground.Ground.TheVariants as ground
+
+-- a graph at a node of the problem under these fixings, which are an edition's; or a leaf that shows that the root is dead
+abbrev pub IsGround : Problem → List Fixing → Ground → Type 0
+IsGround problem fixings (ground.Alive alive) =
+    (alive.graph.problem ≡ problem) × (alive.graph.fixings ≡ fixings) × IsOfEdition alive.graph
+IsGround problem fixings (ground.Dead leaf) = IsDeadLeaf (node_at problem fixings []) leaf
+
+-- what is below the first is below the second
+abbrev pub IsNoMore : Option ℕ → Option ℕ → Type 0
+IsNoMore best other = (bound : ℕ) → IsBelow bound best → IsBelow bound other

@@ -1,0 +1,4 @@
+pub mod Crews
+pub mod Working
+pub mod Grounds
+pub mod Turns

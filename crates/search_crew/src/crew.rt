@@ -1,0 +1,93 @@
+//! What the searchers of a board share, and what each has for itself.
+ghost use Rattle.std.specs.Prelude.{◌≡◌, All, IfOk, length};
+ghost use Rattle.search_crew.specs.Crews.{IsHandOf, IsSameHand};
+
+use crossbeam_deque::{Steal, Stealer, Worker};
+use disp_model::Memory;
+use incumbent_cell::{CellPass, Least};
+use open_nodes::Work;
+use std::alloc::Global;
+
+/// How many works a searcher has room for.
+const ROOM: usize = 8;
+
+/// What the searchers of a board share: whence they steal works, and the least cost that was
+/// published.
+#[derive(Drop)]
+pub struct Crew {
+    pub(crate) least: Least,
+    stealers: Vec<Stealer<Work>>,
+}
+
+/// What one searcher of a crew has for itself: its place in the crew, its pass to the least cost, and
+/// its works, of which others can steal.
+#[derive(Drop)]
+pub struct Hand {
+    pub(crate) place: u32,
+    pub(crate) cell: CellPass,
+    works: Worker<Work>,
+}
+
+/// A crew of so many searchers, with a hand for each.
+///
+/// # Errors
+///
+/// `Memory` where memory runs out.
+pub fn crew_of(alloc: Global, count: u32) -> Result<(Crew, Vec<Hand>), Memory>
+    ensures count { IfOk result (λ made. length made.1.items ≡ count) }
+    ensures hands { IfOk result (λ made. All (IsHandOf made.0) made.1.items) }
+{
+    let (least, mut first) = Least::new(alloc)?;
+    let mut stealers = Vec::with_capacity(alloc, count as usize)?;
+    let mut hands = Vec::with_capacity(alloc, count as usize)?;
+    for place in 0..count {
+        let works = Worker::new_fifo(alloc, ROOM)?;
+        stealers.push(works.stealer()?)?;
+        let cell = least.split(&mut first);
+        hands.push(Hand { place, cell, works })?;
+    }
+    Ok((Crew { least, stealers }, hands))
+}
+
+impl Crew {
+    /// Whether there are others to steal from a searcher.
+    pub(crate) fn shares(&self) -> bool {
+        self.stealers.len() > 1
+    }
+
+    /// A work of some searcher.
+    fn steal(&self) -> Option<Work> {
+        for stealer in self.stealers.iter() {
+            if let Steal::Success(work) = stealer.steal() {
+                return Some(work);
+            }
+        }
+        None
+    }
+}
+
+impl Hand {
+    /// A work of its own.
+    pub(crate) fn take(&mut self) -> Option<Work>
+        ensures { IsSameHand self.old self.new }
+    {
+        self.works.pop()
+    }
+
+    /// A work of its own, or else one of another searcher.
+    pub(crate) fn take_or_steal(&mut self, crew: &Crew) -> Option<Work>
+        ensures { IsSameHand self.old self.new }
+    {
+        match self.take() {
+            Some(work) => Some(work),
+            None => crew.steal(),
+        }
+    }
+
+    /// Keeps a work, which others can steal. Gives it back where there is no room.
+    pub(crate) fn keep(&mut self, work: Work) -> Result<(), Work>
+        ensures { IsSameHand self.old self.new }
+    {
+        self.works.push(work)
+    }
+}

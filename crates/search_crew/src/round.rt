@@ -1,0 +1,147 @@
+ghost use Rattle.std.specs.Prelude.{◌≡◌, ℕ, List, IfOk, Some, Ok};
+ghost use Rattle.disp_model.specs.declared.fixing.Fixing.{Fixing as FixingOf};
+ghost use Rattle.disp_model.specs.declared.answer.Answer.{Answer as AnswerOf};
+ghost use Rattle.disp_model.specs.History.{fixings_after};
+ghost use Rattle.node_leaves.specs.Reckoned.{ReckonsFor};
+ghost use Rattle.shared_board.specs.Board.{board_of, problem_of, own_board, known};
+ghost use Rattle.shared_board.specs.Calls.{IsSearcher};
+ghost use Rattle.search_crew.specs.Crews.{IsHandOf, IsSameHand};
+ghost use Rattle.search_crew.specs.Grounds.{IsGround, IsNoMore};
+ghost use Rattle.search_crew.specs.Turns.{IsTurn};
+ghost use Rattle.search_crew.specs.Working.{IsAnswered, IsAtWork, KeepsOn};
+
+use crate::crew::{Crew, Hand};
+use crate::ground::{Ground, lesser};
+use crate::hand_in::hand_in;
+use crate::turn::{Turn, give_back, keep_another, next_turn};
+use disp_model::{Answer, Memory};
+use disp_outside::{Gate, Point};
+use node_leaves::Reckoning;
+use open_nodes::Work;
+use shared_board::{Board, Pass, SEARCHERS_FROM};
+use std::alloc::Global;
+use std::sync::Wait;
+
+/// There is a newer edition.
+#[derive(Clone, Copy, Debug)]
+struct Outdated;
+
+/// The best cost of a work, or the least that was published for its edition since.
+fn cutoff(crew: &Crew, hand: &mut Hand, work: &Work) -> Result<Option<u64>, Outdated>
+    requires { IsHandOf crew.now hand.old }
+    ensures hand { IsSameHand hand.old hand.new }
+    ensures best { IfOk result (λ best. IsNoMore best work.now.best) }
+{
+    let (newest, least) = crew.least.least(&mut hand.cell);
+    if work.edition < newest {
+        return Err(Outdated);
+    }
+    if newest < work.edition {
+        return Ok(work.best);
+    }
+    Ok(lesser(work.best, least))
+}
+
+/// Grows the leaf of a work of the ground's edition, and hands in what it came to. Where a newer
+/// edition is there the work is given back.
+fn work_on<W: Wait>(
+    rt: &W,
+    alloc: Global,
+    board: &Board,
+    pass: &mut Pass,
+    crew: &Crew,
+    hand: &mut Hand,
+    reckoning: &Reckoning,
+    ground: &mut Ground,
+    work: Work,
+) -> Result<(), Memory>
+    requires reckons { ReckonsFor (problem_of board.now) reckoning.now }
+    requires at { IsAtWork board.now reckoning.now.rule work.edition pass.old }
+    requires hand { IsHandOf crew.now hand.old }
+    requires ground { IsGround (problem_of board.now)
+        (fixings_after work.edition (known pass.old).seen) ground.old }
+    ensures on { KeepsOn pass.old pass.new }
+    ensures hand { IsSameHand hand.old hand.new }
+    ensures ground { (fixings : List FixingOf) → IsGround (problem_of board.now) fixings ground.old
+        → IsGround (problem_of board.now) fixings ground.new }
+{
+    match cutoff(crew, hand, &work) {
+        Ok(best) => {
+            let growth = ground.grow(alloc, board.problem(), reckoning, &work, best);
+            hand_in(rt, alloc, board, pass, crew, hand, work, growth)
+        }
+        Err(Outdated) => {
+            give_back(rt, alloc, board, pass, work);
+            Ok(())
+        }
+    }
+}
+
+/// A work of a searcher, or else what there is to do.
+fn find_turn<W: Wait>(
+    rt: &W,
+    alloc: Global,
+    board: &Board,
+    pass: &mut Pass,
+    crew: &Crew,
+    hand: &mut Hand,
+    edition: u32,
+) -> Result<Turn, Memory>
+    requires board { own_board pass.old ≡ board_of board.now }
+    requires searcher { IsSearcher (known pass.old) }
+    ensures on { KeepsOn pass.old pass.new }
+    ensures hand { IsSameHand hand.old hand.new }
+    ensures turn { IfOk result (IsTurn edition (known pass.new).seen) }
+{
+    if let Some(work) = hand.take_or_steal(crew) {
+        return Ok(Turn::Work(work));
+    }
+    match next_turn(rt, alloc, board, pass, crew, edition)? {
+        Turn::Work(work) => {
+            keep_another(rt, alloc, board, pass, crew, hand, edition);
+            Ok(Turn::Work(work))
+        }
+        turn => Ok(turn),
+    }
+}
+
+/// Takes a work and grows it, as far as there is one. Says how the search of the edition ended, if
+/// it has.
+pub(crate) fn round<W: Wait, G: Gate>(
+    rt: &W,
+    alloc: Global,
+    board: &Board,
+    pass: &mut Pass,
+    crew: &Crew,
+    hand: &mut Hand,
+    reckoning: &Reckoning,
+    ground: &mut Ground,
+    edition: u32,
+    gate: &G,
+) -> Result<Option<Answer>, Memory>
+    requires reckons { ReckonsFor (problem_of board.now) reckoning.now }
+    requires at { IsAtWork board.now reckoning.now.rule edition pass.old }
+    requires hand { IsHandOf crew.now hand.old }
+    requires ground { IsGround (problem_of board.now) (fixings_after edition (known pass.old).seen)
+        ground.old }
+    ensures on { KeepsOn pass.old pass.new }
+    ensures hand { IsSameHand hand.old hand.new }
+    ensures ground { (fixings : List FixingOf) → IsGround (problem_of board.now) fixings ground.old
+        → IsGround (problem_of board.now) fixings ground.new }
+    ensures answered { (answer : AnswerOf) → result ≡ Ok (Some answer)
+        → IsAnswered edition (known pass.new).seen answer }
+{
+    match find_turn(rt, alloc, board, pass, crew, hand, edition)? {
+        Turn::Work(work) => {
+            if work.edition != edition {
+                give_back(rt, alloc, board, pass, work);
+                return Ok(None);
+            }
+            gate.reach(Point::Fragment, SEARCHERS_FROM.saturating_add(hand.place));
+            work_on(rt, alloc, board, pass, crew, hand, reckoning, ground, work)?;
+            Ok(None)
+        }
+        Turn::Answer(answer) => Ok(Some(answer)),
+        Turn::On => Ok(None),
+    }
+}

@@ -1,0 +1,135 @@
+ghost use Rattle.std.specs.Prelude.{◌≡◌, IfOk};
+ghost use Rattle.shared_board.specs.Board.{board_of, own_board, known};
+ghost use Rattle.shared_board.specs.Calls.{IsSearcher};
+ghost use Rattle.search_crew.specs.Crews.{IsSameHand};
+ghost use Rattle.search_crew.specs.Turns.{IsTurn};
+ghost use Rattle.search_crew.specs.Working.{KeepsOn};
+
+use crate::answered::answered;
+use crate::crew::{Crew, Hand};
+use disp_model::{Answer, Memory, Unfinished};
+use dispatch_core::CoreReply;
+use open_nodes::Work;
+use shared_board::{Board, Pass};
+use std::alloc::Global;
+use std::sync::Wait;
+use std::thread::yield_now;
+
+/// How many branches a searcher asks for at a time where others share the tree: the fewest for which
+/// the core goes on in depth,
+const WANTED: u32 = 65;
+
+/// and where none does: as many as a dive may need to reach a plan.
+const WANTED_ALONE: u32 = 65_536;
+
+/// What there is for a searcher to do.
+#[derive(Drop)]
+pub(crate) enum Turn {
+    /// The leaf of this work is to be grown.
+    Work(Work),
+    /// The search of the edition is over.
+    Answer(Answer),
+    /// The board is to be asked again.
+    On,
+}
+
+/// How many branches a searcher of a crew asks for.
+fn wanted(crew: &Crew) -> u32 {
+    if crew.shares() { WANTED } else { WANTED_ALONE }
+}
+
+/// Gives a work back as it is.
+pub(crate) fn give_back<W: Wait>(rt: &W, alloc: Global, board: &Board, pass: &mut Pass, work: Work)
+    requires board { own_board pass.old ≡ board_of board.now }
+    requires searcher { IsSearcher (known pass.old) }
+    ensures { KeepsOn pass.old pass.new }
+{
+    board.give_back(rt, alloc, pass, work, false);
+}
+
+/// Settles an edition, if it can be.
+fn settle<W: Wait>(
+    rt: &W,
+    alloc: Global,
+    board: &Board,
+    pass: &mut Pass,
+    edition: u32,
+) -> Result<Turn, Memory>
+    requires { own_board pass.old ≡ board_of board.now }
+    ensures on { KeepsOn pass.old pass.new }
+    ensures turn { IfOk result (IsTurn edition (known pass.new).seen) }
+{
+    board.settle(rt, alloc, pass, edition)?;
+    Ok(Turn::On)
+}
+
+/// Stops an edition, if it can be.
+fn stop<W: Wait>(
+    rt: &W,
+    alloc: Global,
+    board: &Board,
+    pass: &mut Pass,
+    edition: u32,
+) -> Result<Turn, Memory>
+    requires { own_board pass.old ≡ board_of board.now }
+    ensures on { KeepsOn pass.old pass.new }
+    ensures turn { IfOk result (IsTurn edition (known pass.new).seen) }
+{
+    board.stop(rt, alloc, pass, edition)?;
+    Ok(Turn::On)
+}
+
+/// Takes a leaf of an edition from the board. Where none is wanted, settles it; where none may be
+/// taken and none is out, stops it.
+pub(crate) fn next_turn<W: Wait>(
+    rt: &W,
+    alloc: Global,
+    board: &Board,
+    pass: &mut Pass,
+    crew: &Crew,
+    edition: u32,
+) -> Result<Turn, Memory>
+    requires board { own_board pass.old ≡ board_of board.now }
+    requires searcher { IsSearcher (known pass.old) }
+    ensures on { KeepsOn pass.old pass.new }
+    ensures turn { IfOk result (IsTurn edition (known pass.new).seen) }
+{
+    match board.take(rt, alloc, pass, edition, wanted(crew))? {
+        CoreReply::Taken(work) => Ok(Turn::Work(work)),
+        CoreReply::Closed(mark) => Ok(answered(mark)),
+        CoreReply::Newer(number) => {
+            Ok(Turn::Answer(Answer::Unfinished(Unfinished::Newer(number))))
+        }
+        CoreReply::Ripe => settle(rt, alloc, board, pass, edition),
+        CoreReply::Dry(_) => stop(rt, alloc, board, pass, edition),
+        _ => {
+            yield_now();
+            Ok(Turn::On)
+        }
+    }
+}
+
+/// Keeps one work more, if there is one, for others to steal.
+pub(crate) fn keep_another<W: Wait>(
+    rt: &W,
+    alloc: Global,
+    board: &Board,
+    pass: &mut Pass,
+    crew: &Crew,
+    hand: &mut Hand,
+    edition: u32,
+)
+    requires board { own_board pass.old ≡ board_of board.now }
+    requires searcher { IsSearcher (known pass.old) }
+    ensures on { KeepsOn pass.old pass.new }
+    ensures hand { IsSameHand hand.old hand.new }
+{
+    if !crew.shares() {
+        return;
+    }
+    if let Ok(CoreReply::Taken(work)) = board.take(rt, alloc, pass, edition, WANTED) {
+        if let Err(work) = hand.keep(work) {
+            give_back(rt, alloc, board, pass, work);
+        }
+    }
+}
