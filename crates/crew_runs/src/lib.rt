@@ -9,6 +9,3 @@ mod seats;
 pub use running::run_searchers;
 pub use searcher::Searcher;
 pub use seats::{passes_of, seats_of};
-
-#[cfg(test)]
-mod tests;

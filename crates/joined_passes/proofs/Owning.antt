@@ -21,7 +21,7 @@ module _ {E T : Type 0} where
   later w ws u (k, within, is) = (suc k, omega arith, is)
 
   -- a place that the first pass has then was its own, or one of the others'
-  place_of : (v : Known E T) (ws : List (Known E T)) (place : ℕ) → Contains (joined_all v ws).mine place → Contains v.mine place ⊎ ((w : Known E T) × Contains ws w × Contains w.mine place)
+  pub place_of : (v : Known E T) (ws : List (Known E T)) (place : ℕ) → Contains (joined_all v ws).mine place → Contains v.mine place ⊎ ((w : Known E T) × Contains ws w × Contains w.mine place)
   place_of v [] place there = inl there
   place_of v (w ∷ ws) place there = ⊎_elim
       (λ front. ⊎_elim (λ own. inl own) (λ one. inr (w, (0, omega arith, refl), one)) (Contains-append_cases v.mine w.mine place front))
