@@ -1,0 +1,47 @@
+-- What a run leaves.
+use Rattle.std.specs.Prelude.{◌≡◌, ◌≢◌, ◌↔◌, ℕ, ◌<◌, ◌≤◌, Bool, false, List, [], All, Contains, Option, Result, IfSome, length, slice_get, Some}
+use Rattle.disp_model.specs.declared.entry.Entry.{Entry}
+use Rattle.disp_model.specs.declared.problem.Problem.{Problem}
+use Rattle.disp_model.specs.declared.settings.Settings.{Settings}
+use Rattle.disp_model.specs.History.{newest, mark_of}
+use Rattle.disp_model.specs.Legal.{IsLegal}
+use Rattle.text_puts.specs.Outside.{Counts, Outside}
+use Rattle.feed_reader.specs.Answered.{AnswersAs}
+use Rattle.feed_reader.specs.declared.read.Reading.{Reading}
+use Rattle.feed_reader.specs.declared.read.Reading.TheVariants.{Failed}
+use Rattle.journal_printer.specs.declared.no.PrintNo.{PrintNo}
+use Rattle.shared_board.specs.Onward.{entries_by}
+use Rattle.rolling_driver.specs.Printed.{PrintsJournal}
+use Rattle.rolling_driver.specs.Status.{IsStatus}
+
+module _ {F : Type 0} where
+  -- feeds of which nothing was read
+  abbrev pub AreNew : (F → Bool) → (F → ℕ) → List F → Type 0
+  AreNew has_ended faults feeds = All (λ feed. (has_ended feed ≡ false) × (faults feed ≡ 0)) feeds
+
+  -- feeds were closed: no count falls; one rises only where a feed of that name has failed, and where one has, its does
+  pub record CountsFeeds (name : F → List ℕ) (faults : F → ℕ) (feeds : List F) (old new : Counts) : Type 0 where
+    pub counted : (one : List ℕ) → old one ≤ new one
+    pub risen : (one : List ℕ) → old one < new one → (feed : F) × Contains feeds feed × (name feed ≡ one) × (0 < faults feed)
+    pub failed : All (λ feed. 0 < faults feed → old (name feed) < new (name feed)) feeds
+
+  -- the readings of feeds, of which each entry of the journal that is a line's is: those of the feed of each number answer its
+  -- lines, where these are told, as its reading ended; a reading failed exactly where the count of its name rose
+  pub record AreRead (name : F → List ℕ) (lines : F → Option (List (List ℕ))) (feeds : List F) (readings : List Reading) (old new : Counts) (journal : List Entry) : Type 0 where
+    pub as_many : length readings ≡ length feeds
+    pub answered : (number : ℕ) (feed : F) (reading : Reading) → slice_get feeds number ≡ Some feed → slice_get readings number ≡ Some reading
+        → IfSome (lines feed) (λ told. AnswersAs number told (entries_by number journal) reading)
+    pub failed : (number : ℕ) (feed : F) → slice_get feeds number ≡ Some feed → slice_get readings number ≡ Some Failed → old (name feed) < new (name feed)
+    pub risen : (one : List ℕ) → old one < new one → (number : ℕ) × (feed : F) × (slice_get feeds number ≡ Some feed) × (slice_get readings number ≡ Some Failed) × (name feed ≡ one)
+    pub counted : (one : List ℕ) → old one ≤ new one
+    pub no_other : (other : ℕ) → length feeds ≤ other → entries_by other journal ≡ []
+
+  -- the journal is legal, its lines' entries are those of the feeds, it is printed, and the status says how all this ended
+  pub record IsRolled (name : F → List ℕ) (lines : F → Option (List (List ℕ))) (problem : Problem) (settings : Settings) (trees : Option (List ℕ)) (feeds : List F) (old new : Outside)
+      (journal : List Entry) (status : ℕ) : Type 0 where
+    pub legal : IsLegal problem settings journal
+    pub readings : List Reading
+    pub read : AreRead name lines feeds readings old.reading new.reading journal
+    pub printed : Result (Unit {0}) PrintNo
+    pub prints : PrintsJournal trees journal old (record new { reading = old.reading }) printed
+    pub status_is : IsStatus (mark_of (newest journal) journal) readings printed status
