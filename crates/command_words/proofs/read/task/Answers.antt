@@ -22,8 +22,15 @@ returns-clause-err c words rows_are = inl (λ taken.
           | inr rest ↦ elim rest [
             | inl named ↦ unlike (c.in_default-subcommand_matches-3.ensures.found.1
                 (name_is _ _ one.0 (rows_are ∙ named)))
-            | inr named ↦ unlike (c.in_default-subcommand_matches-4.ensures.found.1
-                (name_is _ _ one.0 (rows_are ∙ named)))
+            | inr made ↦ elim made [
+              | inl named ↦ unlike (c.in_default-subcommand_matches-4.ensures.found.1
+                  (name_is _ _ one.0 (rows_are ∙ named)))
+              | inr rolled ↦ elim rolled [
+                | inl named ↦ unlike (c.in_default-subcommand_matches-5.ensures.found.1
+                    (name_is _ _ one.0 (rows_are ∙ named)))
+                | inr none ↦ absurd none
+              ]
+            ]
           ]
         ]
       ]
