@@ -59,7 +59,7 @@ fn rule<'a>(alloc: Global) -> Arg<'a>
 /// A command, with what its search is told.
 fn with_search<'a>(alloc: Global, command: Command<'a>) -> Result<Command<'a>, AllocError>
     requires { (fields_of command).has_globals ≡ false }
-    ensures app { IfOk result (λ c. app_of c ≡ with_search (app_of command)) }
+    ensures app { IfOk result (λ c. app_of c ≡ with_search (app_of command.entry)) }
     ensures own { IfOk result (λ c. (fields_of c).has_globals ≡ false) }
 {
     command

@@ -117,14 +117,6 @@ fn optional_name(alloc: Global, found: &ArgMatches, id: &str) -> Result<Option<T
     }
 }
 
-/// The values that clap finds for an argument with several ones.
-#[tactic(auto, using(crate::proofs::Rows::all_is))]
-fn values<'m, 'a>(found: &'m ArgMatches<'a>, id: &str) -> &'m [&'a str]
-    ensures { map (λ text. text.now) result.now ≡ names_found id.now (rows_of (found_of found.now)) }
-{
-    found.get_strs(id).unwrap_or(&[])
-}
-
 /// The texts of a slice.
 fn texts(alloc: Global, values: &[&str]) -> Result<List<Text>, AllocError>
     ensures { IfOk result (λ texts. texts ≡ map (λ text. text.now) values.now) }
@@ -137,11 +129,15 @@ fn texts(alloc: Global, values: &[&str]) -> Result<List<Text>, AllocError>
 }
 
 /// The names of an argument with several ones.
+#[tactic(auto, using(crate::proofs::Rows::all_is))]
 fn names(alloc: Global, found: &ArgMatches, id: &str) -> Result<List<Text>, WordsNo>
     ensures ok { IfOk result (λ names. names ≡ names_found id.now (rows_of (found_of found.now))) }
     ensures err { IfErr result (λ no. no ≡ WordsNo.Memory) }
 {
-    Ok(texts(alloc, values(found, id))?)
+    match found.get_strs(id) {
+        Some(values) => Ok(texts(alloc, values)?),
+        None => Ok(List::new(alloc)),
+    }
 }
 
 /// The rule that a text names. Where there is no text it is the free one.

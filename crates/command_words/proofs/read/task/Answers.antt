@@ -48,3 +48,11 @@ returns-in-Some-subcommand_matches-4-clause-ok c = IfOk-weaker c.make.result _ _
     (sym rows_are ∙ named_rows c.args.matches.now _ _
     (c.in-Some-subcommand_matches-4.ensures.found.0 refl)
     c.in-Some-subcommand_matches-4.ensures.rows)) c.make.ensures.ok
+
+pub returns-in-Some-subcommand_matches-5-clause-err :
+    goal.returns-in-Some-subcommand_matches-5-clause-err
+returns-in-Some-subcommand_matches-5-clause-err c = IfErr-weaker c.roll.result _ _
+    (λ no h words rows_are. h words
+    (sym rows_are ∙ named_rows c.args.matches.now _ _
+    (c.in-Some-subcommand_matches-5.ensures.found.0 refl)
+    c.in-Some-subcommand_matches-5.ensures.rows)) c.roll.ensures.err
