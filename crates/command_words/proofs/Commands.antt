@@ -1,13 +1,13 @@
 -- Words that are taken name one of the commands.
-use Rattle.std.proofs.Common.{◌≡◌, ◌⊎◌, ℕ, Bool, true, false, cond, subst, List, [], ◌∷◌, Option, Some, None, refl, inl, inr, codes, option_map, is_some}
-use Rattle.std.specs.Prelude.{not, ◌&&◌}
+use Rattle.std.proofs.Common.{◌≡◌, ◌⊎◌, ℕ, Bool, true, false, cond, subst, List, [], ◌∷◌, Option, Some, None, refl, inl, inr, codes, option_map, is_some, map}
+use Rattle.std.specs.Prelude.{not, ◌&&◌, find}
 use Rattle.std.specs.List.{list_any}
 use Rattle.clap.specs.Kinds.{Kinds, or_else, check_kinds}
 use Rattle.clap.specs.Facts.{explicit_source}
 use Rattle.clap.specs.Takes.{is_given}
 use Rattle.clap.specs.Faults.{level_fault, check_fault, walk_fault, settle_fault, defaults_fault, entered_fault}
-use Rattle.clap.specs.Walk.{Held, Names as Commands, Row, Text, finished, nothing_held, settled, stop_after, walk, walk_from}
-use Rattle.clap.specs.Simple.{Shape, built, entered, rows_at, argument_words, names_of}
+use Rattle.clap.specs.Walk.{Held, Names as Commands, Row, Text, answers_to, finished, nothing_held, settled, stop_after, walk, walk_from}
+use Rattle.clap.specs.Simple.{Shape, built, entered, rows_at, argument_words, label_of, names_of}
 use Rattle.clap.specs.Words.{subcommand_of}
 use Rattle.command_words.specs.Program.{program}
 use Rattle.command_words.specs.Task.{AreTaken}
@@ -39,39 +39,48 @@ has_one s rows false required e = absurd (misses (s.arg_required_else_help && no
     (s.arg_required_else_help && not (list_any (λ r. explicit_source r.source) rows)) b
     (not (s.subcommand_negates_reqs && false) && list_any (λ a. a.required && not (is_given a.id rows)) s.rules) ≡ []) required e))
 
-abbrev pub NamesOne : Option (Text × List Row) → Type 0
-NamesOne found = (rows : List Row) × ((found ≡ Some (codes "solve", rows))
-    ⊎ ((found ≡ Some (codes "verify", rows)) ⊎ ((found ≡ Some (codes "check", rows))
-    ⊎ ((found ≡ Some (codes "report", rows)) ⊎ (found ≡ Some (codes "make", rows))))))
+-- one of the names is that of the command that was found, with its rows
+abbrev pub IsAmong : List Text → Option (Text × List Row) → List Row → Type 0
+IsAmong [] found rows = ⊥
+IsAmong (name ∷ names) found rows = (found ≡ Some (name, rows)) ⊎ IsAmong names found rows
 
--- of five commands one is found, if any
-module _ (s v k r m : Shape) (p : Text × List Text) where
-  abbrev found_of_five : Bool → Bool → Bool → Bool → Bool → Option (Text × List Row)
-  found_of_five is_s is_v is_k is_r is_m = option_map (λ c. rows_at c p.1) (cond is_s (Some s)
-      (cond is_v (Some v) (cond is_k (Some k) (cond is_r (Some r) (cond is_m (Some m) None)))))
+abbrev pub NamesOne : List Text → Option (Text × List Row) → Type 0
+NamesOne names found = (rows : List Row) × IsAmong names found rows
 
-  one_of_five : (is_s is_v is_k is_r is_m : Bool) → s.name ≡ codes "solve"
-      → v.name ≡ codes "verify" → k.name ≡ codes "check" → r.name ≡ codes "report"
-      → m.name ≡ codes "make" → is_some (found_of_five is_s is_v is_k is_r is_m) ≡ true
-      → NamesOne (found_of_five is_s is_v is_k is_r is_m)
-  one_of_five true is_v is_k is_r is_m ns nv nk nr nm there =
-      ((rows_at s p.1).1, inl (rw ns refl))
-  one_of_five false true is_k is_r is_m ns nv nk nr nm there =
-      ((rows_at v p.1).1, inr (inl (rw nv refl)))
-  one_of_five false false true is_r is_m ns nv nk nr nm there =
-      ((rows_at k p.1).1, inr (inr (inl (rw nk refl))))
-  one_of_five false false false true is_m ns nv nk nr nm there =
-      ((rows_at r p.1).1, inr (inr (inr (inl (rw nr refl)))))
-  one_of_five false false false false true ns nv nk nr nm there =
-      ((rows_at m p.1).1, inr (inr (inr (inr (rw nm refl)))))
-  one_of_five false false false false false ns nv nk nr nm there = cc
+-- the command of a word, with what it makes of the words behind that one
+module _ (p : Text × List Text) where
+  abbrev found_in : List Shape → Option (Text × List Row)
+  found_in subs =
+      option_map (λ s. rows_at s p.1) (find (λ s. answers_to p.0 (label_of s)) subs)
 
-entered_one : (stop : Option (Text × List Text))
-    → is_some (entered (built program) stop) ≡ true → NamesOne (entered (built program) stop)
+  abbrev found_from : Bool → Shape → List Shape → Option (Text × List Row)
+  found_from is_first s subs = option_map (λ s. rows_at s p.1)
+      (cond is_first (Some s) (find (λ s. answers_to p.0 (label_of s)) subs))
+
+  first_or_later : (is_first : Bool) (s : Shape) (subs : List Shape)
+      → (is_some (found_in subs) ≡ true → NamesOne (map (λ s. s.name) subs) (found_in subs))
+      → is_some (found_from is_first s subs) ≡ true
+      → NamesOne (map (λ s. s.name) (s ∷ subs)) (found_from is_first s subs)
+  first_or_later true s subs later there = ((rows_at s p.1).1, inl refl)
+  first_or_later false s subs later there = let one = later there in (one.0, inr one.1)
+
+  found_one : (subs : List Shape) → is_some (found_in subs) ≡ true
+      → NamesOne (map (λ s. s.name) subs) (found_in subs)
+  found_one [] there = cc
+  found_one (s ∷ subs) there =
+      first_or_later (answers_to p.0 (label_of s)) s subs (found_one subs) there
+
+-- the commands of the program
+abbrev pub command_names : List Text
+command_names = codes "solve" ∷ codes "verify" ∷ codes "check" ∷ codes "report" ∷ codes "make"
+    ∷ codes "roll" ∷ []
+
+entered_one : (stop : Option (Text × List Text)) → is_some (entered (built program) stop) ≡ true
+    → NamesOne command_names (entered (built program) stop)
 entered_one None there = cc
-entered_one (Some p) there = one_of_five _ _ _ _ _ p _ _ _ _ _ refl refl refl refl refl there
+entered_one (Some p) there = found_one p (built program).subs there
 
-pub taken_names_one : (words : List (List ℕ)) → AreTaken words → NamesOne (subcommand_of program words)
+pub taken_names_one : (words : List (List ℕ)) → AreTaken words → NamesOne command_names (subcommand_of program words)
 taken_names_one words taken =
     let top = (built program).top in
     let names = names_of (built program) in

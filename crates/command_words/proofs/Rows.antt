@@ -7,15 +7,18 @@ use Rattle.clap.specs.Words.{Row, subcommand_rows, subcommand_rows_of, subcomman
 use Rattle.clap.specs.declared.parser.matches.ArgMatches.{ArgMatches}
 use Rattle.clap.specs.declared.parser.matches.ArgMatches.TheViews.{out-ArgMatches, out-SubCommand}
 use Rattle.clap.specs.declared.parser.matches.SubCommand.{SubCommand}
-use Rattle.clap.specs.Words.{first_value, first_of, one_text, one_of, rows_of}
+use Rattle.clap.specs.Words.{all_of, first_value, first_of, matched_of, one_text, one_of, raw_values, rows_of}
 use Rattle.clap.specs.declared.parser.matches.Found.{Found}
-use Rattle.clap.proofs.WalkLemmas.{first_value-rows, one_text-rows}
+use Rattle.clap.proofs.WalkLemmas.{first_value-rows, one_text-rows, raw_values-rows}
 
 pub first_is : (f : Found) (id : List ℕ) → first_value f id ≡ first_of id (rows_of f)
 first_is = first_value-rows
 
 pub one_is : (f : Found) (id : List ℕ) → one_text f id ≡ one_of id (rows_of f)
 one_is = one_text-rows
+
+pub all_is : (f : Found) (id : List ℕ) → option_map raw_values (matched_of f id) ≡ all_of id (rows_of f)
+all_is = raw_values-rows
 
 -- the name of the subcommand that was met, by its name and rows
 pub name_is : (m : ArgMatches) (name : List ℕ) (rows : List Row) → subcommand_rows_of m ≡ Some (name, rows) → subcommand_name_of m ≡ Some name

@@ -1,8 +1,10 @@
 -- The command line that the program takes, as clap's own function of simple commands reads it.
 use Rattle.std.specs.Prelude.{ℕ, List, [], ◌∷◌, Some, pos, true, codes}
+use Rattle.clap.specs.Lexer.{usize_max}
 use Rattle.clap.specs.Words.{App, Rule, new_app, new_rule, with_rule, with_subcommand}
 use Rattle.clap.specs.Simple.{on_top}
 use Rattle.clap.specs.declared.builder.value_parser.ValueParser.TheVariants.{Signed}
+use Rattle.disp_model.specs.declared.limits.TheConstants.{MOST_CALLERS}
 
 -- a name that must be given, by its place among the words
 abbrev pub needed_rule : List ℕ → Rule
@@ -12,23 +14,33 @@ needed_rule id = record (new_rule id) { required = true; value_names = 1 }
 abbrev pub optional_rule : List ℕ → Rule
 optional_rule id = record (new_rule id) { long = Some id; value_names = 1 }
 
+-- `--workers`: how many searchers, at least one and at most 64, and one where it is not given
+abbrev pub workers : Rule
+workers = record (optional_rule (codes "workers")) {
+  defaults = codes "1" ∷ [];
+  parser = Some (Signed (pos 1) (pos MOST_CALLERS));
+}
+
 -- `--budget`: a number of 32 bits, a million where it is not given
 abbrev pub budget : Rule
 budget = record (optional_rule (codes "budget")) { defaults = codes "1000000" ∷ []; parser = Some (Signed (pos 0) (pos 4294967295)) }
-
--- what `solve` reads: `PROBLEM [--fixings F] [--budget B]`
-abbrev pub solve_inputs : App
-solve_inputs =
-    with_rule (with_rule (with_rule (new_app (codes "solve")) (needed_rule (codes "problem")))
-    (optional_rule (codes "fixings"))) budget
 
 -- `--rule`: a text
 abbrev pub rule : Rule
 rule = optional_rule (codes "rule")
 
--- `solve PROBLEM [--fixings F] [--budget B] [--rule RULE] [--plan OUT] [--tree OUT]`
+-- a command, with what its search is told: `[--workers N] [--budget B] [--rule RULE]`
+abbrev pub with_search : App → App
+with_search command = with_rule (with_rule (with_rule command workers) budget) rule
+
+-- what `solve` reads: `PROBLEM [--fixings F]`
+abbrev pub solve_inputs : App
+solve_inputs = with_rule (with_rule (new_app (codes "solve")) (needed_rule (codes "problem")))
+    (optional_rule (codes "fixings"))
+
+-- `solve PROBLEM [--fixings F] [--workers N] [--budget B] [--rule RULE] [--plan OUT] [--tree OUT]`
 abbrev pub solve : App
-solve = with_rule (with_rule (with_rule solve_inputs rule) (optional_rule (codes "plan")))
+solve = with_rule (with_rule (with_search solve_inputs) (optional_rule (codes "plan")))
     (optional_rule (codes "tree"))
 
 -- `verify PROBLEM SOLUTION [--fixings F]`
@@ -59,6 +71,20 @@ make =
     with_rule (with_rule (with_rule (new_app (codes "make")) number) trains)
     (optional_rule (codes "out"))
 
+-- FEED, at least one
+abbrev pub feeds : Rule
+feeds = record (needed_rule (codes "feeds")) {
+  range = Some (record { start_inclusive = 1; end_inclusive = usize_max });
+}
+
+-- what `roll` reads: `PROBLEM FEED...`
+abbrev pub roll_inputs : App
+roll_inputs = with_rule (with_rule (new_app (codes "roll")) (needed_rule (codes "problem"))) feeds
+
+-- `roll PROBLEM FEED... [--workers N] [--budget B] [--rule RULE] [--trees PREFIX]`
+abbrev pub roll : App
+roll = with_rule (with_search roll_inputs) (optional_rule (codes "trees"))
+
 -- `solve` or `verify`; the words do not begin with the program's name
 abbrev pub first_commands : App
 first_commands = with_subcommand (with_subcommand (on_top (λ s. record s { no_binary_name = true; subcommand_required = true; disable_help_subcommand = true }) (new_app (codes "dispatch"))) solve.top) verify.top
@@ -67,6 +93,6 @@ first_commands = with_subcommand (with_subcommand (on_top (λ s. record s { no_b
 abbrev pub more_commands : App
 more_commands = with_subcommand (with_subcommand first_commands check.top) report.top
 
--- one of these commands, or `make`
+-- one of these commands, or `make` or `roll`
 abbrev pub program : App
-program = with_subcommand more_commands make.top
+program = with_subcommand (with_subcommand more_commands make.top) roll.top

@@ -1,7 +1,8 @@
 -- What the words behind the program's name ask for.
-use Rattle.std.specs.Prelude.{◌≡◌, ◌⊎◌, ℕ, ◌<◌, ◌^◌, List, [], Option, Some, None, codes, unwrap_or, min}
+use Rattle.std.specs.Prelude.{◌≡◌, ◌⊎◌, ℕ, ◌<◌, ◌^◌, List, [], Option, Some, None, codes, unwrap_or, max, min}
 use Rattle.std.specs.Str.Parse.{IsNumeral, digits_value, without_leading_plus}
-use Rattle.clap.specs.Words.{Row, subcommand_of, first_of, one_of, fault_of}
+use Rattle.clap.specs.Words.{Row, subcommand_of, all_of, first_of, one_of, fault_of}
+use Rattle.disp_model.specs.declared.limits.TheConstants.{MOST_CALLERS}
 use Rattle.disp_model.specs.declared.settings.Rule.{Rule}
 use Rattle.disp_model.specs.declared.settings.Rule.TheVariants.{Fixed, Free}
 use Rattle.command_words.specs.Program.{program}
@@ -10,8 +11,9 @@ use Rattle.command_words.specs.declared.read.WordsNo.TheVariants.{Refused, Memor
 use Rattle.command_words.specs.declared.task.SolveTask.{SolveTask}
 use Rattle.command_words.specs.declared.task.JudgeTask.{JudgeTask}
 use Rattle.command_words.specs.declared.task.MakeTask.{MakeTask}
+use Rattle.command_words.specs.declared.task.RollTask.{RollTask}
 use Rattle.command_words.specs.declared.task.Task.{Task}
-use Rattle.command_words.specs.declared.task.Task.TheVariants.{Solve, Verify, Report, Make, Check}
+use Rattle.command_words.specs.declared.task.Task.TheVariants.{Solve, Verify, Report, Make, Check, Roll}
 
 -- clap finds no fault with the words
 abbrev pub AreTaken : List (List ℕ) → Type 0
@@ -37,12 +39,16 @@ IsNumberOr other (Some text) n =
 abbrev pub IsBudget : Option (List ℕ) → ℕ → Type 0
 IsBudget found n = IsNumberOr 1000000 found n
 
--- the number that a text says, and 1 where there is none (there always is one); at most so much, as
+-- the number that a text says, and 1 where there is none (there always is one); between these two, as
 -- it always is
-pub record IsWithin (most : ℕ) (found : Option (List ℕ)) (n : ℕ) : Type 0 where
+pub record IsWithin (least most : ℕ) (found : Option (List ℕ)) (n : ℕ) : Type 0 where
   pub said : ℕ
   pub said_is : IsNumberOr 1 found said
-  pub is : n ≡ min said most
+  pub is : n ≡ max least (min said most)
+
+-- how many searchers a text says, and one where there is none (there always is one)
+abbrev pub IsWorkers : Option (List ℕ) → ℕ → Type 0
+IsWorkers found n = IsWithin 1 MOST_CALLERS found n
 
 -- the rule that a text names, and the free one where there is none
 abbrev pub IsRuleText : Option (List ℕ) → Rule → Type 0
@@ -57,6 +63,10 @@ NamesNoRule text = (rule : Rule) → IsRuleText text rule → ⊥
 abbrev pub name_found : List ℕ → List Row → List ℕ
 name_found id rows = unwrap_or (first_of id rows) []
 
+-- the names that clap finds for an argument with several values, in the order of the words
+abbrev pub names_found : List ℕ → List Row → List (List ℕ)
+names_found id rows = unwrap_or (all_of id rows) []
+
 -- the values that clap finds for `solve`
 pub record IsSolve (words : List (List ℕ)) (task : SolveTask) : Type 0 where
   pub taken : AreTaken words
@@ -64,6 +74,7 @@ pub record IsSolve (words : List (List ℕ)) (task : SolveTask) : Type 0 where
   pub named : Names words (codes "solve") rows
   pub problem_is : task.problem ≡ name_found (codes "problem") rows
   pub fixings_is : task.fixings ≡ first_of (codes "fixings") rows
+  pub workers_is : IsWorkers (one_of (codes "workers") rows) task.workers
   pub budget_is : IsBudget (one_of (codes "budget") rows) task.budget
   pub rule_is : IsRuleText (first_of (codes "rule") rows) task.rule
   pub plan_is : task.plan ≡ first_of (codes "plan") rows
@@ -83,8 +94,8 @@ pub record IsMake (words : List (List ℕ)) (task : MakeTask) : Type 0 where
   pub taken : AreTaken words
   pub rows : List Row
   pub named : Names words (codes "make") rows
-  pub number_is : IsWithin 2147483647 (one_of (codes "number") rows) task.number
-  pub trains_is : IsWithin 2000 (one_of (codes "trains") rows) task.trains
+  pub number_is : IsWithin 0 2147483647 (one_of (codes "number") rows) task.number
+  pub trains_is : IsWithin 1 2000 (one_of (codes "trains") rows) task.trains
   pub out_is : task.out ≡ first_of (codes "out") rows
 
 -- the values that clap finds for `check`
@@ -97,6 +108,18 @@ pub record IsCheck (words : List (List ℕ)) (problem tree : List ℕ) (fixings 
   pub fixings_is : fixings ≡ first_of (codes "fixings") rows
   pub plan_is : plan ≡ first_of (codes "plan") rows
 
+-- the values that clap finds for `roll`
+pub record IsRoll (words : List (List ℕ)) (task : RollTask) : Type 0 where
+  pub taken : AreTaken words
+  pub rows : List Row
+  pub named : Names words (codes "roll") rows
+  pub problem_is : task.problem ≡ name_found (codes "problem") rows
+  pub feeds_is : task.feeds ≡ names_found (codes "feeds") rows
+  pub workers_is : IsWorkers (one_of (codes "workers") rows) task.workers
+  pub budget_is : IsBudget (one_of (codes "budget") rows) task.budget
+  pub rule_is : IsRuleText (first_of (codes "rule") rows) task.rule
+  pub trees_is : task.trees ≡ first_of (codes "trees") rows
+
 -- the words ask for the task
 abbrev pub IsTask : List (List ℕ) → Task → Type 0
 IsTask words (Solve task) = IsSolve words task
@@ -104,11 +127,14 @@ IsTask words (Verify task) = IsJudge (codes "verify") words task
 IsTask words (Report task) = IsJudge (codes "report") words task
 IsTask words (Make task) = IsMake words task
 IsTask words (Check problem tree fixings plan) = IsCheck words problem tree fixings plan
+IsTask words (Roll task) = IsRoll words task
 
--- the words ask for `solve` by a rule that there is not
+-- the words ask for a search by a rule that there is not
 pub record AskForNoRule (words : List (List ℕ)) : Type 0 where
+  pub command : List ℕ
+  pub searches : (command ≡ codes "solve") ⊎ (command ≡ codes "roll")
   pub rows : List Row
-  pub named : Names words (codes "solve") rows
+  pub named : Names words command rows
   pub no_rule : NamesNoRule (first_of (codes "rule") rows)
 
 -- clap finds fault with the words, or they name a rule that there is not

@@ -9,7 +9,7 @@ mod read;
 mod task;
 
 pub use read::{WordsNo, read_words};
-pub use task::{JudgeTask, MakeTask, SolveTask, Task};
+pub use task::{JudgeTask, MakeTask, RollTask, SolveTask, Task};
 
 #[cfg(test)]
 mod tests;

@@ -1,10 +1,13 @@
 ghost use Rattle.std.specs.Prelude.{◌≡◌, IfOk, false};
 ghost use Rattle.clap.specs.Words.{app_of, rule_of};
 ghost use Rattle.clap.specs.declared.builder.command.Command.TheViews.{out-Command as fields_of};
-ghost use Rattle.command_words.specs.Program.{needed_rule, optional_rule, budget, rule, solve_inputs, solve, verify, check, report, number};
-ghost use Rattle.command_words.specs.Program.{trains, make, first_commands, more_commands, program};
+ghost use Rattle.command_words.specs.Program.{needed_rule, optional_rule, workers, budget, rule};
+ghost use Rattle.command_words.specs.Program.{with_search, solve_inputs, solve, verify, check, report};
+ghost use Rattle.command_words.specs.Program.{number, trains, make, feeds, roll_inputs, roll};
+ghost use Rattle.command_words.specs.Program.{first_commands, more_commands, program};
 
 use clap::{Arg, Command, value_parser};
+use disp_model::MOST_CALLERS;
 use std::alloc::{AllocError, Global};
 
 /// An argument that must be given, by its place.
@@ -21,6 +24,17 @@ fn optional_rule<'a>(alloc: Global, id: &'a str, shown: &'a str) -> Arg<'a>
     ensures own { result.global ≡ false }
 {
     Arg::new(alloc, id).long(id).value_name(shown)
+}
+
+/// How many searchers there are to be.
+fn workers<'a>(alloc: Global) -> Arg<'a>
+    ensures rule { rule_of result ≡ workers }
+    ensures own { result.global ≡ false }
+{
+    optional_rule(alloc, "workers", "N")
+        .default_value("1")
+        .value_parser(value_parser!(u32).range(1..=i64::from(MOST_CALLERS)))
+        .help("How many searchers there are")
 }
 
 /// How often the search may branch.
@@ -42,6 +56,18 @@ fn rule<'a>(alloc: Global) -> Arg<'a>
     optional_rule(alloc, "rule", "RULE").help("How the search branches: fixed or free")
 }
 
+/// A command, with what its search is told.
+fn with_search<'a>(alloc: Global, command: Command<'a>) -> Result<Command<'a>, AllocError>
+    requires { (fields_of command).has_globals ≡ false }
+    ensures app { IfOk result (λ c. app_of c ≡ with_search (app_of command.entry)) }
+    ensures own { IfOk result (λ c. (fields_of c).has_globals ≡ false) }
+{
+    command
+        .arg(workers(alloc))?
+        .arg(budget(alloc))?
+        .arg(rule(alloc))
+}
+
 /// `solve`, with what it reads.
 fn solve_inputs<'a>(alloc: Global) -> Result<Command<'a>, AllocError>
     ensures app { IfOk result (λ c. app_of c ≡ solve_inputs) }
@@ -50,8 +76,7 @@ fn solve_inputs<'a>(alloc: Global) -> Result<Command<'a>, AllocError>
     Command::new(alloc, "solve")
         .about("Finds a plan of least cost")
         .arg(needed_rule(alloc, "problem", "PROBLEM"))?
-        .arg(optional_rule(alloc, "fixings", "F"))?
-        .arg(budget(alloc))
+        .arg(optional_rule(alloc, "fixings", "F"))
 }
 
 /// `solve`, with its arguments.
@@ -59,8 +84,7 @@ fn solve<'a>(alloc: Global) -> Result<Command<'a>, AllocError>
     ensures app { IfOk result (λ c. app_of c ≡ solve) }
     ensures own { IfOk result (λ c. (fields_of c).has_globals ≡ false) }
 {
-    solve_inputs(alloc)?
-        .arg(rule(alloc))?
+    with_search(alloc, solve_inputs(alloc)?)?
         .arg(optional_rule(alloc, "plan", "OUT"))?
         .arg(optional_rule(alloc, "tree", "OUT"))
 }
@@ -130,6 +154,33 @@ fn check<'a>(alloc: Global) -> Result<Command<'a>, AllocError>
         .arg(optional_rule(alloc, "plan", "P"))
 }
 
+/// The feeds of a run.
+fn feeds<'a>(alloc: Global) -> Arg<'a>
+    ensures rule { rule_of result ≡ feeds }
+    ensures own { result.global ≡ false }
+{
+    needed_rule(alloc, "feeds", "FEED").num_args(1..)
+}
+
+/// `roll`, with what it reads.
+fn roll_inputs<'a>(alloc: Global) -> Result<Command<'a>, AllocError>
+    ensures app { IfOk result (λ c. app_of c ≡ roll_inputs) }
+    ensures own { IfOk result (λ c. (fields_of c).has_globals ≡ false) }
+{
+    Command::new(alloc, "roll")
+        .about("Finds a plan of least cost, and another one behind each change of a feed")
+        .arg(needed_rule(alloc, "problem", "PROBLEM"))?
+        .arg(feeds(alloc))
+}
+
+/// `roll`, with its arguments.
+fn roll<'a>(alloc: Global) -> Result<Command<'a>, AllocError>
+    ensures app { IfOk result (λ c. app_of c ≡ roll) }
+    ensures own { IfOk result (λ c. (fields_of c).has_globals ≡ false) }
+{
+    with_search(alloc, roll_inputs(alloc)?)?.arg(optional_rule(alloc, "trees", "PREFIX"))
+}
+
 /// The program's command line with `solve` and `verify`.
 fn first_commands<'a>(alloc: Global) -> Result<Command<'a>, AllocError>
     ensures { IfOk result (λ c. app_of c ≡ first_commands) }
@@ -156,5 +207,7 @@ fn more_commands<'a>(alloc: Global) -> Result<Command<'a>, AllocError>
 pub(crate) fn program<'a>(alloc: Global) -> Result<Command<'a>, AllocError>
     ensures { IfOk result (λ c. app_of c ≡ program) }
 {
-    more_commands(alloc)?.subcommand(make(alloc)?)
+    more_commands(alloc)?
+        .subcommand(make(alloc)?)?
+        .subcommand(roll(alloc)?)
 }

@@ -1,15 +1,16 @@
 ghost use Rattle.std.specs.Prelude.{◌≡◌, ◌≤◌, ℕ, List, IfOk, IfErr, MatchOption, map, option_map, string_bytes, codes};
-ghost use Rattle.clap.specs.Words.{found_of, rows_of, subcommand_rows_of, subcommand_of, fault_of, first_of, one_of, HasKind};
+ghost use Rattle.clap.specs.Words.{found_of, rows_of, subcommand_rows_of, subcommand_of, fault_of, all_of, first_of, one_of, HasKind};
+ghost use Rattle.disp_model.specs.declared.limits.TheConstants.{MOST_CALLERS};
 ghost use Rattle.command_words.specs.Program.{program};
 ghost use Rattle.command_words.specs.Task.{IsTask, AreTaken, Names, AskForNoRule, Denies, IsJudge};
-ghost use Rattle.command_words.specs.Task.{IsNumberOr, IsBudget, IsWithin, IsRuleText, NamesNoRule};
-ghost use Rattle.command_words.specs.Task.{name_found};
+ghost use Rattle.command_words.specs.Task.{IsNumberOr, IsBudget, IsWithin, IsWorkers};
+ghost use Rattle.command_words.specs.Task.{IsRuleText, NamesNoRule, name_found, names_found};
 
 use crate::program::program;
-use crate::task::{JudgeTask, MakeTask, SolveTask, Task};
+use crate::task::{JudgeTask, MakeTask, RollTask, SolveTask, Task};
 use clap::error::ErrorKind;
 use clap::{ArgMatches, Error};
-use disp_model::{Rule, Text};
+use disp_model::{List, MOST_CALLERS, Rule, Text};
 use std::alloc::{AllocError, Global};
 
 /// Why the words ask for nothing.
@@ -73,13 +74,24 @@ fn budget(found: &ArgMatches) -> u32
     number_or(found, "budget", 1_000_000)
 }
 
-/// The number of an argument, at most so much.
-fn within(found: &ArgMatches, id: &str, most: u32) -> u32
-    ensures within { IsWithin most (one_of id.now (rows_of (found_of found.now))) result }
+/// The number of an argument, between these two.
+fn within(found: &ArgMatches, id: &str, least: u32, most: u32) -> u32
+    requires { least ≤ most }
+    ensures within { IsWithin least most (one_of id.now (rows_of (found_of found.now))) result }
+    ensures least { least ≤ result }
     ensures most { result ≤ most }
 {
     let said = number_or(found, id, 1);
-    said.min(most)
+    said.clamp(least, most)
+}
+
+/// How many searchers there are to be.
+fn workers(found: &ArgMatches) -> u32
+    ensures workers { IsWorkers (one_of (codes "workers") (rows_of (found_of found.now))) result }
+    ensures some { 1 ≤ result }
+    ensures few { result ≤ MOST_CALLERS }
+{
+    within(found, "workers", 1, MOST_CALLERS)
 }
 
 /// A name that must be given.
@@ -102,6 +114,29 @@ fn optional_name(alloc: Global, found: &ArgMatches, id: &str) -> Result<Option<T
     match value(found, id) {
         Some(text) => Ok(Some(Text::from_string(String::from_str(alloc, text)?))),
         None => Ok(None),
+    }
+}
+
+/// The texts of a slice.
+fn texts(alloc: Global, values: &[&str]) -> Result<List<Text>, AllocError>
+    ensures { IfOk result (λ texts. texts ≡ map (λ text. text.now) values.now) }
+{
+    let mut texts = Vec::with_capacity(alloc, values.len())?;
+    for value in values {
+        texts.push(Text::from_string(String::from_str(alloc, value)?))?;
+    }
+    Ok(List::from_vec(texts))
+}
+
+/// The names of an argument with several ones.
+#[tactic(auto, using(crate::proofs::Rows::all_is))]
+fn names(alloc: Global, found: &ArgMatches, id: &str) -> Result<List<Text>, WordsNo>
+    ensures ok { IfOk result (λ names. names ≡ names_found id.now (rows_of (found_of found.now))) }
+    ensures err { IfErr result (λ no. no ≡ WordsNo.Memory) }
+{
+    match found.get_strs(id) {
+        Some(values) => Ok(texts(alloc, values)?),
+        None => Ok(List::new(alloc)),
     }
 }
 
@@ -154,6 +189,7 @@ fn solve(alloc: Global, found: &ArgMatches) -> Result<Task, WordsNo>
     Ok(Task::Solve(SolveTask {
         problem: name(alloc, found, "problem")?,
         fixings: optional_name(alloc, found, "fixings")?,
+        workers: workers(found),
         budget: budget(found),
         rule,
         plan: optional_name(alloc, found, "plan")?,
@@ -180,8 +216,8 @@ fn make(alloc: Global, found: &ArgMatches) -> Result<Task, WordsNo>
         → Names words (codes "make") (rows_of (found_of found.now)) → IsTask words task) }
     ensures err { IfErr result (λ no. no ≡ WordsNo.Memory) }
 {
-    let number = within(found, "number", 2_147_483_647);
-    let trains = within(found, "trains", 2_000);
+    let number = within(found, "number", 0, 2_147_483_647);
+    let trains = within(found, "trains", 1, 2_000);
     Ok(Task::Make(MakeTask {
         number,
         trains,
@@ -200,6 +236,26 @@ fn check(alloc: Global, found: &ArgMatches) -> Result<Task, WordsNo>
         fixings: optional_name(alloc, found, "fixings")?,
         plan: optional_name(alloc, found, "plan")?,
     })
+}
+
+/// What is asked of `roll`.
+fn roll(alloc: Global, found: &ArgMatches) -> Result<Task, WordsNo>
+    ensures ok { IfOk result (λ task. (words : List (List ℕ)) → AreTaken words
+        → Names words (codes "roll") (rows_of (found_of found.now)) → IsTask words task) }
+    ensures err { IfErr result (λ no. (words : List (List ℕ))
+        → Names words (codes "roll") (rows_of (found_of found.now)) → Denies words no) }
+{
+    let Some(rule) = rule(found) else {
+        return Err(no_rule(alloc));
+    };
+    Ok(Task::Roll(RollTask {
+        problem: name(alloc, found, "problem")?,
+        feeds: names(alloc, found, "feeds")?,
+        workers: workers(found),
+        budget: budget(found),
+        rule,
+        trees: optional_name(alloc, found, "trees")?,
+    }))
 }
 
 /// What clap's matches ask for.
@@ -223,6 +279,9 @@ fn task(alloc: Global, matches: &ArgMatches) -> Result<Task, WordsNo>
     }
     if let Some(found) = matches.subcommand_matches("make") {
         return make(alloc, found);
+    }
+    if let Some(found) = matches.subcommand_matches("roll") {
+        return roll(alloc, found);
     }
     Err(WordsNo::Refused(Text::from_string(String::new(alloc))))
 }

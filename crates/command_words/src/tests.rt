@@ -1,6 +1,6 @@
 // Words are read as clap reads them.
 use crate::{JudgeTask, Task, WordsNo, read_words};
-use disp_model::Rule;
+use disp_model::{List, Rule, Text};
 use std::alloc::Global;
 use std::test::Fail;
 
@@ -10,6 +10,22 @@ fn words(alloc: Global, line: &str) -> Result<Vec<String>, Fail> {
         words.push(String::from_str(alloc, word)?)?;
     }
     Ok(words)
+}
+
+fn listed(alloc: Global, names: &List<Text>) -> Result<String, Fail> {
+    let mut text = String::new(alloc);
+    for name in names.as_slice() {
+        text.push_str(name.as_str())?;
+        text.push('+')?;
+    }
+    Ok(text)
+}
+
+fn named(rule: Rule) -> &'static str {
+    match rule {
+        Rule::Fixed => "fixed",
+        Rule::Free => "free",
+    }
 }
 
 fn judged(alloc: Global, command: &str, task: &JudgeTask) -> Result<String, Fail> {
@@ -24,12 +40,16 @@ fn shown(alloc: Global, task: &Task) -> Result<String, Fail> {
             let fixings = task.fixings.as_ref().map_or("none", |name| name.as_str());
             let plan = task.plan.as_ref().map_or("none", |name| name.as_str());
             let tree = task.tree.as_ref().map_or("none", |name| name.as_str());
-            let (problem, budget) = (task.problem.as_str(), task.budget);
-            let rule = match task.rule {
-                Rule::Fixed => "fixed",
-                Rule::Free => "free",
-            };
-            format!(in alloc; "solve {problem} {fixings} {budget} {rule} {plan} {tree}")?
+            let (problem, rule) = (task.problem.as_str(), named(task.rule));
+            let (workers, budget) = (task.workers, task.budget);
+            format!(in alloc; "solve {problem} {fixings} {workers} {budget} {rule} {plan} {tree}")?
+        }
+        Task::Roll(task) => {
+            let feeds = listed(alloc, &task.feeds)?;
+            let trees = task.trees.as_ref().map_or("none", |name| name.as_str());
+            let (problem, rule) = (task.problem.as_str(), named(task.rule));
+            let (workers, budget) = (task.workers, task.budget);
+            format!(in alloc; "roll {problem} {feeds} {workers} {budget} {rule} {trees}")?
         }
         Task::Check {
             problem,
@@ -77,29 +97,71 @@ fn words_have_their_values(rt: HostRuntime) -> Result<(), Fail> {
     let alloc = rt.alloc();
     assert_eq!(rt;
         read(alloc, "solve P --budget 7 --plan=OUT")?.as_str(),
-        "solve P none 7 free OUT none"
+        "solve P none 1 7 free OUT none"
     );
     assert_eq!(rt;
         read(alloc, "solve --plan OUT P --fixings F")?.as_str(),
-        "solve P F 1000000 free OUT none"
+        "solve P F 1 1000000 free OUT none"
     );
     assert_eq!(rt;
         read(alloc, "solve P --budget 4294967295")?.as_str(),
-        "solve P none 4294967295 free none none"
+        "solve P none 1 4294967295 free none none"
     );
     assert_eq!(rt;
         read(alloc, "solve P --budget 0 --tree T")?.as_str(),
-        "solve P none 0 free none T"
+        "solve P none 1 0 free none T"
     );
     assert_eq!(rt;
         read(alloc, "solve P --rule fixed")?.as_str(),
-        "solve P none 1000000 fixed none none"
+        "solve P none 1 1000000 fixed none none"
     );
     assert_eq!(rt; read(alloc, "verify P S")?.as_str(), "verify P S none");
     assert_eq!(rt;
         read(alloc, "verify P S --fixings F")?.as_str(),
         "verify P S F"
     );
+    Ok(())
+}
+
+#[test]
+fn words_of_searchers_have_their_values(rt: HostRuntime) -> Result<(), Fail> {
+    let alloc = rt.alloc();
+    assert_eq!(rt;
+        read(alloc, "solve P --workers 4")?.as_str(),
+        "solve P none 4 1000000 free none none"
+    );
+    assert_eq!(rt;
+        read(alloc, "solve P --workers 64")?.as_str(),
+        "solve P none 64 1000000 free none none"
+    );
+    assert!(rt; is_refused(alloc, "solve P --workers 0", "0 is not in 1..=64")?);
+    assert!(rt; is_refused(alloc, "solve P --workers 65", "65 is not in 1..=64")?);
+    assert!(rt; is_refused(alloc, "roll P F --workers 0", "0 is not in 1..=64")?);
+    Ok(())
+}
+
+#[test]
+fn words_of_a_run_have_their_values(rt: HostRuntime) -> Result<(), Fail> {
+    let alloc = rt.alloc();
+    assert_eq!(rt;
+        read(alloc, "roll p f g")?.as_str(),
+        "roll p f+g+ 1 1000000 free none"
+    );
+    assert_eq!(rt;
+        read(
+            alloc,
+            "roll p f --trees t --budget 7 --workers 2 --rule fixed"
+        )?
+        .as_str(),
+        "roll p f+ 2 7 fixed t"
+    );
+    assert_eq!(rt;
+        read(alloc, "roll --budget 7 p g --trees t f g")?.as_str(),
+        "roll p g+f+g+ 1 7 free t"
+    );
+    assert!(rt; is_refused(alloc, "roll p", "<FEED>...")?);
+    assert!(rt; is_refused(alloc, "roll p f --rule best", "fixed, free")?);
+    assert!(rt; is_refused(alloc, "roll p f --tree t", "unexpected argument '--tree'")?);
     Ok(())
 }
 
@@ -160,7 +222,7 @@ fn other_words_are_refused(rt: HostRuntime) -> Result<(), Fail> {
     assert!(rt;
         is_refused(
             alloc,
-            "solve P --workers 2",
+            "verify P S --workers 2",
             "unexpected argument '--workers'"
         )?
     );

@@ -22,8 +22,15 @@ returns-clause-err c words rows_are = inl (λ taken.
           | inr rest ↦ elim rest [
             | inl named ↦ unlike (c.in_default-subcommand_matches-3.ensures.found.1
                 (name_is _ _ one.0 (rows_are ∙ named)))
-            | inr named ↦ unlike (c.in_default-subcommand_matches-4.ensures.found.1
-                (name_is _ _ one.0 (rows_are ∙ named)))
+            | inr made ↦ elim made [
+              | inl named ↦ unlike (c.in_default-subcommand_matches-4.ensures.found.1
+                  (name_is _ _ one.0 (rows_are ∙ named)))
+              | inr rolled ↦ elim rolled [
+                | inl named ↦ unlike (c.in_default-subcommand_matches-5.ensures.found.1
+                    (name_is _ _ one.0 (rows_are ∙ named)))
+                | inr none ↦ absurd none
+              ]
+            ]
           ]
         ]
       ]
@@ -41,3 +48,11 @@ returns-in-Some-subcommand_matches-4-clause-ok c = IfOk-weaker c.make.result _ _
     (sym rows_are ∙ named_rows c.args.matches.now _ _
     (c.in-Some-subcommand_matches-4.ensures.found.0 refl)
     c.in-Some-subcommand_matches-4.ensures.rows)) c.make.ensures.ok
+
+pub returns-in-Some-subcommand_matches-5-clause-err :
+    goal.returns-in-Some-subcommand_matches-5-clause-err
+returns-in-Some-subcommand_matches-5-clause-err c = IfErr-weaker c.roll.result _ _
+    (λ no h words rows_are. h words
+    (sym rows_are ∙ named_rows c.args.matches.now _ _
+    (c.in-Some-subcommand_matches-5.ensures.found.0 refl)
+    c.in-Some-subcommand_matches-5.ensures.rows)) c.roll.ensures.err
