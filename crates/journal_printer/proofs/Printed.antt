@@ -1,5 +1,5 @@
 -- Entries that are printed, and more behind them.
-use Rattle.std.proofs.Common.{◌≡◌, ◌∙◌, ◌<◌, ◌≤◌, ℕ, List, [], ◌∷◌, ◌++◌, Option, Result, Ok, Err, refl, sym, ap, subst, inl, inr, arith, append_assoc}
+use Rattle.std.proofs.Common.{◌≡◌, ◌⊎◌, ◌∙◌, ◌<◌, ◌≤◌, ℕ, List, [], ◌∷◌, ◌++◌, Option, Result, Ok, Err, refl, sym, ap, subst, inl, inr, arith, append_assoc}
 use Rattle.std.proofs.lemmas.Grind.{flat_map-append}
 use Rattle.std.proofs.lemmas.Result.{IfErr-weaker, on_ok_weaker}
 use Rattle.disp_model.specs.declared.entry.Entry.{Entry}
@@ -117,12 +117,36 @@ stops_more trees xs ys old mid new first Memory stops = record {
 -- where the printing of the first entries stopped
 stops_first : (trees : Option (List ℕ)) (xs ys : List Entry) (old new : Outside) (why : PrintNo)
     → StopsPrinting trees xs old new why → StopsPrinting trees (xs ++ ys) old new why
-stops_first trees xs ys old new Unput stops =
-    record stops { comes = comes_first xs ys stops.done stops.next stops.comes }
-stops_first trees xs ys old new Unwritten stops =
-    record stops { comes = comes_first xs ys stops.done stops.next stops.comes }
-stops_first trees xs ys old new Memory stops =
-    record stops { comes = comes_first xs ys stops.done stops.next stops.comes }
+stops_first trees xs ys old new Unput stops = record {
+  done = stops.done;
+  next = stops.next;
+  comes = comes_first xs ys stops.done stops.next stops.comes;
+  written = stops.written;
+  faults = stops.faults;
+  before = stops.before;
+  puts = stops.puts;
+  misses = stops.misses;
+}
+stops_first trees xs ys old new Unwritten stops = record {
+  done = stops.done;
+  next = stops.next;
+  comes = comes_first xs ys stops.done stops.next stops.comes;
+  before = stops.before;
+  written = stops.written;
+  part = stops.part;
+  fault = stops.fault;
+  puts = stops.puts;
+  putting = stops.putting;
+}
+stops_first trees xs ys old new Memory stops = record {
+  done = stops.done;
+  next = stops.next;
+  comes = comes_first xs ys stops.done stops.next stops.comes;
+  written = stops.written;
+  faults = stops.faults;
+  puts = stops.puts;
+  putting = stops.putting;
+}
 
 pub printed_all : (trees : Option (List ℕ)) (xs : List Entry) (old new : Outside)
     → PrintsAll trees xs old new → Prints trees xs old new (Ok tt)

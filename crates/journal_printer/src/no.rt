@@ -1,4 +1,5 @@
 ghost use Rattle.std.specs.Prelude.{◌≡◌};
+ghost use Rattle.journal_printer.specs.declared.no.PrintNo.TheVariants.{Memory as OutOfMemory};
 ghost use Rattle.journal_printer.specs.Causes.{of_put, of_write};
 
 use disp_model::Memory;
@@ -16,7 +17,7 @@ pub enum PrintNo {
 }
 
 impl From<Memory> for PrintNo {
-    ghost from_gives = { λ _ no. no ≡ PrintNo.Memory };
+    ghost from_gives = { λ _ no. no ≡ OutOfMemory };
 
     fn from(_refused: Memory) -> PrintNo {
         PrintNo::Memory

@@ -1,4 +1,4 @@
-ghost use Rattle.std.specs.Prelude.{◌≡◌, ◌<◌, ◌≤◌, ◌↔◌, ℕ, List, OnOk, IsErrOf, option_map};
+ghost use Rattle.std.specs.Prelude.{◌≡◌, ◌<◌, ◌≤◌, ◌↔◌, ℕ, List, [], ◌∷◌, OnOk, IsErrOf, option_map};
 ghost use Rattle.disp_outside.specs.Sink.{WritesPart};
 ghost use Rattle.fixing_lines.specs.Entries.{entry_text};
 ghost use Rattle.text_puts.specs.Outside.{outside, Writes};
@@ -22,10 +22,10 @@ fn put_tree<S: Shelf>(
     entry: &Entry,
 ) -> Result<(), PutNo>
     ensures ok { OnOk result
-        (StandsAfter (entry_puts (option_map (λ prefix. prefix.now) trees) entry.now)
+        (StandsAfter (entry_puts (option_map (λ prefix. prefix.now) trees.entry) entry.now)
         (S.holds shelf.old) (S.holds shelf.new)) }
     ensures failed { IsErrOf result PutNo.Failed
-        → PutMisses (entry_puts (option_map (λ prefix. prefix.now) trees) entry.now)
+        → PutMisses (entry_puts (option_map (λ prefix. prefix.now) trees.entry) entry.now)
         (S.holds shelf.old) (S.holds shelf.new)
         (S.putting_faults shelf.old) (S.putting_faults shelf.new) }
     ensures memory { IsErrOf result PutNo.Memory
@@ -33,7 +33,7 @@ fn put_tree<S: Shelf>(
     ensures risen { (name : List ℕ) → S.putting_faults shelf.old name
         < S.putting_faults shelf.new name → IsErrOf result PutNo.Failed }
     ensures others { (name : List ℕ)
-        → PutsOnly (entry_puts (option_map (λ prefix. prefix.now) trees) entry.now)
+        → PutsOnly (entry_puts (option_map (λ prefix. prefix.now) trees.entry) entry.now)
         (S.holds shelf.old) (S.holds shelf.new)
         (S.putting_faults shelf.old) (S.putting_faults shelf.new) name }
     ensures readings { (name : List ℕ) → S.reading_faults shelf.new name
@@ -74,7 +74,7 @@ fn print_entry<S: Shelf, O: Sink>(
     trees: Option<&Text>,
     entry: &Entry,
 ) -> Result<(), PrintNo>
-    ensures { Prints (option_map (λ prefix. prefix.now) trees) (entry.now ∷ [])
+    ensures { Prints (option_map (λ prefix. prefix.now) trees.entry) (entry.now ∷ [])
         (outside (S.holds shelf.old) (S.reading_faults shelf.old) (S.putting_faults shelf.old)
         (O.faults out.old) (O.written out.old))
         (outside (S.holds shelf.new) (S.reading_faults shelf.new) (S.putting_faults shelf.new)
@@ -104,7 +104,7 @@ pub fn print_entries<S: Shelf, O: Sink>(
     trees: Option<&Text>,
     entries: &[Entry],
 ) -> Result<(), PrintNo>
-    ensures { Prints (option_map (λ prefix. prefix.now) trees) entries.now
+    ensures { Prints (option_map (λ prefix. prefix.now) trees.entry) entries.now
         (outside (S.holds shelf.old) (S.reading_faults shelf.old) (S.putting_faults shelf.old)
         (O.faults out.old) (O.written out.old))
         (outside (S.holds shelf.new) (S.reading_faults shelf.new) (S.putting_faults shelf.new)
