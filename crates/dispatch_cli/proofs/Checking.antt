@@ -18,7 +18,8 @@ use Rattle.dispatch_cli.specs.declared.cause.Cause.{Cause}
 use Rattle.dispatch_cli.specs.declared.cause.Cause.TheVariants.{Words, Failed, TooLong, NoProblem, NoSolution, BadLine, NoTree, WrongEdition, NoPlan, Memory}
 use Rattle.dispatch_cli.specs.declared.cause.Input.{Input}
 use Rattle.dispatch_cli.specs.declared.cause.Input.TheVariants as input
-use Rattle.dispatch_cli.specs.Outside.{Holdings, Counts, ReadsOne, ReadsNames, IsBehind, IsName, IsGiven, IsOneOfFour}
+use Rattle.text_puts.specs.Outside.{Holdings, Counts}
+use Rattle.dispatch_cli.specs.Outside.{ReadsOne, ReadsNames, IsBehind, IsName, IsGiven, IsOneOfFour}
 use Rattle.dispatch_cli.specs.Files.{IsProblemFile, IsTreeFile, IsPlanFile, AreFixings, AreOfEdition, AreChangesTaken, HasFixings}
 use Rattle.dispatch_cli.specs.Answers.{IsCheckedWithPlan, IsCheckedFile}
 use Rattle.dispatch_cli.specs.Causes.{StopsTree, StopsGivenPlan, StopsTask, TakesProblem, TakesTree, CountsTask, input_name}

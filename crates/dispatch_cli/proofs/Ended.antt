@@ -5,11 +5,11 @@ use Rattle.disp_model.specs.declared.entry.Entry.{Entry}
 use Rattle.dispatch_cli.specs.declared.answer.Answer.{Answer}
 use Rattle.dispatch_cli.specs.declared.cause.Cause.{Cause}
 use Rattle.dispatch_cli.specs.declared.cause.Cause.TheVariants.{Words, Failed, TooLong, NoProblem, NoSolution, BadLine, NoTree, WrongEdition, NoPlan, Memory}
-use Rattle.dispatch_cli.specs.Outside.{Counts, Outside}
+use Rattle.text_puts.specs.Outside.{Counts, Outside}
 use Rattle.dispatch_cli.specs.Answers.{IsAnswer}
 use Rattle.dispatch_cli.specs.Causes.{StopsRun, IsAnswerStatus, status_of}
 use Rattle.dispatch_cli.specs.Endings.{EndsFailed, GivesUp, PutsNothing, PutFails, WriteFails, WriteGivesUp, PutGivesUp, Halts, ReadsWell}
-use Rattle.dispatch_cli.proofs.Puttings.{stands_before, some_before, misses_before}
+use Rattle.text_puts.proofs.Puttings.{stands_before, some_before, misses_before}
 
 -- a putting or a write of an answer failed; between the run and the putting no count of puttings changed
 pub fails_of_answer : (words : List (List ℕ)) (old mid new : Outside) (answer : Answer) (journal : List Entry) → IsAnswer words old.holds answer → journal ≡ answer.journal

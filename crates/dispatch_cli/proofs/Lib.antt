@@ -3,5 +3,4 @@ mod Searched
 mod Shown
 mod Stopped
 mod Checking
-mod Puttings
 mod Ended

@@ -14,7 +14,7 @@ use Rattle.dispatch_cli.specs.declared.answer.Answer.{Answer}
 use Rattle.solved_problems.specs.Promised.{Promises}
 use Rattle.solved_problems.specs.Solved.{IsSearched, MayBeAsked}
 use Rattle.solved_problems.proofs.Marks.{marks_say}
-use Rattle.dispatch_cli.specs.Outside.{Holdings}
+use Rattle.text_puts.specs.Outside.{Holdings}
 use Rattle.dispatch_cli.specs.Files.{AreAsked}
 use Rattle.dispatch_cli.specs.Answers.{status_of_mark, best_plan, puts_of, IsFinished, IsSolved}
 use Rattle.dispatch_cli.specs.Settled.{settled_tree, ShowsMark}
@@ -80,11 +80,3 @@ solved_is problem task asked history standing answer searched stands journal sta
       puts = puts ∙ ap (λ (h : List Entry). puts_of task standing.edition
           (best_plan standing (last_plan h)) (settled_tree standing.edition h)) (sym journal);
     }
-
--- one more entry
-pub one_more : {X : Type 0} (xs : List X) (i : ℕ) (x : X) → i < length xs → x ≡ get_or xs i x
-    → take (i + 1) xs ≡ take i xs ++ x ∷ []
-one_more {X = X} xs i x within is =
-    let one : suc i ≡ i + 1 = omega arith in
-    ap (λ (n : ℕ). take n xs) (sym one) ∙ take-suc xs i x within
-    ∙ ap (λ (y : X). take i xs ++ y ∷ []) (sym is)

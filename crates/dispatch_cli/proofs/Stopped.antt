@@ -16,7 +16,8 @@ use Rattle.dispatch_cli.specs.declared.judge.Telling.{Telling}
 use Rattle.dispatch_cli.specs.declared.cause.Cause.{Cause}
 use Rattle.dispatch_cli.specs.declared.cause.Cause.TheVariants.{Words, Failed, TooLong, NoProblem, NoSolution, BadLine, NoTree, WrongEdition, NoPlan, Memory}
 use Rattle.dispatch_cli.specs.declared.cause.Input.TheVariants as input
-use Rattle.dispatch_cli.specs.Outside.{Holdings, Counts, IsFile, HoldsTooMuch, ReadsOne, ReadsNames, IsBehind, IsName, IsProblemOrFixings, IsOneOfThree}
+use Rattle.text_puts.specs.Outside.{Holdings, Counts}
+use Rattle.dispatch_cli.specs.Outside.{IsFile, HoldsTooMuch, ReadsOne, ReadsNames, IsBehind, IsName, IsProblemOrFixings, IsOneOfThree}
 use Rattle.dispatch_cli.specs.Files.{IsProblemFile, IsRefusedLine, AreAsked, AreFixings, HasFixings}
 use Rattle.disp_outside.specs.Lines.{HasLinesOf}
 use Rattle.disp_model.specs.declared.fixing.Change.{Change}
@@ -28,14 +29,6 @@ use Rattle.dispatch_cli.specs.Causes.{StopsProblem, StopsSolve, StopsSolution, S
 
 different : false ≡ true → ⊥
 different e = cc
-
--- a count that does not fall for one name, and stays for the others, falls for none
-pub never_falls : (one : List ℕ) (old new : Counts) → old one ≤ new one → ((other : List ℕ) → other ≢ one → new other ≡ old other) → (name : List ℕ) → old name ≤ new name
-never_falls one old new counted others name = go (bytes_eq name one) (bytes_eq-Decides name one)
-  where
-    go : (b : Bool) → Decides b (name ≡ one) → old name ≤ new name
-    go true same = rw (same.0 refl) counted
-    go false unlike = omega (arith, others name (λ e. different (unlike.1 e)))
 
 -- where the files of a problem to be solved are read, the counts of other names stay
 pub counts_of_two : (task : SolveTask) (old new : Counts)

@@ -33,11 +33,12 @@ use Rattle.dispatch_cli.specs.declared.judge.Telling.{Telling}
 use Rattle.dispatch_cli.specs.declared.judge.Telling.TheVariants.{Cost, Table}
 use Rattle.dispatch_reports.specs.Tables.{report_lines}
 use Rattle.instance_maker.specs.Made.{IsMade}
-use Rattle.dispatch_cli.specs.declared.answer.Put.{Put}
-use Rattle.dispatch_cli.specs.Outside.{Holdings}
+use Rattle.journal_printer.specs.Journal.{tree_file}
+use Rattle.text_puts.specs.declared.put.Put.{Put}
+use Rattle.text_puts.specs.Outside.{Holdings}
 use Rattle.dispatch_cli.specs.Files.{IsProblemFile, IsSolutionFile, AreAsked, AreFixings, AreOfEdition, IsTreeFile, IsPlanFile}
 use Rattle.dispatch_cli.specs.Settled.{settled_tree, ShowsMark}
-use Rattle.dispatch_cli.specs.Texts.{answer_lines, made_lines, plan_line, tree_file, problem_file, valid_line, fault_line, accepted_line, refused_line, plan_fault_line, no_plan_line}
+use Rattle.dispatch_cli.specs.Texts.{answer_lines, made_lines, plan_line, problem_file, valid_line, fault_line, accepted_line, refused_line, plan_fault_line, no_plan_line}
 
 -- the status for a mark
 abbrev pub status_of_mark : Mark → ℕ
@@ -215,11 +216,6 @@ pub record IsAnswer (words : List (List ℕ)) (holds : Holdings) (answer : Answe
   pub task : Task
   pub asked : IsTask words task
   pub answers : AnswersTask holds task answer
-
--- one of these puts is under the name
-abbrev pub PutsUnder : List ℕ → List Put → Type 0
-PutsUnder name [] = ⊥
-PutsUnder name (put ∷ puts) = (put.name ≡ name) ⊎ PutsUnder name puts
 
 -- the words give the name to be written, and there is something to put under it
 pub record IsDuePut (words : List (List ℕ)) (holds : Holdings) (name : List ℕ) : Type 0 where

@@ -29,7 +29,8 @@ use Rattle.dispatch_cli.specs.declared.cause.Cause.{Cause}
 use Rattle.dispatch_cli.specs.declared.cause.Cause.TheVariants.{Words, Failed, TooLong, NoProblem, NoSolution, BadLine, NoTree, WrongEdition, NoPlan, Memory}
 use Rattle.dispatch_cli.specs.declared.cause.Input.{Input}
 use Rattle.dispatch_cli.specs.declared.cause.Input.TheVariants as input
-use Rattle.dispatch_cli.specs.Outside.{Holdings, Counts, IsFile, HoldsTooMuch, IsBehind}
+use Rattle.text_puts.specs.Outside.{Holdings, Counts}
+use Rattle.dispatch_cli.specs.Outside.{IsFile, HoldsTooMuch, IsBehind}
 use Rattle.dispatch_cli.specs.Texts.{line}
 use Rattle.dispatch_cli.specs.Files.{IsProblemFile, HasFixings, IsRefusedLine, AreOfEdition, IsTreeNamed, IsTreeFile}
 

@@ -4,43 +4,14 @@ use Rattle.std.specs.List.{concat}
 use Rattle.disp_outside.specs.Sink.{WritesPart}
 use Rattle.disp_model.specs.declared.entry.Entry.{Entry}
 use Rattle.dispatch_cli.specs.declared.answer.Answer.{Answer}
-use Rattle.dispatch_cli.specs.declared.answer.Put.{Put}
+use Rattle.text_puts.specs.declared.put.Put.{Put}
 use Rattle.dispatch_cli.specs.declared.cause.Cause.{Cause}
 use Rattle.dispatch_cli.specs.declared.cause.Cause.TheVariants.{Failed, Memory}
 use Rattle.dispatch_cli.specs.declared.cause.Input.{Input}
-use Rattle.dispatch_cli.specs.Outside.{Outside, Holdings, HoldsBytes, Counts, Writes}
-use Rattle.dispatch_cli.specs.Answers.{IsAnswer, IsDuePut, PutsUnder}
+use Rattle.text_puts.specs.Outside.{Outside, Holdings, HoldsBytes, Counts, Writes}
+use Rattle.text_puts.specs.Puts.{PutsUnder}
+use Rattle.dispatch_cli.specs.Answers.{IsAnswer, IsDuePut}
 use Rattle.dispatch_cli.specs.Causes.{StopsRun, IsReadingFault, line_of, due_line, status_of}
-
--- what names hold behind these puts, one after the other, as far as is told: each put's name its bytes,
--- unless a later one is under the same name
-abbrev pub HoldTexts : List Put → Holdings → Type 0
-HoldTexts [] holds = Unit {0}
-HoldTexts (put ∷ puts) holds =
-    ((PutsUnder put.name puts → ⊥) → HoldsBytes holds put.name put.bytes) × HoldTexts puts holds
-
--- and every other name what it held
-pub record StandsAfter (puts : List Put) (old new : Holdings) : Type 0 where
-  pub texts : HoldTexts puts new
-  pub others : (name : List ℕ) → (PutsUnder name puts → ⊥) → new name ≡ old name
-
--- so many of these puts were done
-pub record PutsSome (puts : List Put) (old new : Holdings) : Type 0 where
-  pub done : List Put
-  pub put : Put
-  pub rest : List Put
-  pub parts : puts ≡ done ++ put ∷ rest
-  pub stands : StandsAfter done old new
-
--- and the next one failed, which was counted under its name: there may be anything now, and all other
--- names hold what they held before it
-pub record PutMisses (puts : List Put) (old new : Holdings) (old_counts new_counts : Counts) :
-    Type 0 where
-  pub before : Holdings
-  pub some : PutsSome puts old before
-  pub held : (name : List ℕ) → name ≢ some.put.name → new name ≡ before name
-  pub fault : old_counts some.put.name < new_counts some.put.name
-  pub counts : (name : List ℕ) → name ≢ some.put.name → new_counts name ≡ old_counts name
 
 -- status 0, 1 or 3: what was to be put is held, and the lines of the answer were written
 pub record EndsAnswered (words : List (List ℕ)) (old new : Outside) (status : ℕ) (journal : List Entry) : Type 0 where
@@ -202,10 +173,3 @@ pub record Publishes (answer : Answer) (old new : Outside) (status : ℕ) : Type
   pub quiet : status ≢ 4 → status ≢ 5 → new.faults ≡ old.faults
   pub failed : status ≡ 4 → PutFails answer old new ⊎ WriteFails answer old new
   pub memory : status ≡ 5 → WriteGivesUp answer old new ⊎ PutGivesUp answer old new
-
--- a name under which nothing is put keeps its count of failed puttings, and what it holds; its count
--- never falls
-pub record PutsOnly (puts : List Put) (old_holds new_holds : Holdings) (old_counts new_counts : Counts) (name : List ℕ) : Type 0 where
-  pub never_falls : old_counts name ≤ new_counts name
-  pub stays : (PutsUnder name puts → ⊥) → new_counts name ≡ old_counts name
-  pub held : (PutsUnder name puts → ⊥) → new_holds name ≡ old_holds name

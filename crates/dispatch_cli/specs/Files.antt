@@ -15,7 +15,8 @@ use Rattle.displib_reader.specs.Outcome.{IsReadAs}
 use Rattle.solution_text.specs.Reading.{IsReadAsSolution}
 use Rattle.fixing_files.specs.declared.take.LineNo.{LineNo}
 use Rattle.fixing_files.specs.Files.{TakesAll, StopsAt, TakesInTurn, AskInTurn}
-use Rattle.dispatch_cli.specs.Outside.{Holdings, IsFile}
+use Rattle.text_puts.specs.Outside.{Holdings}
+use Rattle.dispatch_cli.specs.Outside.{IsFile}
 
 -- the name's file is that of a problem
 pub record IsProblemFile (holds : Holdings) (name : List ℕ) (problem : Problem) : Type 0 where

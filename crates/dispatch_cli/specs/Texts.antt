@@ -26,10 +26,6 @@ line text = text ++ codes "\n"
 abbrev pub plan_line : List Event × ℕ → List ℕ
 plan_line plan = line (solution_text plan.0 plan.1)
 
--- the text of the tree of an edition, as a file
-abbrev pub tree_file : ℕ → Verdict × List TreeNode → List ℕ
-tree_file edition settled = tree_text edition settled.0 settled.1
-
 -- the line of a plan, where there is one
 abbrev pub plan_lines : Option (List Event × ℕ) → List (List ℕ)
 plan_lines None = []

@@ -1,13 +1,5 @@
-use disp_model::{Entry, List, Text};
-
-/// What is to be put on the shelf.
-#[derive(Drop)]
-pub struct Put {
-    /// The name of the file.
-    pub name: Text,
-    /// What the file is to hold.
-    pub bytes: List<u8>,
-}
+use disp_model::{Entry, List};
+use text_puts::Put;
 
 /// What a task comes to, before anything of it is put or written.
 #[derive(Drop)]

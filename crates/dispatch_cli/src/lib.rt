@@ -23,7 +23,7 @@ mod run;
 mod solve;
 mod tree_lines;
 
-pub use answer::{Answer, Put};
+pub use answer::Answer;
 pub use cause::{Cause, Input};
 pub use done::Done;
 pub use judge::Telling;

@@ -9,7 +9,7 @@ ghost use Rattle.dispatch_cli.specs.Answers.{AnswersMake, made_settings, put_und
 ghost use Rattle.dispatch_cli.specs.Causes.{IsAnswerStatus, IsWant};
 ghost use Rattle.dispatch_cli.specs.Texts.{made_lines, problem_file};
 
-use crate::answer::{Answer, Put};
+use crate::answer::Answer;
 use crate::cause::Cause;
 use crate::lines::{operations_line, trains_line};
 use crate::solve::{status_of, verdict_line};
@@ -20,6 +20,7 @@ use instance_maker::make;
 use problem_text::write_problem;
 use solved_problems::solve;
 use std::alloc::Global;
+use text_puts::Put;
 
 /// How many operations the trains have.
 fn operation_count(problem: &Problem) -> u128

@@ -2,7 +2,7 @@ ghost use Rattle.std.specs.Prelude.{◌≡◌, ◌≤◌, ◌<◌, ◌↔◌, �
 ghost use Rattle.std.specs.List.{concat};
 ghost use Rattle.disp_outside.specs.Sink.{WritesPart};
 ghost use Rattle.dispatch_cli.specs.declared.cause.Cause.TheVariants.{Memory as OutOfMemory};
-ghost use Rattle.dispatch_cli.specs.Outside.{Writes};
+ghost use Rattle.text_puts.specs.Outside.{Writes};
 ghost use Rattle.dispatch_cli.specs.Causes.{line_of, IsAnswerStatus};
 ghost use Rattle.dispatch_cli.specs.Endings.{Finishes, Halts};
 

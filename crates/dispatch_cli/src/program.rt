@@ -1,37 +1,18 @@
 ghost use Rattle.std.specs.Prelude.{◌≡◌, ◌≢◌, ◌≤◌, ◌<◌, ◌⊎◌, ℕ, List, OnOk, IsErrOf, map, string_bytes};
-ghost use Rattle.dispatch_cli.specs.Outside.{FailsOfOne, outside};
+ghost use Rattle.text_puts.specs.Outside.{outside};
+ghost use Rattle.dispatch_cli.specs.Outside.{FailsOfOne};
 ghost use Rattle.dispatch_cli.specs.Answers.{IsDuePut};
 ghost use Rattle.dispatch_cli.specs.Causes.{CountsReading, IsAnswerStatus};
-ghost use Rattle.dispatch_cli.specs.Endings.{EndsAnswered, EndsRefused, EndsFailed, GivesUp, CountsPutting, Publishes, PutsOnly, PutMisses, PutsSome, StandsAfter};
+ghost use Rattle.text_puts.specs.Puts.{PutsOnly, PutMisses, PutsSome, StandsAfter};
+ghost use Rattle.dispatch_cli.specs.Endings.{EndsAnswered, EndsRefused, EndsFailed, GivesUp, CountsPutting, Publishes};
 
-use crate::answer::{Answer, Put};
+use crate::answer::Answer;
 use crate::done::Done;
 use crate::print::{finish, give_up, stop};
 use crate::run::run;
 use disp_outside::{Gate, PutNo, Shelf, Sink};
 use std::alloc::Global;
-
-/// Puts one text after the other, up to the first that is not put.
-fn put_all<S: Shelf>(alloc: Global, shelf: &mut S, puts: &[Put]) -> Result<(), PutNo>
-    ensures ok { OnOk result (StandsAfter puts.now (S.holds shelf.old) (S.holds shelf.new)) }
-    ensures failed { IsErrOf result PutNo.Failed
-        → PutMisses puts.now (S.holds shelf.old) (S.holds shelf.new)
-        (S.putting_faults shelf.old) (S.putting_faults shelf.new) }
-    ensures memory { IsErrOf result PutNo.Memory
-        → PutsSome puts.now (S.holds shelf.old) (S.holds shelf.new) }
-    ensures risen { (name : List ℕ) → S.putting_faults shelf.old name
-        < S.putting_faults shelf.new name → IsErrOf result PutNo.Failed }
-    ensures others { (name : List ℕ)
-        → PutsOnly puts.now (S.holds shelf.old) (S.holds shelf.new)
-        (S.putting_faults shelf.old) (S.putting_faults shelf.new) name }
-    ensures readings { (name : List ℕ) → S.reading_faults shelf.new name
-        ≡ S.reading_faults shelf.old name }
-{
-    for due in puts {
-        shelf.put(alloc, due.name.as_str(), due.bytes.as_slice())?;
-    }
-    Ok(())
-}
+use text_puts::put_all;
 
 /// Puts what is to be put, and then writes the lines of an answer.
 fn publish<S: Shelf, O: Sink>(alloc: Global, shelf: &mut S, out: &mut O, answer: &Answer) -> u8

@@ -8,9 +8,10 @@ ghost use Rattle.solved_problems.specs.Solved.{IsSearched, MayBeAsked};
 ghost use Rattle.dispatch_cli.specs.Answers.{IsSolved, put_under, puts_of, status_of_mark};
 ghost use Rattle.dispatch_cli.specs.Causes.{IsAnswerStatus, IsWant};
 ghost use Rattle.dispatch_cli.specs.Texts.{edition_line, verdict_line, plan_line, plan_lines};
-ghost use Rattle.dispatch_cli.specs.Texts.{answer_lines, tree_file};
+ghost use Rattle.dispatch_cli.specs.Texts.{answer_lines};
+ghost use Rattle.journal_printer.specs.Journal.{tree_file};
 
-use crate::answer::{Answer, Put};
+use crate::answer::Answer;
 use crate::cause::Cause;
 use crate::journal::{best_plan, settled_tree};
 use crate::lines::{edition_line, infeasible_line, optimal_line, plan_line, unfinished_line};
@@ -19,9 +20,10 @@ use disp_model::{
     Change, Copied, List, Mark, Memory, Plan, Problem, Standing, Text, Tree, Verdict,
 };
 use dispatch_core::Core;
+use journal_printer::tree_file;
 use solved_problems::solve as solve_problem;
 use std::alloc::Global;
-use tree_certificate::write_tree;
+use text_puts::Put;
 
 /// The lines of an edition, of its verdict, and of a plan where there is one.
 fn lines_with(
@@ -93,15 +95,6 @@ fn push_plan(
         }),
         _ => Ok(()),
     }
-}
-
-/// The text of the tree of an edition, as a file.
-fn tree_file(alloc: Global, edition: u32, verdict: Verdict, tree: &Tree) -> Result<List<u8>, Memory>
-    ensures { IfOk result (λ bytes. bytes ≡ tree_file edition (verdict, tree.now)) }
-{
-    let text = write_tree(alloc, edition, &verdict, tree)?;
-    let bytes = text.as_str().as_bytes().to_vec(alloc)?;
-    Ok(List::from_vec(bytes))
 }
 
 /// Adds what is to be put of a tree, where it is asked for and there is one.

@@ -2,7 +2,7 @@ use Rattle.std.proofs.Common.{◌∙◌, List, take, sym, ap}
 use Rattle.disp_model.specs.declared.entry.Entry.{Entry}
 use Rattle.disp_model.specs.History.{plan_after, last_plan}
 use Rattle.history_laws.proofs.Appended.{plan_more}
-use Rattle.dispatch_cli.proofs.Searched.{one_more}
+use Rattle.text_puts.proofs.Counting.{one_more}
 use Rattle.dispatch_cli.proofs.journal.last_plan.Goals as goal
 
 pub loop-entry-preserved : goal.loop-entry-preserved

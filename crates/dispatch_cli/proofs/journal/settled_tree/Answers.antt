@@ -2,7 +2,7 @@ use Rattle.std.proofs.Common.{◌∙◌, List, take, sym, ap}
 use Rattle.disp_model.specs.declared.entry.Entry.{Entry}
 use Rattle.dispatch_cli.specs.Settled.{tree_after, settled_tree}
 use Rattle.dispatch_cli.proofs.Shown.{tree_more}
-use Rattle.dispatch_cli.proofs.Searched.{one_more}
+use Rattle.text_puts.proofs.Counting.{one_more}
 use Rattle.dispatch_cli.proofs.journal.settled_tree.Goals as goal
 
 pub loop-entry-preserved : goal.loop-entry-preserved

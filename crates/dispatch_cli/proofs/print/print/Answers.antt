@@ -1,6 +1,7 @@
 use Rattle.std.proofs.Common.{ap, Err, ◌∙◌}
 use Rattle.std.proofs.lemmas.Result.{err_from_is_err_and}
-use Rattle.dispatch_cli.proofs.Printed.{part_of_lines, lines_more, stays}
+use Rattle.text_puts.proofs.Counting.{stays}
+use Rattle.dispatch_cli.proofs.Printed.{part_of_lines, lines_more}
 use Rattle.dispatch_cli.proofs.print.print.Goals as goal
 
 pub returns-in_err-write-clause-err : goal.returns-in_err-write-clause-err

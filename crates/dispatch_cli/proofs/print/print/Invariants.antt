@@ -1,7 +1,7 @@
 -- the lines so far went out, and no write failed
 use Rattle.std.proofs.Common.{◌≡◌, take}
 use Rattle.std.specs.List.{concat}
-use Rattle.dispatch_cli.specs.Outside.{Writes}
+use Rattle.text_puts.specs.Outside.{Writes}
 use Rattle.dispatch_cli.proofs.print.print.Given as goal
 
 abbrev pub invariant-loop-line : goal.invariant-loop-line

@@ -1,6 +1,6 @@
 use Rattle.std.proofs.Common.{◌≡◌, map, string_bytes, refl}
-use Rattle.dispatch_cli.specs.Outside.{outside}
-use Rattle.dispatch_cli.proofs.Puttings.{stands_before}
+use Rattle.text_puts.specs.Outside.{outside}
+use Rattle.text_puts.proofs.Puttings.{stands_before}
 use Rattle.dispatch_cli.proofs.Ended.{fails_of_answer, fails_of_stop, gives_up_of_answer, read_well, not_answer_four, not_answer_five, of_answer}
 use Rattle.dispatch_cli.proofs.program.dispatch.Goals as goal
 

@@ -4,7 +4,8 @@ use Rattle.disp_model.specs.Changes.{standing_of}
 use Rattle.disp_model.specs.Replies.{IsEdition}
 use Rattle.dispatch_cli.specs.Outside.{IsName, IsOneOfTwo}
 use Rattle.dispatch_cli.specs.Files.{IsFixingsTaken}
-use Rattle.dispatch_cli.proofs.Stopped.{never_falls, stops_solution, stops_fixings, judged_file_before, reads_of_one, reads_then, reads_among}
+use Rattle.text_puts.proofs.Counting.{never_falls}
+use Rattle.dispatch_cli.proofs.Stopped.{stops_solution, stops_fixings, judged_file_before, reads_of_one, reads_then, reads_among}
 use Rattle.dispatch_cli.proofs.run.judge_with.Goals as goal
 
 among : (one two name : List ℕ) → IsName one name ⊎ IsName two name → IsOneOfTwo (Some one) two name

@@ -2,7 +2,8 @@ use Rattle.std.proofs.Common.{inl, inr}
 use Rattle.std.proofs.lemmas.Result.{IfOk-weaker, IfErr-weaker}
 use Rattle.dispatch_cli.specs.Files.{IsProblemFile}
 use Rattle.dispatch_cli.specs.Outside.{IsName, IsOneOfTwo, IsOneOfThree}
-use Rattle.dispatch_cli.proofs.Stopped.{never_falls, stops_judging, judged_file_before, fixings_before, reads_of_one, reads_then, reads_among}
+use Rattle.text_puts.proofs.Counting.{never_falls}
+use Rattle.dispatch_cli.proofs.Stopped.{stops_judging, judged_file_before, fixings_before, reads_of_one, reads_then, reads_among}
 use Rattle.dispatch_cli.proofs.run.run_judge.Goals as goal
 
 pub returns-in-Ok-clause-ok : goal.returns-in-Ok-clause-ok

@@ -2,7 +2,8 @@ use Rattle.std.proofs.Common.{inl, inr}
 use Rattle.std.proofs.lemmas.Result.{IfOk-weaker, IfErr-weaker}
 use Rattle.dispatch_cli.specs.Files.{IsProblemFile}
 use Rattle.dispatch_cli.specs.Outside.{IsName, IsGiven, IsProblemOrFixings}
-use Rattle.dispatch_cli.proofs.Stopped.{never_falls, given_before, asked_before, reads_of_one, reads_then, reads_among}
+use Rattle.text_puts.proofs.Counting.{never_falls}
+use Rattle.dispatch_cli.proofs.Stopped.{given_before, asked_before, reads_of_one, reads_then, reads_among}
 use Rattle.dispatch_cli.proofs.run.run_solve.Goals as goal
 
 pub returns-in-Ok-clause-ok : goal.returns-in-Ok-clause-ok

@@ -1,12 +1,11 @@
 use Rattle.std.proofs.Common.{◌≡◌, ◌∙◌, List, Err, true, subst, refl, sym, ap, take}
 use Rattle.std.proofs.lemmas.Result.{err_from_is_err_and}
 use Rattle.disp_outside.specs.declared.shelf.PutNo.TheVariants.{Failed, Memory}
-use Rattle.dispatch_cli.specs.declared.answer.Put.{Put}
-use Rattle.dispatch_cli.specs.Endings.{StandsAfter}
-use Rattle.dispatch_cli.proofs.Printed.{stays}
-use Rattle.dispatch_cli.proofs.Puttings.{stands_next, same_all, next_fails, misses_at, unput_at, only_at}
-use Rattle.dispatch_cli.proofs.Searched.{one_more}
-use Rattle.dispatch_cli.proofs.program.put_all.Goals as goal
+use Rattle.text_puts.specs.declared.put.Put.{Put}
+use Rattle.text_puts.specs.Puts.{StandsAfter}
+use Rattle.text_puts.proofs.Counting.{stays, one_more, same_all}
+use Rattle.text_puts.proofs.Puttings.{stands_next, next_fails, misses_at, unput_at, only_at}
+use Rattle.text_puts.proofs.putting.put_all.Goals as goal
 
 pub returns-in_err-put-clause-failed : goal.returns-in_err-put-clause-failed
 returns-in_err-put-clause-failed g c is =

@@ -1,24 +1,25 @@
 -- Texts that are put one after the other.
-use Rattle.std.proofs.Common.{◌≡◌, ◌≢◌, ◌∙◌, ◌<◌, ◌≤◌, ℕ, suc, zero, Bool, true, false, List, [], ◌∷◌, ◌++◌, length, take, drop, get_or, Option, Some, refl, sym, ap, subst, inl, inr, arith}
+use Rattle.std.proofs.Common.{◌≡◌, ◌≢◌, ◌∙◌, ◌<◌, ◌≤◌, ℕ, suc, List, [], ◌∷◌, ◌++◌, length, take, drop, get_or, Option, Some, refl, sym, ap, subst, inl, inr, arith}
 use Rattle.std.specs.Prelude.{IfSome}
-use Rattle.std.specs.Bool.{Decides}
-use Rattle.std.specs.Str.{bytes_eq}
-use Rattle.std.proofs.lemmas.Slice.Eq.{bytes_eq-Decides}
 use Rattle.disp_outside.specs.declared.shelf.PutNo.{PutNo}
 use Rattle.disp_outside.specs.declared.shelf.PutNo.TheVariants.{Failed, Memory}
-use Rattle.dispatch_cli.specs.declared.answer.Put.{Put}
-use Rattle.dispatch_cli.specs.Outside.{Holdings, HoldsBytes, Counts}
-use Rattle.dispatch_cli.specs.Answers.{PutsUnder}
-use Rattle.dispatch_cli.specs.Endings.{HoldTexts, StandsAfter, PutsSome, PutMisses, PutsOnly}
-use Rattle.dispatch_cli.proofs.Stopped.{never_falls}
+use Rattle.text_puts.specs.declared.put.Put.{Put}
+use Rattle.text_puts.specs.Outside.{Holdings, HoldsBytes, Counts}
+use Rattle.text_puts.specs.Puts.{PutsUnder, HoldTexts, StandsAfter, PutsSome, PutMisses, PutsOnly}
+use Rattle.text_puts.proofs.Counting.{never_falls, same_all, parts_at}
 
 -- ---- under which names
 
-under_front : (name : List ℕ) (puts rest : List Put) → PutsUnder name puts
+pub under_front : (name : List ℕ) (puts rest : List Put) → PutsUnder name puts
     → PutsUnder name (puts ++ rest)
 under_front name [] rest under = absurd under
 under_front name (put ∷ puts) rest (inl is) = inl is
 under_front name (put ∷ puts) rest (inr under) = inr (under_front name puts rest under)
+
+pub under_last : (name : List ℕ) (puts rest : List Put) → PutsUnder name rest
+    → PutsUnder name (puts ++ rest)
+under_last name [] rest under = under
+under_last name (put ∷ puts) rest under = inr (under_last name puts rest under)
 
 under_here : (puts : List Put) (put : Put) (rest : List Put)
     → PutsUnder put.name (puts ++ put ∷ rest)
@@ -33,29 +34,38 @@ unlike name puts put rest none is =
 
 -- ---- one more
 
-kept_texts : (puts : List Put) (put : Put) (mid new : Holdings)
-    → ((name : List ℕ) → name ≢ put.name → new name ≡ mid name)
-    → HoldsBytes new put.name put.bytes → HoldTexts puts mid → HoldTexts (puts ++ put ∷ []) new
-kept_texts [] put mid new same holds texts = (λ none. holds, tt)
-kept_texts (first ∷ puts) put mid new same holds texts = (
+kept_texts : (puts rest : List Put) (mid new : Holdings)
+    → ((name : List ℕ) → (PutsUnder name rest → ⊥) → new name ≡ mid name)
+    → HoldTexts rest new → HoldTexts puts mid → HoldTexts (puts ++ rest) new
+kept_texts [] rest mid new same last texts = last
+kept_texts (first ∷ puts) rest mid new same last texts = (
   λ none. subst (λ (found : Option (Option (List ℕ))). IfSome found (λ file. file ≡ Some first.bytes))
-      (sym (same first.name (unlike first.name puts put [] none)))
-      (texts.0 (λ under. none (under_front first.name puts (put ∷ []) under))),
-  kept_texts puts put mid new same holds texts.1,
+      (sym (same first.name (λ under. none (under_last first.name puts rest under))))
+      (texts.0 (λ under. none (under_front first.name puts rest under))),
+  kept_texts puts rest mid new same last texts.1,
 )
 
 pub stands_none : (old : Holdings) → StandsAfter [] old old
 stands_none old = record { texts = tt; others = λ name none. refl }
 
+-- these puts, and those of a list behind them
+pub stands_both : (puts rest : List Put) (old mid new : Holdings) → StandsAfter puts old mid
+    → StandsAfter rest mid new → StandsAfter (puts ++ rest) old new
+stands_both puts rest old mid new first second = record {
+  texts = kept_texts puts rest mid new second.others second.texts first.texts;
+  others = λ name none. second.others name (λ under. none (under_last name puts rest under))
+      ∙ first.others name (λ under. none (under_front name puts rest under));
+}
+
 pub stands_more : (puts : List Put) (put : Put) (old mid new : Holdings) → StandsAfter puts old mid
     → HoldsBytes new put.name put.bytes
     → ((name : List ℕ) → name ≢ put.name → new name ≡ mid name)
     → StandsAfter (puts ++ put ∷ []) old new
-stands_more puts put old mid new stands holds same = record {
-  texts = kept_texts puts put mid new same holds stands.texts;
-  others = λ name none. same name (unlike name puts put [] none)
-      ∙ stands.others name (λ under. none (under_front name puts (put ∷ []) under));
-}
+stands_more puts put old mid new stands holds same =
+    stands_both puts (put ∷ []) old mid new stands (record {
+      texts = (λ none. holds, tt);
+      others = λ name none. same name (λ is. none (inl (sym is)));
+    })
 
 -- the next one, whose name and bytes a call was given
 pub stands_next : (puts : List Put) (put : Put) (old mid new : Holdings) (name bytes : List ℕ)
@@ -137,19 +147,30 @@ only_misses puts old new old_counts new_counts h name = record {
     other none = unlike name h.some.done h.some.put h.some.rest
         (λ under. none (subst (PutsUnder name) (sym h.some.parts) under))
 
--- ---- the next one fails
+-- of puts and those behind them, where the first ones were done
+pub only_both : (puts rest : List Put) (old mid new : Holdings)
+    (old_counts mid_counts new_counts : Counts) → StandsAfter puts old mid
+    → ((name : List ℕ) → mid_counts name ≡ old_counts name) → (name : List ℕ)
+    → PutsOnly rest mid new mid_counts new_counts name
+    → PutsOnly (puts ++ rest) old new old_counts new_counts name
+only_both puts rest old mid new old_counts mid_counts new_counts stands same name only = record {
+  never_falls = omega (arith, same name, only.never_falls);
+  stays = λ none. only.stays (λ under. none (under_last name puts rest under)) ∙ same name;
+  held = λ none. only.held (λ under. none (under_last name puts rest under))
+      ∙ stands.others name (λ under. none (under_front name puts rest under));
+}
 
--- where one value and all others stay, all stay
-pub same_all : {X : Type 0} (one : List ℕ) (old new : List ℕ → X) → new one ≡ old one
-    → ((name : List ℕ) → name ≢ one → new name ≡ old name) → (name : List ℕ) → new name ≡ old name
-same_all {X = X} one old new here others name = go (bytes_eq name one) (bytes_eq-Decides name one)
-  where
-    go : (b : Bool) → Decides b (name ≡ one) → new name ≡ old name
-    go true same = rw (same.0 refl) here
-    go false apart = others name (λ e. different (apart.1 e))
-      where
-        different : false ≡ true → ⊥
-        different e = cc
+-- of puts and those behind them, where none of these was begun
+pub only_front : (puts rest : List Put) (old new : Holdings) (old_counts new_counts : Counts)
+    (name : List ℕ) → PutsOnly puts old new old_counts new_counts name
+    → PutsOnly (puts ++ rest) old new old_counts new_counts name
+only_front puts rest old new old_counts new_counts name only = record {
+  never_falls = only.never_falls;
+  stays = λ none. only.stays (λ under. none (under_front name puts rest under));
+  held = λ none. only.held (λ under. none (under_front name puts rest under));
+}
+
+-- ---- the next one fails
 
 same_texts : (puts : List Put) (mid new : Holdings) → ((name : List ℕ) → new name ≡ mid name)
     → HoldTexts puts mid → HoldTexts puts new
@@ -160,19 +181,12 @@ same_texts (put ∷ puts) mid new same texts = (
   same_texts puts mid new same texts.1,
 )
 
-stands_same : (puts : List Put) (old mid new : Holdings) → ((name : List ℕ) → new name ≡ mid name)
+pub stands_same : (puts : List Put) (old mid new : Holdings) → ((name : List ℕ) → new name ≡ mid name)
     → StandsAfter puts old mid → StandsAfter puts old new
 stands_same puts old mid new same h = record {
   texts = same_texts puts mid new same h.texts;
   others = λ name none. same name ∙ h.others name none;
 }
-
-parts_at : (puts : List Put) (i : ℕ) (put : Put) → i < length puts
-    → puts ≡ take i puts ++ get_or puts i put ∷ drop (suc i) puts
-parts_at [] i put within = absurd (omega (arith, within))
-parts_at (first ∷ puts) zero put within = refl
-parts_at (first ∷ puts) (suc i) put within =
-    ap (λ (l : List Put). first ∷ l) (parts_at puts i put (omega (arith, within)))
 
 abbrev some_at : (puts : List Put) (i : ℕ) (put : Put) (old new : Holdings) → i < length puts
     → put ≡ get_or puts i put → StandsAfter (take i puts) old new → PutsSome puts old new

@@ -1,7 +1,7 @@
 -- the texts so far were put, and no putting failed
 use Rattle.std.proofs.Common.{◌≡◌, ℕ, List, take}
-use Rattle.dispatch_cli.specs.Endings.{StandsAfter}
-use Rattle.dispatch_cli.proofs.program.put_all.Given as goal
+use Rattle.text_puts.specs.Puts.{StandsAfter}
+use Rattle.text_puts.proofs.putting.put_all.Given as goal
 
 abbrev pub invariant-loop-due : goal.invariant-loop-due
 invariant-loop-due g l = record {
