@@ -1,11 +1,12 @@
 -- Entries that are printed, and more behind them.
-use Rattle.std.proofs.Common.{◌≡◌, ◌⊎◌, ◌∙◌, ◌<◌, ◌≤◌, ℕ, List, [], ◌∷◌, ◌++◌, Option, Result, Ok, Err, refl, sym, ap, subst, inl, inr, arith, append_assoc}
+use Rattle.std.proofs.Common.{◌≡◌, ◌⊎◌, ◌∙◌, ◌<◌, ◌≤◌, ◌+◌, ℕ, suc, length, take, drop, get_or, List, [], ◌∷◌, ◌++◌, Option, Result, Ok, Err, refl, sym, ap, subst, inl, inr, arith, append_assoc}
 use Rattle.std.proofs.lemmas.Grind.{flat_map-append}
 use Rattle.std.proofs.lemmas.Result.{IfErr-weaker, on_ok_weaker}
 use Rattle.disp_model.specs.declared.entry.Entry.{Entry}
 use Rattle.fixing_lines.specs.Entries.{entry_text}
 use Rattle.text_puts.specs.Outside.{Outside, Holdings, Writes}
 use Rattle.text_puts.specs.Puts.{StandsAfter}
+use Rattle.text_puts.proofs.Counting.{one_more, parts_at}
 use Rattle.text_puts.proofs.Puttings.{stands_none, stands_both, misses_before, only_all, only_both, only_front}
 use Rattle.text_puts.proofs.Writings.{writes_nothing, writes_more}
 use Rattle.journal_printer.specs.declared.no.PrintNo.{PrintNo}
@@ -178,20 +179,43 @@ printed_more trees xs ys old mid new result first second = record {
 }
 
 -- where the printing of the first entries stopped, that of all of them did
-pub printed_first : (trees : Option (List ℕ)) (xs ys : List Entry) (old new : Outside)
-    (result : Result (Unit {0}) PrintNo) (why : PrintNo) → result ≡ Err why
-    → Prints trees xs old new result → Prints trees (xs ++ ys) old new (Err why)
-printed_first trees xs ys old new result why is prints = go (subst (Prints trees xs old new) is prints)
-  where
-    go : Prints trees xs old new (Err why) → Prints trees (xs ++ ys) old new (Err why)
-    go stopped = record {
-      all = tt;
-      stops = stops_first trees xs ys old new why stopped.stops;
-      unput = stopped.unput;
-      unwritten = stopped.unwritten;
-      counted = stopped.counted;
-      reading = stopped.reading;
-      others = λ name. rw (flat_map-append (entry_puts trees) xs ys)
-          (only_front (tree_puts trees xs) (tree_puts trees ys) old.holds new.holds
-          old.putting new.putting name (stopped.others name));
-    }
+pub printed_first : (trees : Option (List ℕ)) (xs ys : List Entry) (old new : Outside) (why : PrintNo)
+    → Prints trees xs old new (Err why) → Prints trees (xs ++ ys) old new (Err why)
+printed_first trees xs ys old new why prints = record {
+  all = tt;
+  stops = stops_first trees xs ys old new why prints.stops;
+  unput = prints.unput;
+  unwritten = prints.unwritten;
+  counted = prints.counted;
+  reading = prints.reading;
+  others = λ name. rw (flat_map-append (entry_puts trees) xs ys)
+      (only_front (tree_puts trees xs) (tree_puts trees ys) old.holds new.holds
+      old.putting new.putting name (prints.others name));
+}
+
+-- ---- the next entry of a list
+
+pub all_at : (trees : Option (List ℕ)) (entries : List Entry) (i : ℕ) (entry : Entry)
+    (old mid new : Outside) → i < length entries → entry ≡ get_or entries i entry
+    → PrintsAll trees (take i entries) old mid → PrintsAll trees (entry ∷ []) mid new
+    → PrintsAll trees (take (i + 1) entries) old new
+all_at trees entries i entry old mid new within is done next =
+    subst (λ (l : List Entry). PrintsAll trees l old new) (sym (one_more entries i entry within is))
+    (all_more trees (take i entries) (entry ∷ []) old mid new done next)
+
+entries_at : (entries : List Entry) (i : ℕ) (entry : Entry) → i < length entries
+    → entry ≡ get_or entries i entry
+    → entries ≡ (take i entries ++ entry ∷ []) ++ drop (suc i) entries
+entries_at entries i entry within is = parts_at entries i entry within
+    ∙ ap (λ (e : Entry). take i entries ++ e ∷ drop (suc i) entries) (sym is)
+    ∙ sym (append_assoc (take i entries) (entry ∷ []) (drop (suc i) entries))
+
+pub stopped_at : (trees : Option (List ℕ)) (entries : List Entry) (i : ℕ) (entry : Entry)
+    (old mid new : Outside) (why : PrintNo) → i < length entries → entry ≡ get_or entries i entry
+    → PrintsAll trees (take i entries) old mid → Prints trees (entry ∷ []) mid new (Err why)
+    → Prints trees entries old new (Err why)
+stopped_at trees entries i entry old mid new why within is done next =
+    subst (λ (l : List Entry). Prints trees l old new (Err why))
+    (sym (entries_at entries i entry within is))
+    (printed_first trees (take i entries ++ entry ∷ []) (drop (suc i) entries) old new why
+    (printed_more trees (take i entries) (entry ∷ []) old mid new (Err why) done next))
