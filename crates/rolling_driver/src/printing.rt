@@ -21,7 +21,7 @@ fn give_way() {
     }
 }
 
-/// Prints what is new. Says whether the run is over.
+/// Prints what is new, and notes whether the run is over.
 fn print_new<W: Wait, S: Shelf, O: Sink>(
     rt: &W,
     alloc: Global,
@@ -30,7 +30,8 @@ fn print_new<W: Wait, S: Shelf, O: Sink>(
     shelf: &mut S,
     out: &mut O,
     trees: Option<&Text>,
-) -> Result<bool, PrintNo>
+    over: &mut bool,
+) -> Result<(), PrintNo>
     requires board { own_board pass.old ≡ board_of board.now }
     ensures watches { Watches pass.old pass.new }
     ensures printed { PrintsJournal (option_map (λ prefix. prefix.now) trees)
@@ -42,11 +43,11 @@ fn print_new<W: Wait, S: Shelf, O: Sink>(
     ensures fetched { OnOk result (fetched pass.new ≡ length (known pass.new).seen) }
 {
     let news = board.news(rt, alloc, pass)?;
-    print_entries(alloc, shelf, out, trees, news.entries.as_slice())?;
+    *over = news.ended;
     if news.entries.is_empty() {
         give_way();
     }
-    Ok(news.ended)
+    print_entries(alloc, shelf, out, trees, news.entries.as_slice())
 }
 
 /// Prints what is new, again and again, until the run is over or something fails.
@@ -69,8 +70,10 @@ pub(crate) fn print_news<W: Wait, S: Shelf, O: Sink>(
         (O.faults out.new) (O.written out.new)) result }
     ensures fetched { OnOk result (fetched pass.new ≡ length (known pass.new).seen) }
 {
+    let mut over = false;
     for _ in rt.forever() {
-        if print_new(rt, alloc, board, pass, shelf, out, trees)? {
+        print_new(rt, alloc, board, pass, shelf, out, trees, &mut over)?;
+        if over {
             return Ok(());
         }
     }
