@@ -1,5 +1,5 @@
 -- What a run leaves.
-use Rattle.std.specs.Prelude.{◌≡◌, ◌≢◌, ◌↔◌, ℕ, ◌<◌, ◌≤◌, Bool, false, List, [], All, Contains, Option, Result, IfSome, length, slice_get, Some}
+use Rattle.std.specs.Prelude.{◌≡◌, ◌≢◌, ◌↔◌, ℕ, ◌<◌, ◌≤◌, Bool, false, List, [], All, Contains, Option, Result, IfSome, length, map, slice_get, Some}
 use Rattle.disp_model.specs.declared.entry.Entry.{Entry}
 use Rattle.disp_model.specs.declared.problem.Problem.{Problem}
 use Rattle.disp_model.specs.declared.settings.Settings.{Settings}
@@ -25,23 +25,30 @@ module _ {F : Type 0} where
     pub risen : (one : List ℕ) → old one < new one → (feed : F) × Contains feeds feed × (name feed ≡ one) × (0 < faults feed)
     pub failed : All (λ feed. 0 < faults feed → old (name feed) < new (name feed)) feeds
 
-  -- the readings of feeds, of which each entry of the journal that is a line's is: those of the feed of each number answer its
-  -- lines, where these are told, as its reading ended; a reading failed exactly where the count of its name rose
-  pub record AreRead (name : F → List ℕ) (lines : F → Option (List (List ℕ))) (feeds : List F) (readings : List Reading) (old new : Counts) (journal : List Entry) : Type 0 where
-    pub as_many : length readings ≡ length feeds
-    pub answered : (number : ℕ) (feed : F) (reading : Reading) → slice_get feeds number ≡ Some feed → slice_get readings number ≡ Some reading
-        → IfSome (lines feed) (λ told. AnswersAs number told (entries_by number journal) reading)
-    pub failed : (number : ℕ) (feed : F) → slice_get feeds number ≡ Some feed → slice_get readings number ≡ Some Failed → old (name feed) < new (name feed)
-    pub risen : (one : List ℕ) → old one < new one → (number : ℕ) × (feed : F) × (slice_get feeds number ≡ Some feed) × (slice_get readings number ≡ Some Failed) × (name feed ≡ one)
-    pub counted : (one : List ℕ) → old one ≤ new one
-    pub no_other : (other : ℕ) → length feeds ≤ other → entries_by other journal ≡ []
+  -- what clauses see of feeds
+  abbrev pub fed : (F → List ℕ) → (F → Option (List (List ℕ))) → List F → List (List ℕ × Option (List (List ℕ)))
+  fed name lines feeds = map (λ feed. (name feed, lines feed)) feeds
 
-  -- the journal is legal, its lines' entries are those of the feeds, it is printed, and the status says how all this ended
-  pub record IsRolled (name : F → List ℕ) (lines : F → Option (List (List ℕ))) (problem : Problem) (settings : Settings) (trees : Option (List ℕ)) (feeds : List F) (old new : Outside)
-      (journal : List Entry) (status : ℕ) : Type 0 where
-    pub legal : IsLegal problem settings journal
-    pub readings : List Reading
-    pub read : AreRead name lines feeds readings old.reading new.reading journal
-    pub printed : Result (Unit {0}) PrintNo
-    pub prints : PrintsJournal trees journal old (record new { reading = old.reading }) printed
-    pub status_is : IsStatus (mark_of (newest journal) journal) readings printed status
+-- a feed: its name, and its lines, where these are told
+abbrev pub Fed : Type 0
+Fed = List ℕ × Option (List (List ℕ))
+
+-- how the feeds were read, by what the journal has of them: for each feed the entries of its number answer its lines, where these are
+-- told, as its reading ended; its reading failed exactly where the count of its name rose; no other caller has lines
+pub record AreRead (feeds : List Fed) (readings : List Reading) (old new : Counts) (journal : List Entry) : Type 0 where
+  pub as_many : length readings ≡ length feeds
+  pub answered : (number : ℕ) (feed : Fed) (reading : Reading) → slice_get feeds number ≡ Some feed → slice_get readings number ≡ Some reading
+      → IfSome feed.1 (λ told. AnswersAs number told (entries_by number journal) reading)
+  pub no_other : (other : ℕ) → length feeds ≤ other → entries_by other journal ≡ []
+  pub counted : (one : List ℕ) → old one ≤ new one
+  pub failed : (number : ℕ) (feed : Fed) → slice_get feeds number ≡ Some feed → slice_get readings number ≡ Some Failed → old feed.0 < new feed.0
+  pub risen : (one : List ℕ) → old one < new one → (number : ℕ) × (feed : Fed) × (slice_get feeds number ≡ Some feed) × (slice_get readings number ≡ Some Failed) × (feed.0 ≡ one)
+
+-- the journal is legal, its lines' entries are those of the feeds, it is printed, and the status says how all this ended
+pub record IsRolled (problem : Problem) (settings : Settings) (trees : Option (List ℕ)) (feeds : List Fed) (old new : Outside) (journal : List Entry) (status : ℕ) : Type 0 where
+  pub legal : IsLegal problem settings journal
+  pub readings : List Reading
+  pub read : AreRead feeds readings old.reading new.reading journal
+  pub printed : Result (Unit {0}) PrintNo
+  pub prints : PrintsJournal trees journal old (record new { reading = old.reading }) printed
+  pub status_is : IsStatus (mark_of (newest journal) journal) readings printed status

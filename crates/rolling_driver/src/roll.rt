@@ -1,7 +1,7 @@
 ghost use Rattle.std.specs.Prelude.{◌≡◌, ◌≤◌, ◌<◌, false, All, IfOk, length, option_map};
 ghost use Rattle.disp_model.specs.declared.limits.TheConstants.{MOST_CALLERS};
 ghost use Rattle.text_puts.specs.Outside.{outside};
-ghost use Rattle.rolling_driver.specs.Rolled.{IsRolled, AreNew};
+ghost use Rattle.rolling_driver.specs.Rolled.{IsRolled, AreNew, fed};
 
 use crate::closing::close_feeds;
 use crate::printing::print_news;
@@ -50,8 +50,8 @@ pub fn roll<R: Threads + Wait + Sync, S: Shelf, O: Sink, G: Gate>(
     requires feeds { AreNew S.Feed.has_ended S.Feed.faults feeds.items }
     requires known { All (λ feed. S.knows shelf.old (S.Feed.name feed)) feeds.items }
     ensures rolled { IfOk result (λ rolled.
-        IsRolled S.Feed.name S.Feed.lines problem.now settings
-        (option_map (λ prefix. prefix.now) trees) feeds.items
+        IsRolled problem.now settings (option_map (λ prefix. prefix.now) trees)
+        (fed S.Feed.name S.Feed.lines feeds.items)
         (outside (S.holds shelf.old) (S.reading_faults shelf.old) (S.putting_faults shelf.old)
         (O.faults out.old) (O.written out.old))
         (outside (S.holds shelf.new) (S.reading_faults shelf.new) (S.putting_faults shelf.new)
