@@ -1,7 +1,9 @@
 -- One entry that is printed.
-use Rattle.std.proofs.Common.{◌≡◌, ◌∙◌, ◌<◌, ◌≤◌, ℕ, List, [], ◌∷◌, ◌++◌, length, Option, None, Some, Err, refl, ap, subst, inl, inr, arith, append-nil, length-append}
+use Rattle.std.proofs.Common.{◌≡◌, ◌∙◌, ◌<◌, ◌≤◌, ℕ, List, [], ◌∷◌, ◌++◌, length, Option, None,
+  Some, Err, refl, ap, subst, inl, inr, arith, append-nil, length-append}
 use Rattle.disp_model.specs.declared.entry.Entry.{Entry}
-use Rattle.disp_model.specs.declared.entry.Entry.TheVariants.{Asked, Unread, Shown, Grown, Published, Settled, Stopped}
+use Rattle.disp_model.specs.declared.entry.Entry.TheVariants.{Asked, Unread, Shown, Grown,
+  Published, Settled, Stopped}
 use Rattle.disp_outside.specs.Sink.{WritesPart}
 use Rattle.disp_outside.specs.declared.shelf.PutNo.{PutNo}
 use Rattle.disp_outside.specs.declared.shelf.PutNo.TheVariants as put
@@ -48,7 +50,8 @@ held_before trees entry old new some name =
 
 -- what stands behind its puts
 trees_one : (trees : Option (List ℕ)) (entry : Entry) (old new : Holdings)
-    → StandsAfter (entry_puts trees entry) old new → StandsAfter (tree_puts trees (entry ∷ [])) old new
+    → StandsAfter (entry_puts trees entry) old new
+        → StandsAfter (tree_puts trees (entry ∷ [])) old new
 trees_one trees entry old new stands = rw (append-nil (entry_puts trees entry)) stands
 
 only_one : (trees : Option (List ℕ)) (entry : Entry) (old new : Outside) (name : List ℕ)
@@ -81,7 +84,8 @@ pub one_unput : (trees : Option (List ℕ)) (entry : Entry) (old new : Outside) 
     → ((name : List ℕ) → new.reading name ≡ old.reading name)
     → new.written ≡ old.written → new.faults ≡ old.faults
     → Prints trees (entry ∷ []) old new (Err (of_put refused))
-one_unput trees entry old new put.Failed failed memory risen others reading written faults = record {
+one_unput trees entry old new put.Failed failed memory risen others reading written faults =
+  record {
   all = tt;
   stops = record {
     done = [];
@@ -99,7 +103,8 @@ one_unput trees entry old new put.Failed failed memory risen others reading writ
   reading = reading;
   others = λ name. only_one trees entry old new name (others name);
 }
-one_unput trees entry old new put.Memory failed memory risen others reading written faults = record {
+one_unput trees entry old new put.Memory failed memory risen others reading written faults =
+  record {
   all = tt;
   stops = record {
     done = [];
@@ -122,7 +127,8 @@ one_unput trees entry old new put.Memory failed memory risen others reading writ
     unlike e = cc
 
 -- its line was not written
-pub one_unwritten : (trees : Option (List ℕ)) (entry : Entry) (old new : Outside) (refused : WriteNo)
+pub one_unwritten : (trees : Option (List ℕ)) (entry : Entry) (old new : Outside)
+    (refused : WriteNo)
     → StandsAfter (entry_puts trees entry) old.holds new.holds
     → ((name : List ℕ) → new.putting name ≡ old.putting name)
     → ((name : List ℕ) → new.reading name ≡ old.reading name)
@@ -131,7 +137,8 @@ pub one_unwritten : (trees : Option (List ℕ)) (entry : Entry) (old new : Outsi
     → (refused ≡ write.Failed → old.faults < new.faults)
     → (old.faults < new.faults → refused ≡ write.Failed) → old.faults ≤ new.faults
     → Prints trees (entry ∷ []) old new (Err (of_write refused))
-one_unwritten trees entry old new write.Failed puts putting reading part memory rises risen counted = record {
+one_unwritten trees entry old new write.Failed puts putting reading part memory rises
+    risen counted = record {
   all = tt;
   stops = record {
     done = [];
@@ -149,9 +156,11 @@ one_unwritten trees entry old new write.Failed puts putting reading part memory 
   counted = counted;
   reading = reading;
   others = λ name. only_one trees entry old new name
-      (only_all (entry_puts trees entry) old.holds new.holds old.putting new.putting puts putting name);
+      (only_all (entry_puts trees entry) old.holds new.holds old.putting new.putting
+      puts putting name);
 }
-one_unwritten trees entry old new write.Memory puts putting reading part memory rises risen counted = record {
+one_unwritten trees entry old new write.Memory puts putting reading part memory rises
+    risen counted = record {
   all = tt;
   stops = record {
     done = [];
@@ -167,7 +176,8 @@ one_unwritten trees entry old new write.Memory puts putting reading part memory 
   counted = counted;
   reading = reading;
   others = λ name. only_one trees entry old new name
-      (only_all (entry_puts trees entry) old.holds new.holds old.putting new.putting puts putting name);
+      (only_all (entry_puts trees entry) old.holds new.holds old.putting new.putting
+      puts putting name);
 }
   where
     unlike : write.Memory ≡ write.Failed → ⊥

@@ -1,5 +1,6 @@
 -- Entries that are printed, and more behind them.
-use Rattle.std.proofs.Common.{◌≡◌, ◌⊎◌, ◌∙◌, ◌<◌, ◌≤◌, ◌+◌, ℕ, suc, length, take, drop, get_or, List, [], ◌∷◌, ◌++◌, Option, Result, Ok, Err, refl, sym, ap, subst, inl, inr, arith, append_assoc}
+use Rattle.std.proofs.Common.{◌≡◌, ◌⊎◌, ◌∙◌, ◌<◌, ◌+◌, ℕ, suc, length, take, drop, get_or, List, [],
+  ◌∷◌, ◌++◌, Option, Result, Ok, Err, refl, sym, ap, subst, inl, inr, arith, append_assoc}
 use Rattle.std.proofs.lemmas.Grind.{flat_map-append}
 use Rattle.std.proofs.lemmas.Result.{IfErr-weaker, on_ok_weaker}
 use Rattle.disp_model.specs.declared.entry.Entry.{Entry}
@@ -7,12 +8,13 @@ use Rattle.fixing_lines.specs.Entries.{entry_text}
 use Rattle.text_puts.specs.Outside.{Outside, Holdings, Writes}
 use Rattle.text_puts.specs.Puts.{StandsAfter}
 use Rattle.text_puts.proofs.Counting.{one_more, parts_at}
-use Rattle.text_puts.proofs.Puttings.{stands_none, stands_both, misses_before, only_all, only_both, only_front}
+use Rattle.text_puts.proofs.Puttings.{stands_none, stands_both, misses_before, only_all, only_both,
+  only_front}
 use Rattle.text_puts.proofs.Writings.{writes_nothing, writes_more}
 use Rattle.journal_printer.specs.declared.no.PrintNo.{PrintNo}
 use Rattle.journal_printer.specs.declared.no.PrintNo.TheVariants.{Unput, Unwritten, Memory}
 use Rattle.journal_printer.specs.Journal.{journal_text, entry_puts, tree_puts}
-use Rattle.journal_printer.specs.Printing.{PrintsAll, ComesNext, MissesTree, MissesLine, RunsOut, StopsPrinting, Prints}
+use Rattle.journal_printer.specs.Printing.{PrintsAll, ComesNext, StopsPrinting, Prints}
 
 -- an entry that comes next of those behind others comes next of all
 abbrev comes_behind : (xs ys done : List Entry) (next : Entry) → ComesNext ys done next
@@ -44,7 +46,8 @@ trees_both trees xs ys old mid new first second = rw (flat_map-append (entry_put
     (stands_both (tree_puts trees xs) (tree_puts trees ys) old mid new first second)
 
 -- the same, up to an entry that comes next
-trees_next : (trees : Option (List ℕ)) (xs done : List Entry) (next : Entry) (old mid new : Holdings)
+trees_next : (trees : Option (List ℕ)) (xs done : List Entry) (next : Entry)
+    (old mid new : Holdings)
     → StandsAfter (tree_puts trees xs) old mid
     → StandsAfter (tree_puts trees (done ++ next ∷ [])) mid new
     → StandsAfter (tree_puts trees ((xs ++ done) ++ next ∷ [])) old new
@@ -80,7 +83,8 @@ stops_more trees xs ys old mid new first Unput stops = record {
   done = xs ++ stops.done;
   next = stops.next;
   comes = comes_behind xs ys stops.done stops.next stops.comes;
-  written = writes_both xs stops.done old.written mid.written new.written first.written stops.written;
+  written = writes_both xs stops.done old.written mid.written new.written first.written
+      stops.written;
   faults = stops.faults ∙ first.faults;
   before = stops.before;
   puts = trees_both trees xs stops.done old.holds mid.holds stops.before first.puts stops.puts;
@@ -92,17 +96,20 @@ stops_more trees xs ys old mid new first Unwritten stops = record {
   next = stops.next;
   comes = comes_behind xs ys stops.done stops.next stops.comes;
   before = stops.before;
-  written = writes_both xs stops.done old.written mid.written stops.before first.written stops.written;
+  written = writes_both xs stops.done old.written mid.written stops.before first.written
+      stops.written;
   part = stops.part;
   fault = rw (← first.faults) stops.fault;
-  puts = trees_next trees xs stops.done stops.next old.holds mid.holds new.holds first.puts stops.puts;
+  puts = trees_next trees xs stops.done stops.next old.holds mid.holds new.holds first.puts
+      stops.puts;
   putting = λ name. stops.putting name ∙ first.putting name;
 }
 stops_more trees xs ys old mid new first Memory stops = record {
   done = xs ++ stops.done;
   next = stops.next;
   comes = comes_behind xs ys stops.done stops.next stops.comes;
-  written = writes_both xs stops.done old.written mid.written new.written first.written stops.written;
+  written = writes_both xs stops.done old.written mid.written new.written first.written
+      stops.written;
   faults = stops.faults ∙ first.faults;
   puts = trees_of stops.puts;
   putting = λ name. stops.putting name ∙ first.putting name;
@@ -112,8 +119,10 @@ stops_more trees xs ys old mid new first Memory stops = record {
         ⊎ StandsAfter (tree_puts trees (stops.done ++ stops.next ∷ [])) mid.holds new.holds
         → StandsAfter (tree_puts trees (xs ++ stops.done)) old.holds new.holds
         ⊎ StandsAfter (tree_puts trees ((xs ++ stops.done) ++ stops.next ∷ [])) old.holds new.holds
-    trees_of (inl stands) = inl (trees_both trees xs stops.done old.holds mid.holds new.holds first.puts stands)
-    trees_of (inr stands) = inr (trees_next trees xs stops.done stops.next old.holds mid.holds new.holds first.puts stands)
+    trees_of (inl stands) = inl (trees_both trees xs stops.done old.holds mid.holds new.holds
+        first.puts stands)
+    trees_of (inr stands) = inr (trees_next trees xs stops.done stops.next old.holds mid.holds
+        new.holds first.puts stands)
 
 -- where the printing of the first entries stopped
 stops_first : (trees : Option (List ℕ)) (xs ys : List Entry) (old new : Outside) (why : PrintNo)
@@ -158,16 +167,19 @@ printed_all trees xs old new all = record {
   unwritten = λ rises. absurd (omega (arith, all.faults, rises));
   counted = omega (arith, all.faults);
   reading = all.reading;
-  others = only_all (tree_puts trees xs) old.holds new.holds old.putting new.putting all.puts all.putting;
+  others = only_all (tree_puts trees xs) old.holds new.holds old.putting new.putting all.puts
+      all.putting;
 }
 
 -- printing entries, and then more, is printing all of them
 pub printed_more : (trees : Option (List ℕ)) (xs ys : List Entry) (old mid new : Outside)
-    (result : Result (Unit {0}) PrintNo) → PrintsAll trees xs old mid → Prints trees ys mid new result
+    (result : Result (Unit {0}) PrintNo) → PrintsAll trees xs old mid
+        → Prints trees ys mid new result
     → Prints trees (xs ++ ys) old new result
 printed_more trees xs ys old mid new result first second = record {
   all = on_ok_weaker result (all_more trees xs ys old mid new first) second.all;
-  stops = IfErr-weaker result (StopsPrinting trees ys mid new) (StopsPrinting trees (xs ++ ys) old new)
+  stops = IfErr-weaker result (StopsPrinting trees ys mid new)
+      (StopsPrinting trees (xs ++ ys) old new)
       (stops_more trees xs ys old mid new first) second.stops;
   unput = λ name rises. second.unput name (rw (first.putting name) rises);
   unwritten = λ rises. second.unwritten (rw first.faults rises);
@@ -179,7 +191,8 @@ printed_more trees xs ys old mid new result first second = record {
 }
 
 -- where the printing of the first entries stopped, that of all of them did
-pub printed_first : (trees : Option (List ℕ)) (xs ys : List Entry) (old new : Outside) (why : PrintNo)
+pub printed_first : (trees : Option (List ℕ)) (xs ys : List Entry) (old new : Outside)
+    (why : PrintNo)
     → Prints trees xs old new (Err why) → Prints trees (xs ++ ys) old new (Err why)
 printed_first trees xs ys old new why prints = record {
   all = tt;

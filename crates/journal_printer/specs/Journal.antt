@@ -3,7 +3,8 @@ use Rattle.std.specs.Prelude.{ℕ, List, [], ◌∷◌, ◌++◌, Option, Some, 
 use Rattle.std.specs.Fmt.{decimal}
 use Rattle.std.specs.List.{flat_map}
 use Rattle.disp_model.specs.declared.entry.Entry.{Entry}
-use Rattle.disp_model.specs.declared.entry.Entry.TheVariants.{Asked, Unread, Shown, Grown, Published, Settled, Stopped}
+use Rattle.disp_model.specs.declared.entry.Entry.TheVariants.{Asked, Unread, Shown, Grown,
+  Published, Settled, Stopped}
 use Rattle.disp_model.specs.declared.tree.TreeNode.{TreeNode}
 use Rattle.disp_model.specs.declared.tree.Verdict.{Verdict}
 use Rattle.fixing_lines.specs.Entries.{entry_text}
@@ -22,7 +23,8 @@ tree_file edition settled = tree_text edition settled.0 settled.1
 abbrev pub tree_name : List ℕ → ℕ → List ℕ
 tree_name prefix edition = prefix ++ decimal edition
 
--- what is to be put before the line of an entry, where trees are asked for: the tree of a settled edition
+-- what is to be put before the line of an entry, where trees are asked for: the tree of a settled
+-- edition
 abbrev pub entry_puts : Option (List ℕ) → Entry → List Put
 entry_puts None entry = []
 entry_puts (Some prefix) (Asked feed line change reply) = []

@@ -1,8 +1,6 @@
 ghost use Rattle.std.specs.Prelude.{◌≡◌};
-ghost use Rattle.journal_printer.specs.declared.no.PrintNo.TheVariants.{Memory as OutOfMemory};
 ghost use Rattle.journal_printer.specs.Causes.{of_put, of_write};
 
-use disp_model::Memory;
 use disp_outside::{PutNo, WriteNo};
 
 /// Why not all was printed.
@@ -14,14 +12,6 @@ pub enum PrintNo {
     Unwritten,
     /// There was no room.
     Memory,
-}
-
-impl From<Memory> for PrintNo {
-    ghost from_gives = { λ _ no. no ≡ OutOfMemory };
-
-    fn from(_refused: Memory) -> PrintNo {
-        PrintNo::Memory
-    }
 }
 
 impl From<PutNo> for PrintNo {

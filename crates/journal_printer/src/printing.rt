@@ -39,9 +39,8 @@ fn put_tree<S: Shelf>(
     ensures readings { (name : List ℕ) → S.reading_faults shelf.new name
         ≡ S.reading_faults shelf.old name }
 {
-    let puts = match entry_puts(alloc, trees, entry) {
-        Ok(puts) => puts,
-        Err(_) => return Err(PutNo::Memory),
+    let Ok(puts) = entry_puts(alloc, trees, entry) else {
+        return Err(PutNo::Memory);
     };
     put_all(alloc, shelf, puts.as_slice())
 }
@@ -56,9 +55,8 @@ fn write_line<O: Sink>(alloc: Global, out: &mut O, entry: &Entry) -> Result<(), 
     ensures failed { IsErrOf result WriteNo.Failed ↔ (O.faults out.old < O.faults out.new) }
     ensures counted { O.faults out.old ≤ O.faults out.new }
 {
-    let line = match write_entry(alloc, entry) {
-        Ok(line) => line,
-        Err(_) => return Err(WriteNo::Memory),
+    let Ok(line) = write_entry(alloc, entry) else {
+        return Err(WriteNo::Memory);
     };
     if line.is_empty() {
         return Ok(());

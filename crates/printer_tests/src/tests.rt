@@ -132,7 +132,11 @@ fn the_first_failure_is_the_last(rt: HostRuntime) -> Result<(), Fail> {
         tree: "",
     };
     expect(&rt, alloc, Some(&prefix), entries.as_slice(), &unput)?;
-    for (call, sent, written, tree) in [(1, 4, "feed", ""), (2, 0, ASKED, ""), (3, 0, TWO_LINES, TREE)] {
+    for (call, sent, written, tree) in [
+        (1, 4, "feed", ""),
+        (2, 0, ASKED, ""),
+        (3, 0, TWO_LINES, TREE),
+    ] {
         let row = Row {
             puts: &[],
             writes: &[BrokenWrite { call, sent }],

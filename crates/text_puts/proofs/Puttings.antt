@@ -1,5 +1,6 @@
 -- Texts that are put one after the other.
-use Rattle.std.proofs.Common.{◌≡◌, ◌≢◌, ◌∙◌, ◌<◌, ◌≤◌, ℕ, suc, List, [], ◌∷◌, ◌++◌, length, take, drop, get_or, Option, Some, refl, sym, ap, subst, inl, inr, arith}
+use Rattle.std.proofs.Common.{◌≡◌, ◌≢◌, ◌∙◌, ◌<◌, ◌≤◌, ℕ, suc, List, [], ◌∷◌, ◌++◌, length, take,
+  drop, get_or, Option, Some, refl, sym, ap, subst, inl, inr, arith}
 use Rattle.std.specs.Prelude.{IfSome}
 use Rattle.disp_outside.specs.declared.shelf.PutNo.{PutNo}
 use Rattle.disp_outside.specs.declared.shelf.PutNo.TheVariants.{Failed, Memory}
@@ -30,7 +31,8 @@ under_here (first ∷ puts) put rest = inr (under_here puts put rest)
 unlike : (name : List ℕ) (puts : List Put) (put : Put) (rest : List Put)
     → (PutsUnder name (puts ++ put ∷ rest) → ⊥) → name ≢ put.name
 unlike name puts put rest none is =
-    none (subst (λ (n : List ℕ). PutsUnder n (puts ++ put ∷ rest)) (sym is) (under_here puts put rest))
+    none (subst (λ (n : List ℕ). PutsUnder n (puts ++ put ∷ rest)) (sym is)
+        (under_here puts put rest))
 
 -- ---- one more
 
@@ -39,7 +41,8 @@ kept_texts : (puts rest : List Put) (mid new : Holdings)
     → HoldTexts rest new → HoldTexts puts mid → HoldTexts (puts ++ rest) new
 kept_texts [] rest mid new same last texts = last
 kept_texts (first ∷ puts) rest mid new same last texts = (
-  λ none. subst (λ (found : Option (Option (List ℕ))). IfSome found (λ file. file ≡ Some first.bytes))
+  λ none. subst (λ (found : Option (Option (List ℕ))). IfSome found
+      (λ file. file ≡ Some first.bytes))
       (sym (same first.name (λ under. none (under_last first.name puts rest under))))
       (texts.0 (λ under. none (under_front first.name puts rest under))),
   kept_texts puts rest mid new same last texts.1,
@@ -97,7 +100,8 @@ some_before puts old mid new same h = record {
   stands = stands_before h.done old mid new same h.stands;
 }
 
-pub misses_before : (puts : List Put) (old mid new : Holdings) (old_counts mid_counts new_counts : Counts)
+pub misses_before : (puts : List Put) (old mid new : Holdings)
+    (old_counts mid_counts new_counts : Counts)
     → ((name : List ℕ) → mid name ≡ old name)
     → ((name : List ℕ) → mid_counts name ≡ old_counts name)
     → PutMisses puts mid new mid_counts new_counts → PutMisses puts old new old_counts new_counts
@@ -123,7 +127,8 @@ only_all puts old new old_counts new_counts stands same name = record {
 held_some : (puts : List Put) (old new : Holdings) → PutsSome puts old new
     → (name : List ℕ) → (PutsUnder name puts → ⊥) → new name ≡ old name
 held_some puts old new some name none = some.stands.others name (λ under. none
-    (subst (PutsUnder name) (sym some.parts) (under_front name some.done (some.put ∷ some.rest) under)))
+    (subst (PutsUnder name) (sym some.parts) (under_front name some.done (some.put ∷ some.rest)
+        under)))
 
 pub only_some : (puts : List Put) (old new : Holdings) (old_counts new_counts : Counts)
     → PutsSome puts old new → ((name : List ℕ) → new_counts name ≡ old_counts name)
@@ -138,7 +143,8 @@ pub only_misses : (puts : List Put) (old new : Holdings) (old_counts new_counts 
     → PutMisses puts old new old_counts new_counts
     → (name : List ℕ) → PutsOnly puts old new old_counts new_counts name
 only_misses puts old new old_counts new_counts h name = record {
-  never_falls = never_falls h.some.put.name old_counts new_counts (omega (arith, h.fault)) h.counts name;
+  never_falls = never_falls h.some.put.name old_counts new_counts (omega (arith, h.fault))
+      h.counts name;
   stays = λ none. h.counts name (other none);
   held = λ none. h.held name (other none) ∙ held_some puts old h.before h.some name none;
 }
@@ -181,7 +187,8 @@ same_texts (put ∷ puts) mid new same texts = (
   same_texts puts mid new same texts.1,
 )
 
-pub stands_same : (puts : List Put) (old mid new : Holdings) → ((name : List ℕ) → new name ≡ mid name)
+pub stands_same : (puts : List Put) (old mid new : Holdings)
+    → ((name : List ℕ) → new name ≡ mid name)
     → StandsAfter puts old mid → StandsAfter puts old new
 stands_same puts old mid new same h = record {
   texts = same_texts puts mid new same h.texts;
@@ -200,7 +207,8 @@ some_at puts i put old new within is stands = record {
 }
 
 -- a putting that has not succeeded: what it said, what was held and counted before it and behind it
-pub record NextFails (puts : List Put) (i : ℕ) (put : Put) (refused : PutNo) (old mid new : Holdings)
+pub record NextFails (puts : List Put) (i : ℕ) (put : Put) (refused : PutNo)
+    (old mid new : Holdings)
     (old_counts mid_counts new_counts : Counts) : Type 0 where
   pub within : i < length puts
   pub is : put ≡ get_or puts i put
@@ -221,15 +229,18 @@ pub next_fails : (puts : List Put) (i : ℕ) (put : Put) (refused : PutNo) (old 
     → ((other : List ℕ) → other ≢ name → new other ≡ mid other)
     → ((other : List ℕ) → other ≢ name → new_counts other ≡ mid_counts other)
     → mid_counts name ≤ new_counts name → (refused ≡ Failed → mid_counts name < new_counts name)
-    → (mid_counts name < new_counts name → refused ≡ Failed) → (refused ≡ Memory → new name ≡ mid name)
+    → (mid_counts name < new_counts name → refused ≡ Failed)
+        → (refused ≡ Memory → new name ≡ mid name)
     → NextFails puts i put refused old mid new old_counts mid_counts new_counts
-next_fails puts i put refused old mid new old_counts mid_counts new_counts name named within is stands
+next_fails puts i put refused old mid new old_counts mid_counts new_counts name named within is
+    stands
     same held counts counted rises risen memory = record {
       within = within;
       is = is;
       stands = stands;
       same = same;
-      held = subst (λ (n : List ℕ). (other : List ℕ) → other ≢ n → new other ≡ mid other) named held;
+      held = subst (λ (n : List ℕ). (other : List ℕ) → other ≢ n → new other ≡ mid other)
+          named held;
       counts = subst (λ (n : List ℕ). (other : List ℕ) → other ≢ n
           → new_counts other ≡ mid_counts other) named counts;
       counted = subst (λ (n : List ℕ). mid_counts n ≤ new_counts n) named counted;

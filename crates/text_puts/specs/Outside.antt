@@ -10,8 +10,8 @@ Holdings = List ℕ → Option (Option (List ℕ))
 abbrev pub Counts : Type 0
 Counts = List ℕ → ℕ
 
--- what names hold, how often readings and puttings of them have failed, how often writes have failed, and what was
--- written, where that is told
+-- what names hold, how often readings and puttings of them have failed, how often writes have
+-- failed, and what was written, where that is told
 pub record Outside : Type 0 where
   pub holds : Holdings
   pub reading : Counts
@@ -21,7 +21,13 @@ pub record Outside : Type 0 where
 
 abbrev pub outside : Holdings → Counts → Counts → ℕ → Option (List ℕ) → Outside
 outside holds reading putting faults written =
-    record { holds = holds; reading = reading; putting = putting; faults = faults; written = written }
+    record {
+      holds = holds;
+      reading = reading;
+      putting = putting;
+      faults = faults;
+      written = written;
+    }
 
 -- the name holds these bytes, as far as is told
 abbrev pub HoldsBytes : Holdings → List ℕ → List ℕ → Type 0
