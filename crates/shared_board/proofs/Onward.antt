@@ -1,9 +1,8 @@
 -- One call after the other.
 use Rattle.std.proofs.Common.{◌≡◌, ◌≢◌, ◌∙◌, ℕ, suc, ◌+◌, ◌≤◌, inl, inr, ⊎_elim, Bool, true, false, List, [], ◌∷◌, ◌++◌, length, refl, sym, ap, subst, arith}
-use Rattle.std.specs.Prelude.{◌⊎◌, Some, Contains, slice_get, filter}
+use Rattle.std.specs.Prelude.{Some, slice_get, filter}
 use Rattle.std.proofs.lemmas.List.{append_assoc, append-nil, length-append}
-use Rattle.std.proofs.lemmas.List.Elements.{filter-append, Contains-append_cases}
-use Rattle.plain_values.proofs.Lists.{contains_one}
+use Rattle.std.proofs.lemmas.List.Elements.{filter-append}
 use Rattle.disp_model.specs.declared.entry.Entry.{Entry}
 use Rattle.disp_model.specs.declared.entry.Entry.TheVariants as entry
 use Rattle.disp_model.specs.declared.entry.Unasked.{Unasked}
@@ -19,7 +18,7 @@ use Rattle.dispatch_core.specs.declared.event.CoreReply.TheVariants as reply
 use Rattle.dispatch_core.specs.States.{Core}
 use Rattle.turn_lock.specs.Known.{Known, StartsWith}
 use Rattle.turn_lock.specs.Section.{IsFreshFrom, Knows, OwnsPlaces}
-use Rattle.turn_lock.proofs.Beginnings.{either_bool, starts_length, starts_more, starts_refl}
+use Rattle.turn_lock.proofs.Beginnings.{either_bool, starts_more, starts_refl}
 use Rattle.shared_board.specs.declared.pass.Pass.{Pass}
 use Rattle.shared_board.specs.declared.terms.Terms.{Terms}
 use Rattle.shared_board.specs.Board.{own_board, known, fetched}
@@ -42,10 +41,6 @@ newest_up history seen (rest, is) =
     let longer : newest history ≡ length (changes_of seen ++ changes_of rest) =
     ap (λ (l : List Change). length l) (ap changes_of is ∙ changes_append seen rest) in
     let sum = length-append (changes_of seen) (changes_of rest) in omega arith
-
--- the place is among these, or it lies behind what was seen
-abbrev IsOldOrLater : Known Entry Terms → ℕ → Type 0
-IsOldOrLater v place = Contains v.mine place ⊎ (length v.seen ≤ place)
 
 -- ---- roles stay
 
@@ -81,7 +76,6 @@ goes_refl pass = record {
   fetched_is = refl;
   role = record { first = refl; caller = refl; terms = refl; given = refl; back = refl };
   starts = starts_refl (known pass).seen;
-  adds = λ place there. inl there;
   owns = λ own. own;
 }
 
@@ -91,9 +85,6 @@ goes_goes one two three first second = record {
   fetched_is = second.fetched_is ∙ first.fetched_is;
   role = role_role (known one) (known two) (known three) first.role second.role;
   starts = starts_starts (known three).seen (known two).seen (known one).seen second.starts first.starts;
-  adds = λ place there. ⊎_elim (first.adds place)
-      (λ (later : length (known two).seen ≤ place). let longer = starts_length (known two).seen (known one).seen first.starts in inr (omega (arith, later)))
-      (second.adds place there);
   owns = λ own. second.owns (first.owns own);
 }
 
@@ -108,22 +99,12 @@ module _ (before after : Pass) (same : own_board after ≡ own_board before) (fe
       subst (λ (l : List Entry). StartsWith l (known before).seen) (sym (ap (λ (k : Known Entry Terms). k.seen) knows ∙ added.1))
       (starts_more core.history (known before).seen (added.0 ∷ []) starts)
 
-  places_more : (core other : Core) → Knows caller_of (known before) core.history other.history (known after) → StartsWith core.history (known before).seen
-      → (place : ℕ) → Contains (known after).mine place → IsOldOrLater (known before) place
-  places_more core other (inl knows) starts place there = inl (subst (λ (l : List ℕ). Contains l place) (ap (λ (k : Known Entry Terms). k.mine) knows.1) there)
-  places_more core other (inr (added, knows)) starts place there =
-      let longer = starts_length core.history (known before).seen starts in
-      ⊎_elim (λ (old : Contains (known before).mine place). inl old)
-      (λ (new : Contains (length core.history ∷ []) place). let at = contains_one (length core.history) place new in inr (omega arith))
-      (Contains-append_cases (known before).mine (length core.history ∷ []) place (subst (λ (l : List ℕ). Contains l place) (ap (λ (k : Known Entry Terms). k.mine) knows) there))
-
   pub entered_goes : (asked : CoreEvent) (told : CoreReply) → Enters (known before) asked told (known after) → GoesOn before after
   entered_goes asked told enters = record {
     board_is = same;
     fetched_is = fetches;
     role = role_entered (known before) asked told (known after) enters;
     starts = seen_more enters.before enters.after enters.ran.knows enters.ran.found.begins.starts;
-    adds = places_more enters.before enters.after enters.ran.knows enters.ran.found.begins.starts;
     owns = λ own. enters.ran.owns;
   }
 
@@ -133,7 +114,6 @@ module _ (before after : Pass) (same : own_board after ≡ own_board before) (fe
     fetched_is = fetches;
     role = role_looked (known before) core (known after) looks;
     starts = subst (λ (l : List Entry). StartsWith l (known before).seen) (sym (ap (λ (k : Known Entry Terms). k.seen) looks.knows)) looks.found.begins.starts;
-    adds = λ place there. inl (subst (λ (l : List ℕ). Contains l place) (ap (λ (k : Known Entry Terms). k.mine) looks.knows) there);
     owns = λ own. looks.owns;
   }
 
@@ -149,7 +129,6 @@ module _ (before after : Pass) (same : own_board after ≡ own_board before) (fe
       back = ap (λ (k : Known Entry Terms). k.back) is;
     };
     starts = subst (λ (k : Known Entry Terms). StartsWith k.seen (known before).seen) (sym is) (starts_refl (known before).seen);
-    adds = λ place there. inl (subst (λ (k : Known Entry Terms). Contains k.mine place) is there);
     owns = λ own. subst (OwnsPlaces caller_of) (sym is) own;
   }
   seen_only_goes (inr looked) = looked_goes looked

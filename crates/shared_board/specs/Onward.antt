@@ -1,5 +1,5 @@
 -- What calls leave of a pass, one after the other.
-use Rattle.std.specs.Prelude.{◌≡◌, ℕ, ◌≤◌, ◌⊎◌, List, Contains, filter, length}
+use Rattle.std.specs.Prelude.{◌≡◌, ℕ, List, filter}
 use Rattle.disp_model.specs.declared.entry.Entry.{Entry}
 use Rattle.turn_lock.specs.Known.{StartsWith}
 use Rattle.turn_lock.specs.Section.{OwnsPlaces}
@@ -12,12 +12,11 @@ use Rattle.shared_board.specs.Standing.{SameRole}
 abbrev pub entries_by : ℕ → List Entry → List Entry
 entries_by caller history = filter (is_line_of caller) history
 
--- calls came between: the pass is of the same board, in the same role, and has seen no less; its new places lie behind what was
--- seen; its places are those of its caller if they were
+-- calls came between: the pass is of the same board, in the same role, and has seen no less; its places are those of its caller
+-- if they were
 pub record GoesOn (before after : Pass) : Type 0 where
   pub board_is : own_board after ≡ own_board before
   pub fetched_is : fetched after ≡ fetched before
   pub role : SameRole (known before) (known after)
   pub starts : StartsWith (known after).seen (known before).seen
-  pub adds : (place : ℕ) → Contains (known after).mine place → Contains (known before).mine place ⊎ (length (known before).seen ≤ place)
   pub owns : OwnsPlaces caller_of (known before) → OwnsPlaces caller_of (known after)

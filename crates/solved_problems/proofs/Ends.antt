@@ -23,7 +23,7 @@ use Rattle.shared_board.specs.Onward.{entries_by}
 use Rattle.shared_board.proofs.LineCounts.{behind_get}
 use Rattle.joined_passes.specs.Joined.{joined_all}
 use Rattle.joined_passes.proofs.Owning.{place_of}
-use Rattle.solved_problems.specs.Solved.{AreLinesFor, IsSearched, MayBeAsked, OwnsLines, HasSearched}
+use Rattle.solved_problems.specs.Solved.{AreLinesFor, IsSearched, MayBeAsked, HasSearched}
 use Rattle.solved_problems.proofs.Lines.{taken_lines}
 
 -- none of the entries is a line where there are none
@@ -45,61 +45,36 @@ of_search caller (Published edition plan cost) none named = tt
 of_search caller (Settled edition verdict tree) none named = tt
 of_search caller (Stopped edition spent bound) none named = tt
 
--- entries that are all lines of a caller
-all_lines : (caller : ℕ) (entries : List Entry) → ((place : ℕ) (e : Entry) → slice_get entries place ≡ Some e → is_line_of caller e ≡ true) → entries_by caller entries ≡ entries
-all_lines caller [] lines = refl
-all_lines caller (one ∷ entries) lines = rw (lines 0 one refl) (ap (λ (l : List Entry). one ∷ l) (all_lines caller entries (λ place e there. lines (suc place) e there)))
-
-module _ (v : Known Entry Terms) (ws : List (Known Entry Terms)) (history : List Entry) (own : OwnsLines v) (zero_is : v.caller ≡ 0) (starts : StartsWith history v.seen)
-    (all : All (HasSearched v history) ws) (covered : (place : ℕ) → place < length history → Contains (joined_all v ws).mine place)
+module _ (v : Known Entry Terms) (ws : List (Known Entry Terms)) (history : List Entry) (own : OwnsPlaces caller_of v) (starts : StartsWith history v.seen)
+    (all : All (HasSearched history) ws) (covered : (place : ℕ) → place < length history → Contains (joined_all v ws).mine place)
 where
-  abbrev IsFirst : ℕ → Entry → Type 0
-  IsFirst place e = (place < length v.seen) × (is_line_of 0 e ≡ true)
-
-  abbrev IsLater : ℕ → Entry → Type 0
-  IsLater place e = (length v.seen ≤ place) × IsOfSearch e
-
-  -- an entry is a line of the first pass, or behind those and of a search
-  by_place : (place : ℕ) (e : Entry) → slice_get history place ≡ Some e → IsFirst place e ⊎ IsLater place e
-  by_place place e there = whose (place_of v ws place (covered place (slice_get_within history place e there)))
+  -- an entry behind those that the first pass has seen is of a search
+  by_place : (place : ℕ) (e : Entry) → length v.seen ≤ place → slice_get history place ≡ Some e → IsOfSearch e
+  by_place place e behind there = whose (place_of v ws place (covered place (slice_get_within history place e there)))
     where
-      whose : Contains v.mine place ⊎ ((w : Known Entry Terms) × Contains ws w × Contains w.mine place) → IsFirst place e ⊎ IsLater place e
-      whose (inl mine) =
-          let within = own.owns.within place mine in
-          inl (within, subst (λ (caller : ℕ). is_line_of caller e ≡ true) zero_is (own.lines place e mine (starts_back history v.seen starts place e within there)))
+      whose : Contains v.mine place ⊎ ((w : Known Entry Terms) × Contains ws w × Contains w.mine place) → IsOfSearch e
+      whose (inl mine) = let within = own.within place mine in absurd (omega (arith, within, behind))
       whose (inr (w, one, mine)) =
-          let is = All-contains (HasSearched v history) ws w all one in
+          let is = All-contains (HasSearched history) ws w all one in
           let seen = starts_back history w.seen is.starts place e (is.owns.within place mine) there in
-          inr (
-            is.later place mine,
-            of_search w.caller e (no_line w.caller w.seen place e is.quiet seen)
-                (λ other names. ⊎_elim (λ same. same) (λ back. absurd (contains_none_where w.back other is.back back)) (is.owns.others place e other mine seen names)),
-          )
-
-  first_lines : entries_by 0 v.seen ≡ v.seen
-  first_lines = all_lines 0 v.seen (λ place e there. ⊎_elim
-      (λ (first : IsFirst place e). first.1)
-      (λ (later : IsLater place e). let within = slice_get_within v.seen place e there in absurd (omega (arith, later.0)))
-      (by_place place e (starts_get history v.seen starts place e there)))
+          of_search w.caller e (no_line w.caller w.seen place e is.quiet seen)
+          (λ other names. ⊎_elim (λ same. same) (λ back. absurd (contains_none_where w.back other is.back back)) (is.owns.others place e other mine seen names))
 
   later_search : All IsOfSearch starts.0
   later_search place d within =
       let e = get_or starts.0 place d in
       let there : slice_get history (length v.seen + place) ≡ Some e =
       ap (λ (l : List Entry). slice_get l (length v.seen + place)) starts.1 ∙ (behind_get v.seen starts.0 place ∙ slice_get-get_or starts.0 place d within) in
-      ⊎_elim
-      (λ (first : IsFirst (length v.seen + place) e). absurd (omega (arith, first.0)))
-      (λ (later : IsLater (length v.seen + place) e). later.1)
-      (by_place (length v.seen + place) e there)
+      by_place (length v.seen + place) e (omega arith) there
 
   pub is_searched : (problem : Problem) (settings : Settings) (asked : List Change) → IsLegal problem settings history → mark_of (newest history) history ≢ Working
-      → MayBeAsked problem [] asked → AreLinesFor 0 1 asked (entries_by 0 v.seen) → IsSearched problem settings asked history
+      → MayBeAsked problem [] asked → AreLinesFor 0 1 asked v.seen → IsSearched problem settings asked history
   is_searched problem settings asked legal closed may lines = record {
     legal = legal;
     lines = v.seen;
     search = starts.0;
     parts = starts.1;
-    asks = taken_lines problem settings history legal [] 1 asked v.seen starts may (subst (AreLinesFor 0 1 asked) first_lines lines);
+    asks = taken_lines problem settings history legal [] 1 asked v.seen starts may lines;
     of_search = later_search;
     closed = closed;
   }

@@ -76,12 +76,6 @@ AreLinesFor caller number (change ∷ asked) [] = ⊥
 AreLinesFor caller number (change ∷ asked) (entry ∷ entries) =
     IsLineFor caller number change entry × AreLinesFor caller (suc number) asked entries
 
--- the pass's places are within what it has seen, and hold lines of its caller alone
-pub record OwnsLines (v : Known Entry Terms) : Type 0 where
-  pub owns : OwnsPlaces caller_of v
-  pub lines : (place : ℕ) (e : Entry) → Contains v.mine place → slice_get v.seen place ≡ Some e
-      → is_line_of v.caller e ≡ true
-
 -- the caller's next line asked for the change
 pub record AsksNext (before after : Pass) (change : Change) : Type 0 where
   pub reply : Reply
@@ -90,12 +84,9 @@ pub record AsksNext (before after : Pass) (change : Change) : Type 0 where
       ≡ entries_by (known before).caller (known before).seen
       ++ Asked (known before).caller (lines before + 1) change reply ∷ []
 
--- a searcher's pass, which began with what this one has seen: it has no lines, and its places are
--- behind those
-pub record HasSearched (v : Known Entry Terms) (history : List Entry) (w : Known Entry Terms) :
-    Type 0 where
+-- a searcher's pass: it has no lines
+pub record HasSearched (history : List Entry) (w : Known Entry Terms) : Type 0 where
   pub back : w.back ≡ []
   pub owns : OwnsPlaces caller_of w
-  pub later : (place : ℕ) → Contains w.mine place → length v.seen ≤ place
   pub quiet : lines_of w.caller w.seen ≡ 0
   pub starts : StartsWith history w.seen
