@@ -6,7 +6,6 @@ ghost use Rattle.board_tests.specs.Callers.{IsNew};
 
 use disp_model::{Change, Entry, Fixing, Mark, Reply, Rule, Settings, Standing};
 use dispatch_core::CoreReply;
-use joined_passes::{Closed, close_run, join_all};
 use shared_board::{Board, Pass, SEARCHERS_FROM};
 use std::alloc::Global;
 use std::process::Abort;
@@ -141,24 +140,6 @@ fn two_callers_ask_in_some_order(rt: HostRuntime) -> Result<(), Fail> {
     assert!(rt; core.history().len() == 2);
     let numbers = (first, second);
     assert!(rt; numbers == (Some(1), Some(2)) || numbers == (Some(2), Some(1)));
-    Ok(())
-}
-
-#[test]
-fn a_run_of_two_callers_is_joined_and_closed(rt: HostRuntime) -> Result<(), Fail> {
-    let alloc = rt.alloc();
-    let (board, mut pass) = board(alloc)?;
-    let (one, two) = both_feeds(&board, &mut pass);
-    let ((one, first), (two, second)) = join(
-        &rt,
-        || ask_alone(&rt, alloc, &board, one, 0, 0),
-        || ask_alone(&rt, alloc, &board, two, 1, 10),
-    );
-    let passes = vec![in alloc; one, two]?;
-    join_all(&board, &mut pass, passes);
-    let Closed { core, over } = close_run(&rt, alloc, board, pass);
-    assert!(rt; core.history().len() == 2 && !over);
-    assert!(rt; first.is_some() && second.is_some());
     Ok(())
 }
 

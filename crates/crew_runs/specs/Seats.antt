@@ -1,5 +1,5 @@
 -- The searchers of a run.
-use Rattle.std.specs.Prelude.{◌≡◌, ℕ, suc, ◌+◌, ◌<◌, ◌≤◌, true, List, [], ◌∷◌, ◌++◌, Contains, Some, length, get_or, slice_get}
+use Rattle.std.specs.Prelude.{◌≡◌, ℕ, zero, suc, ◌+◌, ◌<◌, ◌≤◌, true, List, [], ◌∷◌, ◌++◌, Contains, Some, length, get_or, slice_get}
 use Rattle.disp_model.specs.declared.entry.Entry.{Entry}
 use Rattle.disp_model.specs.declared.settings.Rule.{Rule}
 use Rattle.turn_lock.specs.Known.{Known, given_known}
@@ -29,7 +29,7 @@ pub record HaveRun (before after : List Searcher) : Type 0 where
 
 -- so many callers from the first searcher's on
 abbrev pub searchers_to : ℕ → List ℕ
-searchers_to 0 = []
+searchers_to zero = []
 searchers_to (suc count) = searchers_to count ++ searcher_caller count ∷ []
 
 -- after a pass was given to each of so many searchers

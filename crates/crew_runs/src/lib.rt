@@ -8,4 +8,4 @@ mod seats;
 
 pub use running::run_searchers;
 pub use searcher::Searcher;
-pub use seats::{passes_of, seats_of};
+pub use seats::{join_searchers, seats_of};

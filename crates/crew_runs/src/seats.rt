@@ -1,9 +1,11 @@
-ghost use Rattle.std.specs.Prelude.{◌≡◌, ◌≤◌, ◌+◌, ◌++◌, IfOk, map, length, vec_len, vec_capacity};
+ghost use Rattle.std.specs.Prelude.{◌≡◌, true, All, IfOk, map, length};
 ghost use Rattle.shared_board.specs.Board.{board_of, own_board, known, fetched, lines};
+ghost use Rattle.joined_passes.specs.Joined.{Joins};
 ghost use Rattle.crew_runs.specs.Seats.{MaySeat, AreSeats, with_searchers};
 
 use crate::searcher::Searcher;
 use disp_model::Memory;
+use joined_passes::join_next;
 use search_crew::Hand;
 use shared_board::{Board, Pass, SEARCHERS_FROM};
 use std::alloc::Global;
@@ -38,14 +40,15 @@ pub fn seats_of(
     Ok(seats)
 }
 
-/// The passes of searchers, put behind others where there is room for them.
-pub fn passes_of(searchers: Vec<Searcher>, mut passes: Vec<Pass>) -> Vec<Pass>
-    requires { vec_len passes + vec_len searchers ≤ vec_capacity passes }
-    ensures { result.items ≡ passes.items ++ map (λ s. s.pass) searchers.items }
+/// Puts what the passes of searchers know into the first pass, one after the other, and ends them.
+pub fn join_searchers(board: &Board, first: &mut Pass, searchers: Vec<Searcher>)
+    requires board { own_board first.old ≡ board_of board.now }
+    requires first { (known first.old).first ≡ true }
+    requires boards { All (λ s. own_board s.pass ≡ board_of board.now) searchers.items }
+    ensures { Joins first.old (map (λ s. s.pass) searchers.items) first.new }
 {
     for searcher in searchers {
         let Searcher { pass, .. } = searcher;
-        passes.push_reserved(pass);
+        join_next(board, first, pass);
     }
-    passes
 }

@@ -1,5 +1,5 @@
 -- The feeds of a run.
-use Rattle.std.specs.Prelude.{◌≡◌, ◌↔◌, ℕ, suc, ◌<◌, ◌≤◌, Bool, true, false, List, [], ◌∷◌, ◌++◌, All, Option, Some, IfSome, length, get_or, slice_get}
+use Rattle.std.specs.Prelude.{◌≡◌, ◌↔◌, ℕ, zero, suc, ◌<◌, ◌≤◌, Bool, true, false, List, [], ◌∷◌, ◌++◌, All, Contains, Option, Some, IfSome, length, get_or, slice_get}
 use Rattle.disp_model.specs.declared.entry.Entry.{Entry}
 use Rattle.disp_model.specs.declared.limits.TheConstants.{MOST_CALLERS}
 use Rattle.turn_lock.specs.Known.{Known, given_known}
@@ -16,7 +16,7 @@ use Rattle.feed_runs.specs.declared.reader.Reader.{Reader}
 
 -- so many callers from 0 on
 abbrev pub feeds_to : ℕ → List ℕ
-feeds_to 0 = []
+feeds_to zero = []
 feeds_to (suc count) = feeds_to count ++ count ∷ []
 
 -- after a pass was given to each of so many feeds
@@ -69,3 +69,9 @@ module _ {F : Type 0} where
   pub record HaveRead (told : F → Option (List (List ℕ))) (faults : F → ℕ) (name : F → List ℕ) (before after : List (Reader F)) : Type 0 where
     pub as_many : length after ≡ length before
     pub each : (place : ℕ) (d : Reader F) → place < length before → HasRead told faults name (get_or before place d) (get_or after place d)
+
+  -- feeds were closed: no count falls; one rises only where a feed of that name has failed, and where one has, its does
+  pub record CountsFeeds (name : F → List ℕ) (faults : F → ℕ) (feeds : List F) (old new : List ℕ → ℕ) : Type 0 where
+    pub counted : (one : List ℕ) → old one ≤ new one
+    pub risen : (one : List ℕ) → old one < new one → (feed : F) × Contains feeds feed × (name feed ≡ one) × (0 < faults feed)
+    pub failed : All (λ feed. 0 < faults feed → old (name feed) < new (name feed)) feeds

@@ -6,5 +6,5 @@ mod readers;
 mod running;
 
 pub use reader::Reader;
-pub use readers::{parts_of, readers_of};
+pub use readers::{join_readers, readers_of};
 pub use running::run_readers;

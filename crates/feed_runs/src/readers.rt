@@ -1,11 +1,13 @@
-ghost use Rattle.std.specs.Prelude.{◌≡◌, ◌≤◌, ◌+◌, ◌++◌, IfOk, map, length, vec_len, vec_capacity};
+ghost use Rattle.std.specs.Prelude.{◌≡◌, ℕ, List, true, All, IfOk, map, length};
 ghost use Rattle.shared_board.specs.Board.{board_of, own_board, known, fetched, lines};
-ghost use Rattle.feed_runs.specs.Readers.{MayRead, AreReaders, with_readers};
+ghost use Rattle.joined_passes.specs.Joined.{Joins};
+ghost use Rattle.feed_runs.specs.Readers.{MayRead, AreReaders, CountsFeeds, with_readers};
 
 use crate::reader::Reader;
 use disp_model::Memory;
-use disp_outside::Feed;
+use disp_outside::{Feed, Shelf};
 use feed_reader::Reading;
+use joined_passes::join_next;
 use shared_board::{Board, Pass};
 use std::alloc::Global;
 
@@ -43,30 +45,30 @@ pub fn readers_of<F: Feed + Drop>(
     Ok(readers)
 }
 
-/// Takes readers apart: their passes, feeds and readings, each put behind others where there is room.
-pub fn parts_of<F: Drop>(
-    readers: Vec<Reader<F>>,
-    mut passes: Vec<Pass>,
-    mut feeds: Vec<F>,
-    mut readings: Vec<Reading>,
-) -> (Vec<Pass>, Vec<F>, Vec<Reading>)
-    requires passes { vec_len passes + vec_len readers ≤ vec_capacity passes }
-    requires feeds { vec_len feeds + vec_len readers ≤ vec_capacity feeds }
-    requires readings { vec_len readings + vec_len readers ≤ vec_capacity readings }
-    ensures passes { result.0.items ≡ passes.items ++ map (λ r. r.pass) readers.items }
-    ensures room { vec_capacity result.0 ≡ vec_capacity passes }
-    ensures feeds { result.1.items ≡ feeds.items ++ map (λ r. r.feed) readers.items }
-    ensures readings { result.2.items ≡ readings.items ++ map (λ r. r.reading) readers.items }
+/// Puts what the passes of readers know into the first pass, one after the other, ends them, and
+/// closes their feeds, which the shelf gave.
+pub fn join_readers<S: Shelf>(
+    board: &Board,
+    first: &mut Pass,
+    shelf: &mut S,
+    readers: Vec<Reader<S::Feed>>,
+)
+    requires board { own_board first.old ≡ board_of board.now }
+    requires first { (known first.old).first ≡ true }
+    requires boards { All (λ r. own_board r.pass ≡ board_of board.now) readers.items }
+    requires known { All (λ r. S.knows shelf.old (S.Feed.name r.feed)) readers.items }
+    ensures board { own_board first.new ≡ own_board first.old }
+    ensures first { (known first.new).first ≡ true }
+    ensures joins { Joins first.old (map (λ r. r.pass) readers.items) first.new }
+    ensures counts { CountsFeeds S.Feed.name S.Feed.faults (map (λ r. r.feed) readers.items)
+        (S.reading_faults shelf.old) (S.reading_faults shelf.new) }
+    ensures puttings { (name : List ℕ) → S.putting_faults shelf.new name
+        ≡ S.putting_faults shelf.old name }
+    ensures held { (name : List ℕ) → S.holds shelf.new name ≡ S.holds shelf.old name }
 {
     for reader in readers {
-        let Reader {
-            pass,
-            feed,
-            reading,
-        } = reader;
-        passes.push_reserved(pass);
-        feeds.push_reserved(feed);
-        readings.push_reserved(reading);
+        let Reader { pass, feed, .. } = reader;
+        join_next(board, first, pass);
+        shelf.close(feed);
     }
-    (passes, feeds, readings)
 }

@@ -12,7 +12,7 @@ use Rattle.shared_board.specs.declared.terms.Terms.{Terms}
 use Rattle.shared_board.specs.Board.{own_board, known, fetched, lines}
 use Rattle.shared_board.specs.Callers.{caller_of}
 use Rattle.shared_board.proofs.LineCounts.{longer_begins}
-use Rattle.joined_passes.specs.Joined.{joined_all}
+use Rattle.joined_passes.specs.Joined.{joined_all, caller_at, Joins}
 
 module _ {E T : Type 0} where
   -- one pass more
@@ -31,25 +31,6 @@ module _ {E : Type 0} where
       (λ (no : nat_lt (length xs) (length ys) ≡ false).
       let s : shorter_of xs ys ≡ ys = ap (λ (b : Bool). if b then xs else ys) no in subst (StartsWith (longer_of xs ys)) s one)
       (either_bool (nat_lt (length xs) (length ys)))
-
--- the caller of a pass
-abbrev pub caller_at : Pass → ℕ
-caller_at pass = (known pass).caller
-
--- these passes were joined into the first one
-pub record Joins (before : Pass) (passes : List Pass) (after : Pass) : Type 0 where
-  pub board_is : own_board after ≡ own_board before
-  pub knows : known after ≡ joined_all (known before) (map known passes)
-  pub fetched_is : fetched after ≡ fetched before
-  pub lines_are : lines after ≡ lines before
-  pub first : (known after).first ≡ (known before).first
-  pub caller : (known after).caller ≡ (known before).caller
-  pub terms : (known after).terms ≡ (known before).terms
-  pub given : (known after).given ≡ (known before).given
-  pub back : (known after).back ≡ (known before).back ++ map caller_at passes
-  pub starts : StartsWith (known after).seen (known before).seen
-  pub each : All (λ pass. StartsWith (known after).seen (known pass).seen) passes
-  pub owns : OwnsPlaces caller_of (known before) ⊎ (1 ≤ length passes) → OwnsPlaces caller_of (known after)
 
 pub joins_none : (first : Pass) → Joins first [] first
 joins_none first = record {

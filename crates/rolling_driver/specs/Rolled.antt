@@ -19,12 +19,6 @@ module _ {F : Type 0} where
   abbrev pub AreNew : (F → Bool) → (F → ℕ) → List F → Type 0
   AreNew has_ended faults feeds = All (λ feed. (has_ended feed ≡ false) × (faults feed ≡ 0)) feeds
 
-  -- feeds were closed: no count falls; one rises only where a feed of that name has failed, and where one has, its does
-  pub record CountsFeeds (name : F → List ℕ) (faults : F → ℕ) (feeds : List F) (old new : Counts) : Type 0 where
-    pub counted : (one : List ℕ) → old one ≤ new one
-    pub risen : (one : List ℕ) → old one < new one → (feed : F) × Contains feeds feed × (name feed ≡ one) × (0 < faults feed)
-    pub failed : All (λ feed. 0 < faults feed → old (name feed) < new (name feed)) feeds
-
   -- what clauses see of feeds
   abbrev pub fed : (F → List ℕ) → (F → Option (List (List ℕ))) → List F → List (List ℕ × Option (List (List ℕ)))
   fed name lines feeds = map (λ feed. (name feed, lines feed)) feeds

@@ -1,9 +1,10 @@
 -- The status of a run.
-use Rattle.std.specs.Prelude.{◌≡◌, ◌⊎◌, ℕ, List, Contains, Result, Err}
+use Rattle.std.specs.Prelude.{◌≡◌, ◌⊎◌, ◌↔◌, ℕ, List, Contains, IsTrue, Result, Err}
 use Rattle.disp_model.specs.declared.entry.Mark.{Mark}
 use Rattle.disp_model.specs.declared.entry.Mark.TheVariants as mark
 use Rattle.feed_reader.specs.declared.read.Reading.{Reading}
 use Rattle.feed_reader.specs.declared.read.Reading.TheVariants as reading
+use Rattle.rolling_driver.specs.declared.status.Ended.{Ended}
 use Rattle.journal_printer.specs.declared.no.PrintNo.{PrintNo}
 use Rattle.journal_printer.specs.declared.no.PrintNo.TheVariants.{Unput, Unwritten, Memory}
 
@@ -30,3 +31,9 @@ IsOtherStatus mark readings printed status =
 
 abbrev pub IsStatus : Mark → List Reading → Result (Unit {0}) PrintNo → ℕ → Type 0
 IsStatus mark readings printed status = (WantsMemory mark readings printed × (status ≡ 5)) ⊎ ((WantsMemory mark readings printed → ⊥) × IsOtherStatus mark readings printed status)
+
+-- what is noted of how readings ended
+pub record AreEnded (readings : List Reading) (ended : Ended) : Type 0 where
+  pub memory : IsTrue ended.memory ↔ Contains readings reading.Memory
+  pub too_many : IsTrue ended.too_many ↔ Contains readings reading.TooMany
+  pub failed : IsTrue ended.failed ↔ Contains readings reading.Failed

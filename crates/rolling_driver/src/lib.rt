@@ -6,7 +6,6 @@
 //! lines in order, and what was written is the journal's text.
 #![tactic(auto)]
 
-mod closing;
 mod printing;
 mod roll;
 mod running;

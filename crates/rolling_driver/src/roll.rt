@@ -3,15 +3,14 @@ ghost use Rattle.disp_model.specs.declared.limits.TheConstants.{MOST_CALLERS};
 ghost use Rattle.text_puts.specs.Outside.{outside};
 ghost use Rattle.rolling_driver.specs.Rolled.{IsRolled, AreNew, fed};
 
-use crate::closing::close_feeds;
 use crate::printing::print_news;
 use crate::running::run_all;
-use crate::status::status_of;
-use crew_runs::{passes_of, seats_of};
+use crate::status::{ended_of, status_of};
+use crew_runs::{join_searchers, seats_of};
 use disp_model::{Entry, Memory, Problem, Settings, Text};
 use disp_outside::{Gate, Shelf, Sink};
-use feed_runs::{parts_of, readers_of};
-use joined_passes::{close_run, join_all};
+use feed_runs::{join_readers, readers_of};
+use joined_passes::close_run;
 use search_crew::crew_of;
 use shared_board::Board;
 use std::alloc::Global;
@@ -57,12 +56,9 @@ pub fn roll<R: Threads + Wait + Sync, S: Shelf, O: Sink, G: Gate>(
         (outside (S.holds shelf.new) (S.reading_faults shelf.new) (S.putting_faults shelf.new)
         (O.faults out.new) (O.written out.new)) rolled.journal.items rolled.status) }
 {
-    let count = feeds.len();
-    let (board, mut first) = Board::new(alloc, problem, settings, count as u32, workers)?;
+    let count = feeds.len() as u32;
+    let (board, mut first) = Board::new(alloc, problem, settings, count, workers)?;
     let (crew, hands) = crew_of(alloc, workers)?;
-    let passes = Vec::with_capacity(alloc, count + workers as usize)?;
-    let ended = Vec::with_capacity(alloc, count)?;
-    let readings = Vec::with_capacity(alloc, count)?;
     let mut readers = readers_of(alloc, &board, &mut first, feeds)?;
     let mut searchers = seats_of(alloc, &board, &mut first, hands)?;
     let printed = run_all(
@@ -79,17 +75,17 @@ pub fn roll<R: Threads + Wait + Sync, S: Shelf, O: Sink, G: Gate>(
         out,
         trees,
     );
-    let (passes, feeds, readings) = parts_of(readers, passes, ended, readings);
-    join_all(&board, &mut first, passes_of(searchers, passes));
+    let ended = ended_of(readers.as_slice());
+    join_readers(&board, &mut first, shelf, readers);
+    join_searchers(&board, &mut first, searchers);
     let printed = match printed {
         Ok(()) => print_news(rt, alloc, &board, &mut first, shelf, out, trees),
         Err(no) => Err(no),
     };
     let mut core = close_run(rt, alloc, board, first).core;
-    close_feeds(shelf, feeds);
     let mark = core.standing().mark;
     Ok(Rolled {
-        status: status_of(mark, readings.as_slice(), printed),
+        status: status_of(mark, ended, printed),
         journal: core.into_history(),
     })
 }

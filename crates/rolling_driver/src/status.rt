@@ -1,34 +1,39 @@
-ghost use Rattle.std.specs.Prelude.{◌≡◌, ◌↔◌, IsTrue, Contains, Ok, Err};
-ghost use Rattle.disp_model.specs.declared.entry.Mark.TheVariants.{Working};
-ghost use Rattle.rolling_driver.specs.Status.{IsStatus, WantsMemory, HasFailed, status_of_mark};
+ghost use Rattle.std.specs.Prelude.{◌≡◌, ◌↔◌, List, IsTrue, Contains, map};
+ghost use Rattle.feed_reader.specs.declared.read.Reading.{Reading as ReadingOf};
+ghost use Rattle.rolling_driver.specs.Status.{AreEnded, IsStatus, status_of_mark};
 
 use disp_model::Mark;
 use feed_reader::Reading;
+use feed_runs::Reader;
 use journal_printer::PrintNo;
 
-/// Whether some reading ended so.
-fn has(readings: &[Reading], one: Reading) -> bool
-    ensures { IsTrue result ↔ Contains readings.now one }
-{
-    readings.iter().any(|reading| *reading == one)
+/// How the readings of the feeds ended.
+#[derive(Clone, Copy, Debug, PartialEq, Eq)]
+pub(crate) struct Ended {
+    /// Memory ran out in one.
+    memory: bool,
+    /// There are too many lines in one.
+    too_many: bool,
+    /// One failed.
+    failed: bool,
 }
 
-/// Whether memory ran out, or an edition is still worked on, which is so only where memory ran out.
-fn wants_memory(mark: Mark, readings: &[Reading], printed: Result<(), PrintNo>) -> bool
-    ensures { IsTrue result ↔ WantsMemory mark readings.now printed }
+/// Whether the reading of some feed ended so.
+fn has<F>(readers: &[Reader<F>], one: Reading) -> bool
+    ensures { IsTrue result ↔ Contains (map (λ r. r.reading) readers.now) one }
 {
-    mark == Mark::Working
-        || printed == Err(PrintNo::Memory)
-        || has(readings, Reading::Memory)
+    readers.iter().any(|reader| reader.reading == one)
 }
 
-/// Whether a reading, a putting or a write failed.
-fn has_failed(readings: &[Reading], printed: Result<(), PrintNo>) -> bool
-    ensures { IsTrue result ↔ HasFailed readings.now printed }
+/// How the readings of the feeds ended.
+pub(crate) fn ended_of<F>(readers: &[Reader<F>]) -> Ended
+    ensures { AreEnded (map (λ r. r.reading) readers.now) result }
 {
-    printed == Err(PrintNo::Unput)
-        || printed == Err(PrintNo::Unwritten)
-        || has(readings, Reading::Failed)
+    Ended {
+        memory: has(readers, Reading::Memory),
+        too_many: has(readers, Reading::TooMany),
+        failed: has(readers, Reading::Failed),
+    }
 }
 
 /// The status for a mark that is not worked on any more.
@@ -45,14 +50,15 @@ fn status_of_mark(mark: Mark) -> u8
 
 /// The status of a run: want of memory stands before feeds that are too long, these before what
 /// failed, and that before the mark of the newest edition.
-pub(crate) fn status_of(mark: Mark, readings: &[Reading], printed: Result<(), PrintNo>) -> u8
-    ensures { IsStatus mark readings.now printed result }
+pub(crate) fn status_of(mark: Mark, ended: Ended, printed: Result<(), PrintNo>) -> u8
+    ensures { (readings : List ReadingOf) → AreEnded readings ended
+        → IsStatus mark readings printed result }
 {
-    if wants_memory(mark, readings, printed) {
+    if mark == Mark::Working || printed == Err(PrintNo::Memory) || ended.memory {
         5
-    } else if has(readings, Reading::TooMany) {
+    } else if ended.too_many {
         2
-    } else if has_failed(readings, printed) {
+    } else if printed.is_err() || ended.failed {
         4
     } else {
         status_of_mark(mark)

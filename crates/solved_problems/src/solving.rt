@@ -3,11 +3,11 @@ ghost use Rattle.disp_model.specs.declared.limits.TheConstants.{MOST_CALLERS};
 ghost use Rattle.solved_problems.specs.Solved.{IsSearched, MayBeAsked};
 
 use crate::entering::enter;
-use crew_runs::{passes_of, run_searchers, seats_of};
+use crew_runs::{join_searchers, run_searchers, seats_of};
 use disp_model::{Change, Memory, Problem, Settings};
 use disp_outside::Gate;
 use dispatch_core::Core;
-use joined_passes::{close_run, join_all};
+use joined_passes::close_run;
 use search_crew::crew_of;
 use shared_board::Board;
 use std::alloc::Global;
@@ -40,7 +40,6 @@ pub fn solve<R: Threads + Wait + Sync, G: Gate>(
     enter(rt, alloc, &board, &mut first, asked)?;
     let (crew, hands) = crew_of(alloc, searchers)?;
     let mut seats = seats_of(alloc, &board, &mut first, hands)?;
-    let passes = Vec::with_capacity(alloc, seats.len())?;
     run_searchers(
         rt,
         alloc,
@@ -50,7 +49,7 @@ pub fn solve<R: Threads + Wait + Sync, G: Gate>(
         gate,
         seats.as_mut_slice(),
     );
-    join_all(&board, &mut first, passes_of(seats, passes));
+    join_searchers(&board, &mut first, seats);
     let closed = close_run(rt, alloc, board, first);
     if closed.over {
         Ok(closed.core)
