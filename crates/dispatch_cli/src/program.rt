@@ -3,7 +3,7 @@ ghost use Rattle.text_puts.specs.Outside.{outside};
 ghost use Rattle.dispatch_cli.specs.Outside.{FailsOfOne};
 ghost use Rattle.dispatch_cli.specs.Answers.{IsDuePut};
 ghost use Rattle.dispatch_cli.specs.Causes.{CountsReading, IsAnswerStatus};
-ghost use Rattle.text_puts.specs.Puts.{PutsOnly, PutMisses, PutsSome, StandsAfter};
+ghost use Rattle.text_puts.specs.Puts.{PutsOnly};
 ghost use Rattle.dispatch_cli.specs.Endings.{EndsAnswered, EndsRefused, EndsFailed, GivesUp, CountsPutting, Publishes};
 
 use crate::answer::Answer;
