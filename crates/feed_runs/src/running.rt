@@ -1,4 +1,4 @@
-ghost use Rattle.std.specs.Prelude.{◌≡◌, All, length};
+ghost use Rattle.std.specs.Prelude.{◌<◌, All, length};
 ghost use Rattle.std.specs.Thread.{IsSend, IsSync};
 ghost use Rattle.feed_runs.specs.Readers.{AreReady, HaveRead};
 
@@ -23,12 +23,12 @@ pub fn run_readers<R: Threads + Wait + Sync, F: Feed, G: Gate>(
     requires { AreReady F.has_ended board.now readers.old }
     ensures { HaveRead F.lines F.faults F.name readers.old readers.new }
 {
-    if readers.len() > 1 {
-        let (front, back) = readers.split_at_mut(readers.len() / 2);
-        run_halves(rt, alloc, board, gate, front, back);
-    } else {
-        for reader in readers {
-            run_reader(rt, alloc, board, gate, reader);
+    match readers.len() {
+        0 => {}
+        1 => run_reader(rt, alloc, board, gate, &mut readers[0]),
+        count => {
+            let (front, back) = readers.split_at_mut(count / 2);
+            run_halves(rt, alloc, board, gate, front, back);
         }
     }
 }
@@ -43,6 +43,7 @@ fn run_halves<R: Threads + Wait + Sync, F: Feed, G: Gate>(
     front: &mut [Reader<F>],
     back: &mut [Reader<F>],
 )
+    requires some { (0 < length front.old) × (0 < length back.old) }
     requires front { AreReady F.has_ended board.now front.old }
     requires back { AreReady F.has_ended board.now back.old }
     ensures front { HaveRead F.lines F.faults F.name front.old front.new }
