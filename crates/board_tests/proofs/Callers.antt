@@ -1,7 +1,8 @@
 -- Whose passes a board of two feeds and one searcher gives.
-use Rattle.std.proofs.Common.{◌≡◌, ◌∙◌, ℕ, ◌<◌, inl, inr, ap, arith}
+use Rattle.std.proofs.Common.{◌≡◌, ◌∙◌, ℕ, ◌<◌, inl, inr, List, [], ◌∷◌, ◌++◌, Contains, sym, ap, subst, arith}
+use Rattle.std.proofs.lemmas.List.Elements.{Contains-append_right}
 use Rattle.disp_model.specs.declared.entry.Entry.{Entry}
-use Rattle.turn_lock.specs.Known.{Known, given_known}
+use Rattle.turn_lock.specs.Known.{Known, given_known, with_given}
 use Rattle.shared_board.specs.declared.terms.Terms.{Terms}
 use Rattle.shared_board.specs.Calls.{HasCaller, IsFeed, IsSearcher}
 use Rattle.board_tests.specs.Callers.{IsNew}
@@ -22,3 +23,11 @@ module _ (v w : Known Entry Terms) (new : IsNew v) (same : w.terms ≡ v.terms) 
   searcher_given given is =
       let one = new.searchers in let own : given.caller ≡ 256 = ap (λ (z : Known Entry Terms). z.caller) is in
       record { terms = new.terms; terms_are = ap (λ (z : Known Entry Terms). z.terms) is ∙ (same ∙ new.terms_are); above = omega arith; within = omega arith }
+
+-- the two callers that passes were given to are back
+pub both_back : (v w : Known Entry Terms) → IsNew v → w.given ≡ (with_given (with_given v 0) 1).given → (before : List ℕ) (one two : ℕ) → w.back ≡ before ++ one ∷ two ∷ [] → one ≡ 0 → two ≡ 1
+    → (caller : ℕ) → Contains w.given caller → Contains w.back caller
+both_back v w new given before one two back first second caller there =
+    let both : w.given ≡ 0 ∷ 1 ∷ [] = given ∙ ap (λ (l : List ℕ). (l ++ 0 ∷ []) ++ 1 ∷ []) new.given in
+    let pair : one ∷ two ∷ [] ≡ 0 ∷ 1 ∷ [] = (λ i. first i ∷ second i ∷ []) in
+    subst (λ (l : List ℕ). Contains l caller) (sym (back ∙ ap (λ (l : List ℕ). before ++ l) pair)) (Contains-append_right before (0 ∷ 1 ∷ []) caller (subst (λ (l : List ℕ). Contains l caller) both there))
