@@ -36,9 +36,7 @@ fn answer_alone<R: Wait>(
     let Some(mut hand) = hands.pop() else {
         unreachable!()
     };
-    Ok(search(
-        rt, alloc, board, pass, &crew, &mut hand, rule, 0, &OpenGate,
-    ))
+    Ok(search(rt, alloc, board, pass, &crew, &mut hand, rule, 0, &OpenGate))
 }
 
 /// A search of edition 0 by one searcher has this answer.
