@@ -46,8 +46,7 @@ of_search caller (Settled edition verdict tree) none named = tt
 of_search caller (Stopped edition spent bound) none named = tt
 
 module _ (v : Known Entry Terms) (ws : List (Known Entry Terms)) (history : List Entry) (own : OwnsPlaces caller_of v) (starts : StartsWith history v.seen)
-    (all : All (HasSearched history) ws) (covered : (place : ℕ) → place < length history → Contains (joined_all v ws).mine place)
-where
+    (all : All (HasSearched history) ws) (covered : (place : ℕ) → place < length history → Contains (joined_all v ws).mine place) where
   -- an entry behind those that the first pass has seen is of a search
   by_place : (place : ℕ) (e : Entry) → length v.seen ≤ place → slice_get history place ≡ Some e → IsOfSearch e
   by_place place e behind there = whose (place_of v ws place (covered place (slice_get_within history place e there)))

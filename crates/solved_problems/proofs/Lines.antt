@@ -1,7 +1,8 @@
 -- Lines of one caller that ask for changes.
-use Rattle.std.proofs.Common.{◌≡◌, ◌∙◌, ℕ, suc, ◌+◌, List, [], ◌∷◌, ◌++◌, length, take, refl, sym, ap, subst, arith}
+use Rattle.std.proofs.Common.{◌≡◌, ◌∙◌, ℕ, suc, ◌+◌, ◌<◌, List, [], ◌∷◌, ◌++◌, get_or, length, take, refl, sym, ap, subst, arith}
 use Rattle.std.specs.Prelude.{Some, slice_get}
-use Rattle.std.proofs.lemmas.List.{append_assoc, append-nil, take_at}
+use Rattle.std.proofs.Math.Seq.{take-suc}
+use Rattle.std.proofs.lemmas.List.{append_assoc, append-nil, length-take-le, take_at}
 use Rattle.disp_model.specs.declared.entry.Entry.{Entry}
 use Rattle.disp_model.specs.declared.entry.Entry.TheVariants.{Asked, Unread, Shown, Grown, Published, Settled, Stopped}
 use Rattle.disp_model.specs.declared.fixing.Change.{Change}
@@ -38,6 +39,18 @@ as_many caller number [] [] all = refl
 as_many caller number [] (first ∷ entries) all = absurd all
 as_many caller number (first ∷ asked) [] all = absurd all
 as_many caller number (first ∷ asked) (here ∷ entries) (is, all) = ap suc (as_many caller (suc number) asked entries all)
+
+-- the line at the next place behind those before it
+pub lines_next : (caller place : ℕ) (asked : List Change) (entries more : List Entry) (change : Change) (told : Reply) → place < length asked → get_or asked place change ≡ change
+    → AreLinesFor caller 1 (take place asked) entries → more ≡ entries ++ Asked caller (place + 1) change told ∷ [] → AreLinesFor caller 1 (take (place + 1) asked) more
+lines_next caller place asked entries more change told within here all is =
+    let one : suc place ≡ place + 1 = omega arith in
+    let grown : take (place + 1) asked ≡ take place asked ++ change ∷ [] =
+    ap (λ (n : ℕ). take n asked) (sym one) ∙ (take-suc asked place change within ∙ ap (λ (c : Change). take place asked ++ c ∷ []) here) in
+    let number : place + 1 ≡ 1 + length (take place asked) = omega (arith, length-take-le place asked (omega (arith, within))) in
+    subst (λ (l : List Change). AreLinesFor caller 1 l more) (sym grown)
+    (subst (AreLinesFor caller 1 (take place asked ++ change ∷ [])) (sym is)
+    (lines_more caller 1 (take place asked) entries change (Asked caller (place + 1) change told) all (refl, number, refl)))
 
 -- what is taken of a change is what stands behind it
 behind : (old : List Change) (change : Change) (told : Reply) → IsTaken told → old ++ taken change told ≡ changes_after old change told
