@@ -29,8 +29,10 @@ ask_asks before after line change told is enters counted = by_reply told enters 
   where
     v : Known Entry Terms
     v = known before
+
     w : Known Entry Terms
     w = known after
+
     by_reply : (told : CoreReply) (enters : Enters v (event.Ask v.caller line change) told w) → IsAsk enters.before v.caller line change told enters.after
         → AsksNext before after change
     by_reply (reply.Asked answer) enters asks = record {

@@ -22,18 +22,9 @@ use Rattle.shared_board.specs.Callers.{caller_of, is_line_of, lines_of, searcher
 use Rattle.shared_board.specs.Onward.{entries_by}
 use Rattle.shared_board.proofs.LineCounts.{behind_get}
 use Rattle.joined_passes.specs.Joined.{joined_all}
-use Rattle.joined_passes.proofs.Owning.{place_of}
+use Rattle.joined_passes.proofs.Owning.{place_of, no_line}
 use Rattle.solved_problems.specs.Solved.{AreLinesFor, IsSearched, MayBeAsked, HasSearched}
 use Rattle.solved_problems.proofs.Lines.{taken_lines}
-
--- none of the entries is a line where there are none
-no_line : (caller : ℕ) (entries : List Entry) (place : ℕ) (e : Entry) → lines_of caller entries ≡ 0 → slice_get entries place ≡ Some e → is_line_of caller e ≡ true → ⊥
-no_line caller [] place e none there line = absurd (cc)
-no_line caller (one ∷ entries) zero e none there line =
-    let is : one ≡ e = cc in
-    let counted : cond (is_line_of caller one) 1 0 ≡ 1 = ap (λ (b : Bool). cond b 1 0) (ap (is_line_of caller) is ∙ line) in
-    omega arith
-no_line caller (one ∷ entries) (suc place) e none there line = no_line caller entries place e (omega (arith, none)) there line
 
 -- an entry that names a caller without lines, or none, is of a search
 of_search : (caller : ℕ) (e : Entry) → (is_line_of caller e ≡ true → ⊥) → ((other : ℕ) → caller_of e ≡ Some other → other ≡ caller) → IsOfSearch e

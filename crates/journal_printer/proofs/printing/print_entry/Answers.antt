@@ -25,7 +25,7 @@ returns-in_err-put_tree g c =
 pub returns-in_err-write_line : goal.returns-in_err-write_line
 returns-in_err-write_line g c =
     let p = err_from_is_err_and c.from_residual-in_err-write_line.result
-        c.from_residual-in_err-write_line.ensures.1 in
+    c.from_residual-in_err-write_line.ensures.1 in
     rw (p.1, p.2)
     (one_unwritten (option_map (λ prefix. prefix.now) c.args.trees) c.args.entry.now
     (outside (g.S.Shelf.holds c.args.shelf.now) (g.S.Shelf.reading_faults c.args.shelf.now)
