@@ -1,4 +1,4 @@
 mod Marks
-mod Keeping
+pub mod Keeping
 mod Handing
 mod Grounding

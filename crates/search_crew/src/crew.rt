@@ -6,10 +6,15 @@ use crossbeam_deque::{Steal, Stealer, Worker};
 use disp_model::Memory;
 use incumbent_cell::{CellPass, Least};
 use open_nodes::Work;
+use search_workers::{Effort, FOR_PLAN};
 use std::alloc::Global;
 
 /// How many works a searcher has room for.
 const ROOM: usize = 8;
+
+/// How many branches a searcher asks for at a time to find a plan where others share the tree: the
+/// fewest for which the core goes on in depth.
+pub(crate) const SHARED_FOR_PLAN: u32 = 65;
 
 /// What the searchers of a board share: whence they steal works, and the least cost that was
 /// published.
@@ -19,13 +24,19 @@ pub struct Crew {
     stealers: Vec<Stealer<Work>>,
 }
 
-/// What one searcher of a crew has for itself: its place in the crew, its pass to the least cost, and
-/// its works, of which others can steal.
+/// What one searcher of a crew has for itself: its place in the crew, its pass to the least cost,
+/// what it has done, and its works, of which others can steal.
 #[derive(Drop)]
 pub struct Hand {
     pub(crate) place: u32,
     pub(crate) cell: CellPass,
+    pub(crate) effort: Effort,
     works: Worker<Work>,
+}
+
+/// How many branches a searcher of so many asks for at a time to find a plan.
+fn for_plan(count: u32) -> u32 {
+    if count > 1 { SHARED_FOR_PLAN } else { FOR_PLAN }
 }
 
 /// A crew of so many searchers, with a hand for each.
@@ -44,7 +55,13 @@ pub fn crew_of(alloc: Global, count: u32) -> Result<(Crew, Vec<Hand>), Memory>
         let works = Worker::new_fifo(alloc, ROOM)?;
         stealers.push(works.stealer()?)?;
         let cell = least.split(&mut first);
-        hands.push(Hand { place, cell, works })?;
+        let effort = Effort::new(for_plan(count));
+        hands.push(Hand {
+            place,
+            cell,
+            effort,
+            works,
+        })?;
     }
     Ok((Crew { least, stealers }, hands))
 }

@@ -68,6 +68,7 @@ fn work_on<W: Wait>(
     match cutoff(crew, hand, &work) {
         Ok(best) => {
             let growth = ground.grow(alloc, board.problem(), reckoning, &work, best);
+            hand.effort.count(work.allowance, &growth);
             hand_in(rt, alloc, board, pass, crew, hand, work, growth)
         }
         Err(Outdated) => {
@@ -96,7 +97,8 @@ fn find_turn<W: Wait>(
     if let Some(work) = hand.take_or_steal(crew) {
         return Ok(Turn::Work(work));
     }
-    match next_turn(rt, alloc, board, pass, crew, edition)? {
+    let want = hand.effort.want();
+    match next_turn(rt, alloc, board, pass, edition, want)? {
         Turn::Work(work) => {
             keep_another(rt, alloc, board, pass, crew, hand, edition);
             Ok(Turn::Work(work))

@@ -6,7 +6,7 @@ ghost use Rattle.search_crew.specs.Turns.{IsTurn};
 ghost use Rattle.search_crew.specs.Working.{KeepsOn};
 
 use crate::answered::answered;
-use crate::crew::{Crew, Hand};
+use crate::crew::{Crew, Hand, SHARED_FOR_PLAN};
 use disp_model::{Answer, Memory, Unfinished};
 use dispatch_core::CoreReply;
 use open_nodes::Work;
@@ -14,13 +14,6 @@ use shared_board::{Board, Pass};
 use std::alloc::Global;
 use std::sync::Wait;
 use std::thread::yield_now;
-
-/// How many branches a searcher asks for at a time where others share the tree: the fewest for which
-/// the core goes on in depth,
-const WANTED: u32 = 65;
-
-/// and where none does: as many as a dive may need to reach a plan.
-const WANTED_ALONE: u32 = 65_536;
 
 /// What there is for a searcher to do.
 #[derive(Drop)]
@@ -31,11 +24,6 @@ pub(crate) enum Turn {
     Answer(Answer),
     /// The board is to be asked again.
     On,
-}
-
-/// How many branches a searcher of a crew asks for.
-fn wanted(crew: &Crew) -> u32 {
-    if crew.shares() { WANTED } else { WANTED_ALONE }
 }
 
 /// Gives a work back as it is.
@@ -79,22 +67,22 @@ fn stop<W: Wait>(
     Ok(Turn::On)
 }
 
-/// Takes a leaf of an edition from the board. Where none is wanted, settles it; where none may be
+/// Takes a leaf of an edition from the board, to grow so many branches. Where none is wanted, settles it; where none may be
 /// taken and none is out, stops it.
 pub(crate) fn next_turn<W: Wait>(
     rt: &W,
     alloc: Global,
     board: &Board,
     pass: &mut Pass,
-    crew: &Crew,
     edition: u32,
+    want: u32,
 ) -> Result<Turn, Memory>
     requires board { own_board pass.old ≡ board_of board.now }
     requires searcher { IsSearcher (known pass.old) }
     ensures on { KeepsOn pass.old pass.new }
     ensures turn { IfOk result (IsTurn edition (known pass.new).seen) }
 {
-    match board.take(rt, alloc, pass, edition, wanted(crew))? {
+    match board.take(rt, alloc, pass, edition, want)? {
         CoreReply::Taken(work) => Ok(Turn::Work(work)),
         CoreReply::Closed(mark) => Ok(answered(mark)),
         CoreReply::Newer(number) => {
@@ -127,7 +115,7 @@ pub(crate) fn keep_another<W: Wait>(
     if !crew.shares() {
         return;
     }
-    if let Ok(CoreReply::Taken(work)) = board.take(rt, alloc, pass, edition, WANTED) {
+    if let Ok(CoreReply::Taken(work)) = board.take(rt, alloc, pass, edition, SHARED_FOR_PLAN) {
         if let Err(work) = hand.keep(work) {
             give_back(rt, alloc, board, pass, work);
         }

@@ -11,6 +11,7 @@ mod search;
 mod turn;
 mod walk;
 
+pub use effort::{Effort, FOR_PLAN};
 pub use growth::{Growth, grow, leaf_alone, target_after};
 pub use search::search_alone;
 pub use walk::refused_leaf;

@@ -60,7 +60,7 @@ fn round(
         Turn::Work(work) => {
             let growth = grow(alloc, problem, reckoning, graph, &work, work.best, guide);
             guide.count_dive();
-            effort.count(want, &growth);
+            effort.count(work.allowance, &growth);
             aim_at(alloc, problem, guide, &growth);
             hand_in(alloc, core, work, growth)?;
             Ok(false)
@@ -105,7 +105,7 @@ fn rounds(
     ensures on { GoesOn core.old core.new }
     ensures closed { OnOk result (IsClosed core.new) }
 {
-    let mut effort = Effort::new();
+    let mut effort = Effort::new(FOR_PLAN);
     for _ in 0..u64::MAX {
         if round(alloc, problem, reckoning, core, graph, guide, &mut effort)? {
             return Ok(());

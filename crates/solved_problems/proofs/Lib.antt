@@ -1,2 +1,4 @@
 pub mod Marks
 mod Lines
+mod Asking
+mod Ends

@@ -1,0 +1,6 @@
+mod Printed
+mod Searched
+mod Shown
+mod Stopped
+mod Checking
+mod Ended

@@ -1,0 +1,11 @@
+-- the lines so far went out, and no write failed
+use Rattle.std.proofs.Common.{◌≡◌, take}
+use Rattle.std.specs.List.{concat}
+use Rattle.text_puts.specs.Outside.{Writes}
+use Rattle.answered_tasks.proofs.print.print.Given as goal
+
+abbrev pub invariant-loop-line : goal.invariant-loop-line
+invariant-loop-line g l = record {
+  written : Writes (g.O.Sink.written l.fn.out) (g.O.Sink.written l.out) (concat (take l.line-index l.lines));
+  faults : g.O.Sink.faults l.out ≡ g.O.Sink.faults l.fn.out;
+}

@@ -1,0 +1,62 @@
+// Searchers of one board.
+ghost use Rattle.std.specs.Prelude.{◌≡◌, IfOk};
+ghost use Rattle.search_crew.specs.Working.{IsAtWork};
+
+use disp_model::{Answer, Problem, Rule, Settings, Unfinished};
+use disp_outside::OpenGate;
+use search_crew::{crew_of, search};
+use shared_board::{Board, Pass, SEARCHERS_FROM};
+use std::alloc::Global;
+use std::process::Abort;
+use std::sync::Wait;
+use std::test::Fail;
+use worked_problems::{forked, two_trains};
+
+/// A board of a problem for one searcher, and that searcher's pass.
+fn board(alloc: Global, problem: &Problem, rule: Rule, budget: u32) -> Result<(Board, Pass), Fail>
+    ensures { IfOk result (λ made. IsAtWork made.0 rule 0 made.1) }
+{
+    let settings = Settings { budget, rule };
+    let (board, mut first) = Board::new(alloc, problem, settings, 0, 1)?;
+    let pass = board.split(&mut first, SEARCHERS_FROM);
+    Ok((board, pass))
+}
+
+/// A search of edition 0 by one searcher has this answer.
+fn check<R: Wait + Abort>(
+    rt: &R,
+    alloc: Global,
+    problem: &Problem,
+    rule: Rule,
+    budget: u32,
+    wanted: Answer,
+) -> Result<(), Fail> {
+    let (board, mut pass) = board(alloc, problem, rule, budget)?;
+    let (crew, mut hands) = crew_of(alloc, 1)?;
+    for hand in hands.as_mut_slice() {
+        let found = search(
+            rt, alloc, &board, &mut pass, &crew, hand, rule, 0, &OpenGate,
+        );
+        assert!(rt; found == wanted);
+    }
+    Ok(())
+}
+
+#[test]
+fn one_searcher_answers(rt: HostRuntime) -> Result<(), Fail> {
+    let alloc = rt.alloc();
+    let blocked = two_trains(alloc)?;
+    let spent = Answer::Unfinished(Unfinished::Budget(0));
+    check(&rt, alloc, &blocked, Rule::Fixed, 9, Answer::Optimal(18))?;
+    check(&rt, alloc, &blocked, Rule::Free, 9, Answer::Optimal(18))?;
+    check(&rt, alloc, &blocked, Rule::Free, 0, spent)?;
+    check(
+        &rt,
+        alloc,
+        &forked(alloc)?,
+        Rule::Free,
+        9,
+        Answer::Optimal(5),
+    )?;
+    Ok(())
+}

@@ -1,0 +1,17 @@
+-- the readers so far are joined, and their feeds closed
+use Rattle.std.proofs.Common.{◌≡◌, ◌↔◌, ℕ, List, true, map}
+use Rattle.shared_board.specs.Board.{board_of, own_board, known}
+use Rattle.joined_passes.specs.Joined.{Joins}
+use Rattle.feed_runs.specs.Readers.{CountsFeeds}
+use Rattle.feed_runs.proofs.readers.join_readers.Given as goal
+
+abbrev pub invariant-loop-reader : goal.invariant-loop-reader
+invariant-loop-reader g l = record {
+  board : own_board l.first ≡ board_of l.board;
+  own : own_board l.first ≡ own_board l.fn.first;
+  is_first : (known l.first).first ≡ true;
+  joins : Joins l.fn.first (map (λ r. r.pass) l.yielded) l.first;
+  knows : (name : List ℕ) → g.S.Shelf.knows l.shelf name ↔ g.S.Shelf.knows l.fn.shelf name;
+  puttings : (name : List ℕ) → g.S.Shelf.putting_faults l.shelf name ≡ g.S.Shelf.putting_faults l.fn.shelf name;
+  held : (name : List ℕ) → g.S.Shelf.holds l.shelf name ≡ g.S.Shelf.holds l.fn.shelf name;
+}

@@ -1,0 +1,81 @@
+ghost use Rattle.std.specs.Prelude.{◌≡◌, ◌≤◌, OnOk, option_map, drop, length};
+ghost use Rattle.text_puts.specs.Outside.{outside};
+ghost use Rattle.shared_board.specs.Board.{board_of, own_board, known, fetched};
+ghost use Rattle.rolling_driver.specs.Printed.{PrintsJournal, Watches};
+
+use disp_model::Text;
+use disp_outside::{Shelf, Sink};
+use journal_printer::{PrintNo, print_entries};
+use shared_board::{Board, Pass};
+use std::alloc::Global;
+use std::sync::Wait;
+use std::thread::yield_now;
+
+/// How often the printer gives way where there is nothing to print.
+const PAUSE: u32 = 64;
+
+/// Lets others go first.
+fn give_way() {
+    for _time in 0..PAUSE {
+        yield_now();
+    }
+}
+
+/// Prints what is new, and notes whether the run is over.
+fn print_new<W: Wait, S: Shelf, O: Sink>(
+    rt: &W,
+    alloc: Global,
+    board: &Board,
+    pass: &mut Pass,
+    shelf: &mut S,
+    out: &mut O,
+    trees: Option<&Text>,
+    over: &mut bool,
+) -> Result<(), PrintNo>
+    requires board { own_board pass.old ≡ board_of board.now }
+    ensures watches { Watches pass.old pass.new }
+    ensures printed { PrintsJournal (option_map (λ prefix. prefix.now) trees)
+        (drop (fetched pass.old) (known pass.new).seen)
+        (outside (S.holds shelf.old) (S.reading_faults shelf.old) (S.putting_faults shelf.old)
+        (O.faults out.old) (O.written out.old))
+        (outside (S.holds shelf.new) (S.reading_faults shelf.new) (S.putting_faults shelf.new)
+        (O.faults out.new) (O.written out.new)) result }
+    ensures fetched { OnOk result (fetched pass.new ≡ length (known pass.new).seen) }
+{
+    let news = board.news(rt, alloc, pass)?;
+    *over = news.ended;
+    if news.entries.is_empty() {
+        give_way();
+    }
+    print_entries(alloc, shelf, out, trees, news.entries.as_slice())
+}
+
+/// Prints what is new, again and again, until the run is over or something fails.
+pub(crate) fn print_news<W: Wait, S: Shelf, O: Sink>(
+    rt: &W,
+    alloc: Global,
+    board: &Board,
+    pass: &mut Pass,
+    shelf: &mut S,
+    out: &mut O,
+    trees: Option<&Text>,
+) -> Result<(), PrintNo>
+    requires board { own_board pass.old ≡ board_of board.now }
+    ensures watches { Watches pass.old pass.new }
+    ensures printed { PrintsJournal (option_map (λ prefix. prefix.now) trees)
+        (drop (fetched pass.old) (known pass.new).seen)
+        (outside (S.holds shelf.old) (S.reading_faults shelf.old) (S.putting_faults shelf.old)
+        (O.faults out.old) (O.written out.old))
+        (outside (S.holds shelf.new) (S.reading_faults shelf.new) (S.putting_faults shelf.new)
+        (O.faults out.new) (O.written out.new)) result }
+    ensures fetched { OnOk result (fetched pass.new ≡ length (known pass.new).seen) }
+{
+    let mut over = false;
+    for _ in rt.forever() {
+        print_new(rt, alloc, board, pass, shelf, out, trees, &mut over)?;
+        if over {
+            return Ok(());
+        }
+    }
+    unreachable!()
+}

@@ -1,0 +1,91 @@
+ghost use Rattle.std.specs.Prelude.{◌≡◌, ◌≤◌, ◌<◌, false, All, IfOk, length, option_map};
+ghost use Rattle.disp_model.specs.declared.limits.TheConstants.{MOST_CALLERS};
+ghost use Rattle.text_puts.specs.Outside.{outside};
+ghost use Rattle.rolling_driver.specs.Rolled.{IsRolled, AreNew, fed};
+
+use crate::printing::print_news;
+use crate::running::run_all;
+use crate::status::{ended_of, status_of};
+use crew_runs::{join_searchers, seats_of};
+use disp_model::{Entry, Memory, Problem, Settings, Text};
+use disp_outside::{Gate, Shelf, Sink};
+use feed_runs::{join_readers, readers_of};
+use joined_passes::close_run;
+use search_crew::crew_of;
+use shared_board::Board;
+use std::alloc::Global;
+use std::sync::Wait;
+use std::thread::Threads;
+
+/// How a run ended: its journal, and the status of the program.
+#[derive(Drop)]
+pub struct Rolled {
+    pub journal: Vec<Entry>,
+    pub status: u8,
+}
+
+/// Runs feeds and searchers on a problem until all feeds have ended and the newest edition is settled
+/// or stopped, and prints the journal as it comes: the line of each entry, and before that of a
+/// settled edition its tree, which is put under `trees` and the edition's number. The feeds are
+/// closed.
+///
+/// # Errors
+///
+/// `Memory` where memory runs out before the run starts; then nothing is entered, printed or put.
+pub fn roll<R: Threads + Wait + Sync, S: Shelf, O: Sink, G: Gate>(
+    rt: &R,
+    alloc: Global,
+    problem: &Problem,
+    settings: Settings,
+    workers: u32,
+    feeds: Vec<S::Feed>,
+    trees: Option<&Text>,
+    shelf: &mut S,
+    out: &mut O,
+    gate: &G,
+) -> Result<Rolled, Memory>
+    requires workers { workers ≤ MOST_CALLERS }
+    requires few { length feeds.items ≤ MOST_CALLERS }
+    requires feeds { AreNew S.Feed.has_ended S.Feed.faults feeds.items }
+    requires known { All (λ feed. S.knows shelf.old (S.Feed.name feed)) feeds.items }
+    ensures rolled { IfOk result (λ rolled.
+        IsRolled problem.now settings (option_map (λ prefix. prefix.now) trees)
+        (fed S.Feed.name S.Feed.lines feeds.items)
+        (outside (S.holds shelf.old) (S.reading_faults shelf.old) (S.putting_faults shelf.old)
+        (O.faults out.old) (O.written out.old))
+        (outside (S.holds shelf.new) (S.reading_faults shelf.new) (S.putting_faults shelf.new)
+        (O.faults out.new) (O.written out.new)) rolled.journal.items rolled.status) }
+{
+    let count = feeds.len() as u32;
+    let (board, mut first) = Board::new(alloc, problem, settings, count, workers)?;
+    let (crew, hands) = crew_of(alloc, workers)?;
+    let mut readers = readers_of(alloc, &board, &mut first, feeds)?;
+    let mut searchers = seats_of(alloc, &board, &mut first, hands)?;
+    let printed = run_all(
+        rt,
+        alloc,
+        &board,
+        &crew,
+        settings.rule,
+        gate,
+        readers.as_mut_slice(),
+        searchers.as_mut_slice(),
+        &mut first,
+        shelf,
+        out,
+        trees,
+    );
+    let ended = ended_of(readers.as_slice());
+    join_readers(&board, &mut first, shelf, readers);
+    join_searchers(&board, &mut first, searchers);
+    let printed = match printed {
+        Ok(()) => print_news(rt, alloc, &board, &mut first, shelf, out, trees),
+        Err(no) => Err(no),
+    };
+    let mut core = close_run(rt, alloc, board, first).core;
+    let mark = core.standing().mark;
+    Ok(Rolled {
+        status: status_of(mark, ended, printed),
+        journal: core.into_history(),
+    })
+}

@@ -1,0 +1,33 @@
+ghost use Rattle.std.specs.Prelude.{◌≡◌, ◌<◌, ℕ, List, OnOk, IsErrOf};
+ghost use Rattle.text_puts.specs.Puts.{PutMisses, PutsOnly, PutsSome, StandsAfter};
+
+use crate::put::Put;
+use disp_outside::{PutNo, Shelf};
+use std::alloc::Global;
+
+/// Puts one text after the other, up to the first that is not put.
+///
+/// # Errors
+///
+/// `Failed` where a text could not be put, and then its name may hold anything; `Memory`, with
+/// which its name holds what it held before.
+pub fn put_all<S: Shelf>(alloc: Global, shelf: &mut S, puts: &[Put]) -> Result<(), PutNo>
+    ensures ok { OnOk result (StandsAfter puts.now (S.holds shelf.old) (S.holds shelf.new)) }
+    ensures failed { IsErrOf result PutNo.Failed
+        → PutMisses puts.now (S.holds shelf.old) (S.holds shelf.new)
+        (S.putting_faults shelf.old) (S.putting_faults shelf.new) }
+    ensures memory { IsErrOf result PutNo.Memory
+        → PutsSome puts.now (S.holds shelf.old) (S.holds shelf.new) }
+    ensures risen { (name : List ℕ) → S.putting_faults shelf.old name
+        < S.putting_faults shelf.new name → IsErrOf result PutNo.Failed }
+    ensures others { (name : List ℕ)
+        → PutsOnly puts.now (S.holds shelf.old) (S.holds shelf.new)
+        (S.putting_faults shelf.old) (S.putting_faults shelf.new) name }
+    ensures readings { (name : List ℕ) → S.reading_faults shelf.new name
+        ≡ S.reading_faults shelf.old name }
+{
+    for due in puts {
+        shelf.put(alloc, due.name.as_str(), due.bytes.as_slice())?;
+    }
+    Ok(())
+}
