@@ -1,9 +1,38 @@
 -- One entry that is printed.
-use Rattle.std.proofs.Common.{◌≡◌, ◌∙◌, ◌<◌, ◌≤◌, ℕ, List, [], ◌∷◌, ◌++◌, length, Option, None,
-  Some, Err, refl, ap, subst, inl, inr, arith, append-nil, length-append}
+use Rattle.std.proofs.Common.{
+  ◌≡◌,
+  ◌∙◌,
+  ◌<◌,
+  ◌≤◌,
+  ℕ,
+  List,
+  [],
+  ◌∷◌,
+  ◌++◌,
+  length,
+  Option,
+  None,
+  Some,
+  Err,
+  refl,
+  ap,
+  subst,
+  inl,
+  inr,
+  arith,
+  append-nil,
+  length-append,
+}
 use Rattle.disp_model.specs.declared.entry.Entry.{Entry}
-use Rattle.disp_model.specs.declared.entry.Entry.TheVariants.{Asked, Unread, Shown, Grown,
-  Published, Settled, Stopped}
+use Rattle.disp_model.specs.declared.entry.Entry.TheVariants.{
+  Asked,
+  Unread,
+  Shown,
+  Grown,
+  Published,
+  Settled,
+  Stopped,
+}
 use Rattle.disp_outside.specs.Sink.{WritesPart}
 use Rattle.disp_outside.specs.declared.shelf.PutNo.{PutNo}
 use Rattle.disp_outside.specs.declared.shelf.PutNo.TheVariants as put
@@ -51,7 +80,7 @@ held_before trees entry old new some name =
 -- what stands behind its puts
 trees_one : (trees : Option (List ℕ)) (entry : Entry) (old new : Holdings)
     → StandsAfter (entry_puts trees entry) old new
-        → StandsAfter (tree_puts trees (entry ∷ [])) old new
+    → StandsAfter (tree_puts trees (entry ∷ [])) old new
 trees_one trees entry old new stands = rw (append-nil (entry_puts trees entry)) stands
 
 only_one : (trees : Option (List ℕ)) (entry : Entry) (old new : Outside) (name : List ℕ)
@@ -85,43 +114,43 @@ pub one_unput : (trees : Option (List ℕ)) (entry : Entry) (old new : Outside) 
     → new.written ≡ old.written → new.faults ≡ old.faults
     → Prints trees (entry ∷ []) old new (Err (of_put refused))
 one_unput trees entry old new put.Failed failed memory risen others reading written faults =
-  record {
-  all = tt;
-  stops = record {
-    done = [];
-    next = entry;
-    comes = record { rest = []; parts = refl };
-    written = written ∙ writes_nothing old.written;
-    faults = faults;
-    before = old.holds;
-    puts = stands_none old.holds;
-    misses = failed refl;
-  };
-  unput = λ name rises. refl;
-  unwritten = λ rises. absurd (omega (arith, faults, rises));
-  counted = omega (arith, faults);
-  reading = reading;
-  others = λ name. only_one trees entry old new name (others name);
-}
+    record {
+      all = tt;
+      stops = record {
+        done = [];
+        next = entry;
+        comes = record { rest = []; parts = refl };
+        written = written ∙ writes_nothing old.written;
+        faults = faults;
+        before = old.holds;
+        puts = stands_none old.holds;
+        misses = failed refl;
+      };
+      unput = λ name rises. refl;
+      unwritten = λ rises. absurd (omega (arith, faults, rises));
+      counted = omega (arith, faults);
+      reading = reading;
+      others = λ name. only_one trees entry old new name (others name);
+    }
 one_unput trees entry old new put.Memory failed memory risen others reading written faults =
-  record {
-  all = tt;
-  stops = record {
-    done = [];
-    next = entry;
-    comes = record { rest = []; parts = refl };
-    written = written ∙ writes_nothing old.written;
-    faults = faults;
-    puts = inl (stands_same [] old.holds old.holds new.holds (memory refl) (stands_none old.holds));
-    putting = λ name. stays (old.putting name) (new.putting name) (others name).never_falls
-        (λ rises. unlike (risen name rises));
-  };
-  unput = λ name rises. absurd (unlike (risen name rises));
-  unwritten = λ rises. absurd (omega (arith, faults, rises));
-  counted = omega (arith, faults);
-  reading = reading;
-  others = λ name. only_one trees entry old new name (others name);
-}
+    record {
+      all = tt;
+      stops = record {
+        done = [];
+        next = entry;
+        comes = record { rest = []; parts = refl };
+        written = written ∙ writes_nothing old.written;
+        faults = faults;
+        puts = inl (stands_same [] old.holds old.holds new.holds (memory refl) (stands_none old.holds));
+        putting = λ name. stays (old.putting name) (new.putting name) (others name).never_falls
+            (λ rises. unlike (risen name rises));
+      };
+      unput = λ name rises. absurd (unlike (risen name rises));
+      unwritten = λ rises. absurd (omega (arith, faults, rises));
+      counted = omega (arith, faults);
+      reading = reading;
+      others = λ name. only_one trees entry old new name (others name);
+    }
   where
     unlike : put.Memory ≡ put.Failed → ⊥
     unlike e = cc
@@ -139,46 +168,46 @@ pub one_unwritten : (trees : Option (List ℕ)) (entry : Entry) (old new : Outsi
     → Prints trees (entry ∷ []) old new (Err (of_write refused))
 one_unwritten trees entry old new write.Failed puts putting reading part memory rises
     risen counted = record {
-  all = tt;
-  stops = record {
-    done = [];
-    next = entry;
-    comes = record { rest = []; parts = refl };
-    before = old.written;
-    written = writes_nothing old.written;
-    part = part refl;
-    fault = rises refl;
-    puts = trees_one trees entry old.holds new.holds puts;
-    putting = putting;
-  };
-  unput = λ name rose. absurd (omega (arith, putting name, rose));
-  unwritten = λ rose. refl;
-  counted = counted;
-  reading = reading;
-  others = λ name. only_one trees entry old new name
-      (only_all (entry_puts trees entry) old.holds new.holds old.putting new.putting
-      puts putting name);
-}
+      all = tt;
+      stops = record {
+        done = [];
+        next = entry;
+        comes = record { rest = []; parts = refl };
+        before = old.written;
+        written = writes_nothing old.written;
+        part = part refl;
+        fault = rises refl;
+        puts = trees_one trees entry old.holds new.holds puts;
+        putting = putting;
+      };
+      unput = λ name rose. absurd (omega (arith, putting name, rose));
+      unwritten = λ rose. refl;
+      counted = counted;
+      reading = reading;
+      others = λ name. only_one trees entry old new name
+          (only_all (entry_puts trees entry) old.holds new.holds old.putting new.putting
+          puts putting name);
+    }
 one_unwritten trees entry old new write.Memory puts putting reading part memory rises
     risen counted = record {
-  all = tt;
-  stops = record {
-    done = [];
-    next = entry;
-    comes = record { rest = []; parts = refl };
-    written = memory refl ∙ writes_nothing old.written;
-    faults = stays old.faults new.faults counted (λ rose. unlike (risen rose));
-    puts = inr (trees_one trees entry old.holds new.holds puts);
-    putting = putting;
-  };
-  unput = λ name rose. absurd (omega (arith, putting name, rose));
-  unwritten = λ rose. absurd (unlike (risen rose));
-  counted = counted;
-  reading = reading;
-  others = λ name. only_one trees entry old new name
-      (only_all (entry_puts trees entry) old.holds new.holds old.putting new.putting
-      puts putting name);
-}
+      all = tt;
+      stops = record {
+        done = [];
+        next = entry;
+        comes = record { rest = []; parts = refl };
+        written = memory refl ∙ writes_nothing old.written;
+        faults = stays old.faults new.faults counted (λ rose. unlike (risen rose));
+        puts = inr (trees_one trees entry old.holds new.holds puts);
+        putting = putting;
+      };
+      unput = λ name rose. absurd (omega (arith, putting name, rose));
+      unwritten = λ rose. absurd (unlike (risen rose));
+      counted = counted;
+      reading = reading;
+      others = λ name. only_one trees entry old new name
+          (only_all (entry_puts trees entry) old.holds new.holds old.putting new.putting
+          puts putting name);
+    }
   where
     unlike : write.Memory ≡ write.Failed → ⊥
     unlike e = cc

@@ -1,6 +1,33 @@
 -- Entries that are printed, and more behind them.
-use Rattle.std.proofs.Common.{◌≡◌, ◌⊎◌, ◌∙◌, ◌<◌, ◌+◌, ℕ, suc, length, take, drop, get_or, List, [],
-  ◌∷◌, ◌++◌, Option, Result, Ok, Err, refl, sym, ap, subst, inl, inr, arith, append_assoc}
+use Rattle.std.proofs.Common.{
+  ◌≡◌,
+  ◌⊎◌,
+  ◌∙◌,
+  ◌<◌,
+  ◌+◌,
+  ℕ,
+  suc,
+  length,
+  take,
+  drop,
+  get_or,
+  List,
+  [],
+  ◌∷◌,
+  ◌++◌,
+  Option,
+  Result,
+  Ok,
+  Err,
+  refl,
+  sym,
+  ap,
+  subst,
+  inl,
+  inr,
+  arith,
+  append_assoc,
+}
 use Rattle.std.proofs.lemmas.Grind.{flat_map-append}
 use Rattle.std.proofs.lemmas.Result.{IfErr-weaker, on_ok_weaker}
 use Rattle.disp_model.specs.declared.entry.Entry.{Entry}
@@ -8,8 +35,14 @@ use Rattle.fixing_lines.specs.Entries.{entry_text}
 use Rattle.text_puts.specs.Outside.{Outside, Holdings, Writes}
 use Rattle.text_puts.specs.Puts.{StandsAfter}
 use Rattle.text_puts.proofs.Counting.{one_more, parts_at}
-use Rattle.text_puts.proofs.Puttings.{stands_none, stands_both, misses_before, only_all, only_both,
-  only_front}
+use Rattle.text_puts.proofs.Puttings.{
+  stands_none,
+  stands_both,
+  misses_before,
+  only_all,
+  only_both,
+  only_front,
+}
 use Rattle.text_puts.proofs.Writings.{writes_nothing, writes_more}
 use Rattle.journal_printer.specs.declared.no.PrintNo.{PrintNo}
 use Rattle.journal_printer.specs.declared.no.PrintNo.TheVariants.{Unput, Unwritten, Memory}
@@ -174,7 +207,7 @@ printed_all trees xs old new all = record {
 -- printing entries, and then more, is printing all of them
 pub printed_more : (trees : Option (List ℕ)) (xs ys : List Entry) (old mid new : Outside)
     (result : Result (Unit {0}) PrintNo) → PrintsAll trees xs old mid
-        → Prints trees ys mid new result
+    → Prints trees ys mid new result
     → Prints trees (xs ++ ys) old new result
 printed_more trees xs ys old mid new result first second = record {
   all = on_ok_weaker result (all_more trees xs ys old mid new first) second.all;

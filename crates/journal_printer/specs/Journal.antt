@@ -3,8 +3,15 @@ use Rattle.std.specs.Prelude.{ℕ, List, [], ◌∷◌, ◌++◌, Option, Some, 
 use Rattle.std.specs.Fmt.{decimal}
 use Rattle.std.specs.List.{flat_map}
 use Rattle.disp_model.specs.declared.entry.Entry.{Entry}
-use Rattle.disp_model.specs.declared.entry.Entry.TheVariants.{Asked, Unread, Shown, Grown,
-  Published, Settled, Stopped}
+use Rattle.disp_model.specs.declared.entry.Entry.TheVariants.{
+  Asked,
+  Unread,
+  Shown,
+  Grown,
+  Published,
+  Settled,
+  Stopped,
+}
 use Rattle.disp_model.specs.declared.tree.TreeNode.{TreeNode}
 use Rattle.disp_model.specs.declared.tree.Verdict.{Verdict}
 use Rattle.fixing_lines.specs.Entries.{entry_text}

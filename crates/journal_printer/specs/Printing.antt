@@ -1,6 +1,20 @@
 -- What the printing of entries leaves.
-use Rattle.std.specs.Prelude.{◌≡◌, ◌⊎◌, ℕ, ◌<◌, ◌≤◌, List, [], ◌∷◌, ◌++◌, Option, Result, OnOk,
-  IfErr, IsErrOf}
+use Rattle.std.specs.Prelude.{
+  ◌≡◌,
+  ◌⊎◌,
+  ℕ,
+  ◌<◌,
+  ◌≤◌,
+  List,
+  [],
+  ◌∷◌,
+  ◌++◌,
+  Option,
+  Result,
+  OnOk,
+  IfErr,
+  IsErrOf,
+}
 use Rattle.disp_model.specs.declared.entry.Entry.{Entry}
 use Rattle.disp_outside.specs.Sink.{WritesPart}
 use Rattle.fixing_lines.specs.Entries.{entry_text}

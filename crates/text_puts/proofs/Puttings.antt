@@ -1,6 +1,30 @@
 -- Texts that are put one after the other.
-use Rattle.std.proofs.Common.{◌≡◌, ◌≢◌, ◌∙◌, ◌<◌, ◌≤◌, ℕ, suc, List, [], ◌∷◌, ◌++◌, length, take,
-  drop, get_or, Option, Some, refl, sym, ap, subst, inl, inr, arith}
+use Rattle.std.proofs.Common.{
+  ◌≡◌,
+  ◌≢◌,
+  ◌∙◌,
+  ◌<◌,
+  ◌≤◌,
+  ℕ,
+  suc,
+  List,
+  [],
+  ◌∷◌,
+  ◌++◌,
+  length,
+  take,
+  drop,
+  get_or,
+  Option,
+  Some,
+  refl,
+  sym,
+  ap,
+  subst,
+  inl,
+  inr,
+  arith,
+}
 use Rattle.std.specs.Prelude.{IfSome}
 use Rattle.disp_outside.specs.declared.shelf.PutNo.{PutNo}
 use Rattle.disp_outside.specs.declared.shelf.PutNo.TheVariants.{Failed, Memory}
@@ -32,7 +56,7 @@ unlike : (name : List ℕ) (puts : List Put) (put : Put) (rest : List Put)
     → (PutsUnder name (puts ++ put ∷ rest) → ⊥) → name ≢ put.name
 unlike name puts put rest none is =
     none (subst (λ (n : List ℕ). PutsUnder n (puts ++ put ∷ rest)) (sym is)
-        (under_here puts put rest))
+    (under_here puts put rest))
 
 -- ---- one more
 
@@ -128,7 +152,7 @@ held_some : (puts : List Put) (old new : Holdings) → PutsSome puts old new
     → (name : List ℕ) → (PutsUnder name puts → ⊥) → new name ≡ old name
 held_some puts old new some name none = some.stands.others name (λ under. none
     (subst (PutsUnder name) (sym some.parts) (under_front name some.done (some.put ∷ some.rest)
-        under)))
+    under)))
 
 pub only_some : (puts : List Put) (old new : Holdings) (old_counts new_counts : Counts)
     → PutsSome puts old new → ((name : List ℕ) → new_counts name ≡ old_counts name)
@@ -230,7 +254,7 @@ pub next_fails : (puts : List Put) (i : ℕ) (put : Put) (refused : PutNo) (old 
     → ((other : List ℕ) → other ≢ name → new_counts other ≡ mid_counts other)
     → mid_counts name ≤ new_counts name → (refused ≡ Failed → mid_counts name < new_counts name)
     → (mid_counts name < new_counts name → refused ≡ Failed)
-        → (refused ≡ Memory → new name ≡ mid name)
+    → (refused ≡ Memory → new name ≡ mid name)
     → NextFails puts i put refused old mid new old_counts mid_counts new_counts
 next_fails puts i put refused old mid new old_counts mid_counts new_counts name named within is
     stands

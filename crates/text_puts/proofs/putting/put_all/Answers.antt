@@ -12,9 +12,9 @@ returns-in_err-put-clause-failed g c is =
     let p = err_from_is_err_and c.from_residual.result c.from_residual.ensures.1 in
     let failed : c.in_err-put.field-0.0 ≡ Failed = cc (p.1, p.2, is) in
     misses_at _ _ _ _ _ _ _ _ _ _ (next_fails c.args.puts.now c.loop-due.due-index c.due-item.result
-        c.in_err-put.field-0.0
+    c.in_err-put.field-0.0
     (g.S.Shelf.holds c.args.shelf.now) (g.S.Shelf.holds c.loop-due.shelf)
-        (g.S.Shelf.holds c.put.new.self)
+    (g.S.Shelf.holds c.put.new.self)
     (g.S.Shelf.putting_faults c.args.shelf.now) (g.S.Shelf.putting_faults c.loop-due.shelf)
     (g.S.Shelf.putting_faults c.put.new.self) c.as_str.result.now c.as_str.ensures
     c.loop-due-test.true c.due-item.is c.loop-due.invariant.stands c.loop-due.invariant.counts
@@ -28,9 +28,9 @@ returns-in_err-put-clause-memory g c is =
     let p = err_from_is_err_and c.from_residual.result c.from_residual.ensures.1 in
     let memory : c.in_err-put.field-0.0 ≡ Memory = cc (p.1, p.2, is) in
     unput_at _ _ _ _ _ _ _ _ _ _ (next_fails c.args.puts.now c.loop-due.due-index c.due-item.result
-        c.in_err-put.field-0.0
+    c.in_err-put.field-0.0
     (g.S.Shelf.holds c.args.shelf.now) (g.S.Shelf.holds c.loop-due.shelf)
-        (g.S.Shelf.holds c.put.new.self)
+    (g.S.Shelf.holds c.put.new.self)
     (g.S.Shelf.putting_faults c.args.shelf.now) (g.S.Shelf.putting_faults c.loop-due.shelf)
     (g.S.Shelf.putting_faults c.put.new.self) c.as_str.result.now c.as_str.ensures
     c.loop-due-test.true c.due-item.is c.loop-due.invariant.stands c.loop-due.invariant.counts
@@ -43,7 +43,7 @@ pub returns-in_err-put-clause-others : goal.returns-in_err-put-clause-others
 returns-in_err-put-clause-others g c name = only_at _ _ _ _ _ _ _ _ _ _
     (next_fails c.args.puts.now c.loop-due.due-index c.due-item.result c.in_err-put.field-0.0
     (g.S.Shelf.holds c.args.shelf.now) (g.S.Shelf.holds c.loop-due.shelf)
-        (g.S.Shelf.holds c.put.new.self)
+    (g.S.Shelf.holds c.put.new.self)
     (g.S.Shelf.putting_faults c.args.shelf.now) (g.S.Shelf.putting_faults c.loop-due.shelf)
     (g.S.Shelf.putting_faults c.put.new.self) c.as_str.result.now c.as_str.ensures
     c.loop-due-test.true c.due-item.is c.loop-due.invariant.stands c.loop-due.invariant.counts
@@ -66,11 +66,13 @@ loop-due-preserved g c =
           (stands_next (take i puts) c.due-item.result old (g.S.Shelf.holds c.loop-due.shelf) new
           c.as_str.result.now c.as_slice.result.now c.as_str.ensures c.as_slice.ensures
           c.loop-due.invariant.stands (c.in_ok-put.ensures.bytes (refl {a = true}))
-              c.in_ok-put.ensures.held);
+          c.in_ok-put.ensures.held);
       counts = λ name. same_all c.as_str.result.now before behind
           (stays _ _ c.in_ok-put.ensures.counted
           (λ h. let e = c.in_ok-put.ensures.failed.1 h in absurd cc))
           c.in_ok-put.ensures.other_counts name ∙ c.loop-due.invariant.counts name;
       readings = λ name. c.in_ok-put.ensures.reading_counts name
           ∙ c.loop-due.invariant.readings name;
+      known = λ name known. c.in_ok-put.ensures.still_known name
+          (c.loop-due.invariant.known name known);
     }
