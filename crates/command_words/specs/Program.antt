@@ -23,7 +23,10 @@ workers = record (optional_rule (codes "workers")) {
 
 -- `--budget`: a number of 32 bits, a million where it is not given
 abbrev pub budget : Rule
-budget = record (optional_rule (codes "budget")) { defaults = codes "1000000" ∷ []; parser = Some (Signed (pos 0) (pos 4294967295)) }
+budget = record (optional_rule (codes "budget")) {
+  defaults = codes "1000000" ∷ [];
+  parser = Some (Signed (pos 0) (pos 4294967295));
+}
 
 -- `--rule`: a text
 abbrev pub rule : Rule
@@ -45,11 +48,15 @@ solve = with_rule (with_rule (with_search solve_inputs) (optional_rule (codes "p
 
 -- `verify PROBLEM SOLUTION [--fixings F]`
 abbrev pub verify : App
-verify = with_rule (with_rule (with_rule (new_app (codes "verify")) (needed_rule (codes "problem"))) (needed_rule (codes "solution"))) (optional_rule (codes "fixings"))
+verify =
+    with_rule (with_rule (with_rule (new_app (codes "verify")) (needed_rule (codes "problem")))
+    (needed_rule (codes "solution"))) (optional_rule (codes "fixings"))
 
 -- `check PROBLEM TREE [--fixings F] [--plan P]`
 abbrev pub check : App
-check = with_rule (with_rule (with_rule (with_rule (new_app (codes "check")) (needed_rule (codes "problem"))) (needed_rule (codes "tree"))) (optional_rule (codes "fixings"))) (optional_rule (codes "plan"))
+check = with_rule
+    (with_rule (with_rule (with_rule (new_app (codes "check")) (needed_rule (codes "problem")))
+    (needed_rule (codes "tree"))) (optional_rule (codes "fixings"))) (optional_rule (codes "plan"))
 
 -- `report PROBLEM SOLUTION [--fixings F]`
 abbrev pub report : App
@@ -87,7 +94,11 @@ roll = with_rule (with_search roll_inputs) (optional_rule (codes "trees"))
 
 -- `solve` or `verify`; the words do not begin with the program's name
 abbrev pub first_commands : App
-first_commands = with_subcommand (with_subcommand (on_top (λ s. record s { no_binary_name = true; subcommand_required = true; disable_help_subcommand = true }) (new_app (codes "dispatch"))) solve.top) verify.top
+first_commands = with_subcommand (with_subcommand (on_top (λ s. record s {
+  no_binary_name = true;
+  subcommand_required = true;
+  disable_help_subcommand = true;
+}) (new_app (codes "dispatch"))) solve.top) verify.top
 
 -- the same, or `check` or `report`
 abbrev pub more_commands : App

@@ -1,5 +1,6 @@
 -- What the words behind the program's name ask for.
-use Rattle.std.specs.Prelude.{◌≡◌, ◌⊎◌, ℕ, ◌<◌, ◌^◌, List, [], Option, Some, None, codes, unwrap_or, max, min}
+use Rattle.std.specs.Prelude.{◌≡◌, ◌⊎◌, ℕ, ◌<◌, ◌^◌, List, [], Option, Some, None, codes, unwrap_or}
+use Rattle.std.specs.Prelude.{max, min}
 use Rattle.std.specs.Str.Parse.{IsNumeral, digits_value, without_leading_plus}
 use Rattle.clap.specs.Words.{Row, subcommand_of, all_of, first_of, one_of, fault_of}
 use Rattle.disp_model.specs.declared.limits.TheConstants.{MOST_CALLERS}
@@ -13,7 +14,8 @@ use Rattle.command_words.specs.declared.task.JudgeTask.{JudgeTask}
 use Rattle.command_words.specs.declared.task.MakeTask.{MakeTask}
 use Rattle.command_words.specs.declared.task.RollTask.{RollTask}
 use Rattle.command_words.specs.declared.task.Task.{Task}
-use Rattle.command_words.specs.declared.task.Task.TheVariants.{Solve, Verify, Report, Make, Check, Roll}
+use Rattle.command_words.specs.declared.task.Task.TheVariants.{Solve, Verify, Report, Make}
+use Rattle.command_words.specs.declared.task.Task.TheVariants.{Check, Roll}
 
 -- clap finds no fault with the words
 abbrev pub AreTaken : List (List ℕ) → Type 0
@@ -39,8 +41,8 @@ IsNumberOr other (Some text) n =
 abbrev pub IsBudget : Option (List ℕ) → ℕ → Type 0
 IsBudget found n = IsNumberOr 1000000 found n
 
--- the number that a text says, and 1 where there is none (there always is one); between these two, as
--- it always is
+-- the number that a text says, and 1 where there is none (there always is one); between these two,
+-- as it always is
 pub record IsWithin (least most : ℕ) (found : Option (List ℕ)) (n : ℕ) : Type 0 where
   pub said : ℕ
   pub said_is : IsNumberOr 1 found said
@@ -53,17 +55,20 @@ IsWorkers found n = IsWithin 1 MOST_CALLERS found n
 -- the rule that a text names, and the free one where there is none
 abbrev pub IsRuleText : Option (List ℕ) → Rule → Type 0
 IsRuleText None rule = rule ≡ Free
-IsRuleText (Some text) rule = ((text ≡ codes "fixed") × (rule ≡ Fixed)) ⊎ ((text ≡ codes "free") × (rule ≡ Free))
+IsRuleText (Some text) rule = ((text ≡ codes "fixed") × (rule ≡ Fixed))
+    ⊎ ((text ≡ codes "free") × (rule ≡ Free))
 
 -- a text that names no rule
 abbrev pub NamesNoRule : Option (List ℕ) → Type 0
 NamesNoRule text = (rule : Rule) → IsRuleText text rule → ⊥
 
--- the name that clap finds for an argument that must be given (the empty one where it finds none, which it always does)
+-- the name that clap finds for an argument that must be given (the empty one where it finds none,
+-- but it always finds one)
 abbrev pub name_found : List ℕ → List Row → List ℕ
 name_found id rows = unwrap_or (first_of id rows) []
 
--- the names that clap finds for an argument with several values, in the order of the words
+-- the names that clap finds for an argument with several values, in the order of the words (none
+-- where it finds none)
 abbrev pub names_found : List ℕ → List Row → List (List ℕ)
 names_found id rows = unwrap_or (all_of id rows) []
 
@@ -99,7 +104,8 @@ pub record IsMake (words : List (List ℕ)) (task : MakeTask) : Type 0 where
   pub out_is : task.out ≡ first_of (codes "out") rows
 
 -- the values that clap finds for `check`
-pub record IsCheck (words : List (List ℕ)) (problem tree : List ℕ) (fixings plan : Option (List ℕ)) : Type 0 where
+pub record IsCheck (words : List (List ℕ)) (problem tree : List ℕ)
+    (fixings plan : Option (List ℕ)) : Type 0 where
   pub taken : AreTaken words
   pub rows : List Row
   pub named : Names words (codes "check") rows

@@ -2,8 +2,8 @@ ghost use Rattle.std.specs.Prelude.{◌≡◌, IfOk, false};
 ghost use Rattle.clap.specs.Words.{app_of, rule_of};
 ghost use Rattle.clap.specs.declared.builder.command.Command.TheViews.{out-Command as fields_of};
 ghost use Rattle.command_words.specs.Program.{needed_rule, optional_rule, workers, budget, rule};
-ghost use Rattle.command_words.specs.Program.{with_search, solve_inputs, solve, verify, check, report};
-ghost use Rattle.command_words.specs.Program.{number, trains, make, feeds, roll_inputs, roll};
+ghost use Rattle.command_words.specs.Program.{with_search, solve_inputs, solve, verify, check};
+ghost use Rattle.command_words.specs.Program.{report, number, trains, make, feeds, roll_inputs, roll};
 ghost use Rattle.command_words.specs.Program.{first_commands, more_commands, program};
 
 use clap::{Arg, Command, value_parser};

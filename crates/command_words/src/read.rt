@@ -1,5 +1,7 @@
-ghost use Rattle.std.specs.Prelude.{◌≡◌, ◌≤◌, ℕ, List, IfOk, IfErr, MatchOption, map, option_map, string_bytes, codes};
-ghost use Rattle.clap.specs.Words.{found_of, rows_of, subcommand_rows_of, subcommand_of, fault_of, all_of, first_of, one_of, HasKind};
+ghost use Rattle.std.specs.Prelude.{◌≡◌, ◌≤◌, ℕ, List, IfOk, IfErr, MatchOption, map, option_map};
+ghost use Rattle.std.specs.Prelude.{string_bytes, codes};
+ghost use Rattle.clap.specs.Words.{found_of, rows_of, subcommand_rows_of, subcommand_of, fault_of};
+ghost use Rattle.clap.specs.Words.{all_of, first_of, one_of, HasKind};
 ghost use Rattle.disp_model.specs.declared.limits.TheConstants.{MOST_CALLERS};
 ghost use Rattle.command_words.specs.Program.{program};
 ghost use Rattle.command_words.specs.Task.{IsTask, AreTaken, Names, AskForNoRule, Denies, IsJudge};
@@ -159,7 +161,8 @@ fn rule_named(text: Option<&str>) -> Option<Rule>
 
 /// By which rule the search branches, where the words name one that there is.
 fn rule(found: &ArgMatches) -> Option<Rule>
-    ensures { MatchOption result (NamesNoRule (first_of (codes "rule") (rows_of (found_of found.now))))
+    ensures { MatchOption result
+        (NamesNoRule (first_of (codes "rule") (rows_of (found_of found.now))))
         (IsRuleText (first_of (codes "rule") (rows_of (found_of found.now)))) }
 {
     rule_named(value(found, "rule"))
@@ -227,7 +230,8 @@ fn make(alloc: Global, found: &ArgMatches) -> Result<Task, WordsNo>
 
 /// What is asked of `check`.
 fn check(alloc: Global, found: &ArgMatches) -> Result<Task, WordsNo>
-    ensures ok { IfOk result (λ task. (words : List (List ℕ)) → AreTaken words → Names words (codes "check") (rows_of (found_of found.now)) → IsTask words task) }
+    ensures ok { IfOk result (λ task. (words : List (List ℕ)) → AreTaken words
+        → Names words (codes "check") (rows_of (found_of found.now)) → IsTask words task) }
     ensures err { IfErr result (λ no. no ≡ WordsNo.Memory) }
 {
     Ok(Task::Check {

@@ -38,6 +38,7 @@ fn put_tree<S: Shelf>(
         (S.putting_faults shelf.old) (S.putting_faults shelf.new) name }
     ensures readings { (name : List ℕ) → S.reading_faults shelf.new name
         ≡ S.reading_faults shelf.old name }
+    ensures known { (name : List ℕ) → S.knows shelf.old name → S.knows shelf.new name }
 {
     let Ok(puts) = entry_puts(alloc, trees, entry) else {
         return Err(PutNo::Memory);
@@ -72,11 +73,12 @@ fn print_entry<S: Shelf, O: Sink>(
     trees: Option<&Text>,
     entry: &Entry,
 ) -> Result<(), PrintNo>
-    ensures { Prints (option_map (λ prefix. prefix.now) trees.entry) (entry.now ∷ [])
+    ensures printed { Prints (option_map (λ prefix. prefix.now) trees.entry) (entry.now ∷ [])
         (outside (S.holds shelf.old) (S.reading_faults shelf.old) (S.putting_faults shelf.old)
         (O.faults out.old) (O.written out.old))
         (outside (S.holds shelf.new) (S.reading_faults shelf.new) (S.putting_faults shelf.new)
         (O.faults out.new) (O.written out.new)) result }
+    ensures known { (name : List ℕ) → S.knows shelf.old name → S.knows shelf.new name }
 {
     put_tree(alloc, shelf, trees, entry)?;
     write_line(alloc, out, entry)?;
@@ -102,11 +104,12 @@ pub fn print_entries<S: Shelf, O: Sink>(
     trees: Option<&Text>,
     entries: &[Entry],
 ) -> Result<(), PrintNo>
-    ensures { Prints (option_map (λ prefix. prefix.now) trees.entry) entries.now
+    ensures printed { Prints (option_map (λ prefix. prefix.now) trees.entry) entries.now
         (outside (S.holds shelf.old) (S.reading_faults shelf.old) (S.putting_faults shelf.old)
         (O.faults out.old) (O.written out.old))
         (outside (S.holds shelf.new) (S.reading_faults shelf.new) (S.putting_faults shelf.new)
         (O.faults out.new) (O.written out.new)) result }
+    ensures known { (name : List ℕ) → S.knows shelf.old name → S.knows shelf.new name }
 {
     for entry in entries {
         print_entry(alloc, shelf, out, trees, entry)?;

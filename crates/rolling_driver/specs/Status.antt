@@ -1,7 +1,7 @@
 -- The status of a run.
 use Rattle.std.specs.Prelude.{◌≡◌, ◌⊎◌, ◌↔◌, ℕ, List, Contains, IsTrue, Result, Err}
 use Rattle.disp_model.specs.declared.entry.Mark.{Mark}
-use Rattle.disp_model.specs.declared.entry.Mark.TheVariants as mark
+use Rattle.disp_model.specs.declared.entry.Mark.TheVariants.{Working, Optimal, Infeasible, Stopped}
 use Rattle.feed_reader.specs.declared.read.Reading.{Reading}
 use Rattle.feed_reader.specs.declared.read.Reading.TheVariants as reading
 use Rattle.rolling_driver.specs.declared.status.Ended.{Ended}
@@ -10,14 +10,14 @@ use Rattle.journal_printer.specs.declared.no.PrintNo.TheVariants.{Unput, Unwritt
 
 -- the status for a mark
 abbrev pub status_of_mark : Mark → ℕ
-status_of_mark mark.Working = 5
-status_of_mark (mark.Optimal cost) = 0
-status_of_mark mark.Infeasible = 1
-status_of_mark (mark.Stopped spent bound) = 3
+status_of_mark Working = 5
+status_of_mark (Optimal cost) = 0
+status_of_mark Infeasible = 1
+status_of_mark (Stopped spent bound) = 3
 
 -- memory ran out where the printing stopped or a feed was read, or an edition is still worked on
 abbrev pub WantsMemory : Mark → List Reading → Result (Unit {0}) PrintNo → Type 0
-WantsMemory mark readings printed = (mark ≡ mark.Working) ⊎ ((printed ≡ Err Memory) ⊎ Contains readings reading.Memory)
+WantsMemory mark readings printed = (mark ≡ Working) ⊎ ((printed ≡ Err Memory) ⊎ Contains readings reading.Memory)
 
 -- a putting, a write, or a reading of a feed failed
 abbrev pub HasFailed : List Reading → Result (Unit {0}) PrintNo → Type 0

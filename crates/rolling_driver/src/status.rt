@@ -1,6 +1,6 @@
-ghost use Rattle.std.specs.Prelude.{◌≡◌, ◌↔◌, List, IsTrue, Contains, map};
+ghost use Rattle.std.specs.Prelude.{◌≡◌, ◌↔◌, List, IsTrue, Any, map};
 ghost use Rattle.feed_reader.specs.declared.read.Reading.{Reading as ReadingOf};
-ghost use Rattle.rolling_driver.specs.Status.{AreEnded, IsStatus, status_of_mark};
+ghost use Rattle.rolling_driver.specs.Status.{AreEnded, HasFailed, IsStatus, WantsMemory, status_of_mark};
 
 use disp_model::Mark;
 use feed_reader::Reading;
@@ -18,11 +18,23 @@ pub(crate) struct Ended {
     failed: bool,
 }
 
+/// Whether two readings ended alike.
+fn are_alike(one: Reading, other: Reading) -> bool
+    ensures { IsTrue result ↔ (one ≡ other) }
+{
+    one == other
+}
+
 /// Whether the reading of some feed ended so.
 fn has<F>(readers: &[Reader<F>], one: Reading) -> bool
-    ensures { IsTrue result ↔ Contains (map (λ r. r.reading) readers.now) one }
+    ensures { IsTrue result ↔ Any (λ r. r.reading ≡ one) readers.now }
 {
-    readers.iter().any(|reader| reader.reading == one)
+    for reader in readers {
+        if are_alike(reader.reading, one) {
+            return true;
+        }
+    }
+    false
 }
 
 /// How the readings of the feeds ended.
@@ -48,19 +60,49 @@ fn status_of_mark(mark: Mark) -> u8
     }
 }
 
+/// Whether memory ran out, or the newest edition is still worked on.
+fn wants_memory(mark: Mark, ended: Ended, printed: Result<(), PrintNo>) -> bool
+    ensures { (readings : List ReadingOf) → AreEnded readings ended
+        → (IsTrue result ↔ WantsMemory mark readings printed) }
+{
+    if mark == Mark::Working {
+        return true;
+    }
+    match printed {
+        Ok(()) => ended.memory,
+        Err(PrintNo::Unput) => ended.memory,
+        Err(PrintNo::Unwritten) => ended.memory,
+        Err(PrintNo::Memory) => true,
+    }
+}
+
+/// Whether a putting, a write or the reading of a feed failed.
+fn has_failed(ended: Ended, printed: Result<(), PrintNo>) -> bool
+    ensures { (readings : List ReadingOf) → AreEnded readings ended
+        → (IsTrue result ↔ HasFailed readings printed) }
+{
+    match printed {
+        Ok(()) => ended.failed,
+        Err(PrintNo::Unput) => true,
+        Err(PrintNo::Unwritten) => true,
+        Err(PrintNo::Memory) => ended.failed,
+    }
+}
+
 /// The status of a run: want of memory stands before feeds that are too long, these before what
 /// failed, and that before the mark of the newest edition.
 pub(crate) fn status_of(mark: Mark, ended: Ended, printed: Result<(), PrintNo>) -> u8
     ensures { (readings : List ReadingOf) → AreEnded readings ended
         → IsStatus mark readings printed result }
 {
-    if mark == Mark::Working || printed == Err(PrintNo::Memory) || ended.memory {
-        5
-    } else if ended.too_many {
-        2
-    } else if printed.is_err() || ended.failed {
-        4
-    } else {
-        status_of_mark(mark)
+    if wants_memory(mark, ended, printed) {
+        return 5;
     }
+    if ended.too_many {
+        return 2;
+    }
+    if has_failed(ended, printed) {
+        return 4;
+    }
+    status_of_mark(mark)
 }

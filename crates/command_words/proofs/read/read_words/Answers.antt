@@ -1,6 +1,7 @@
 use Rattle.std.proofs.Common.{◌≡◌, ◌∙◌, ℕ, List, ap, refl, subst, true, [], map, string_bytes}
 use Rattle.std.proofs.lemmas.Result.{IfOk-weaker, IfErr-weaker}
-use Rattle.clap.specs.Words.{App, HasMatchesOf, app_of, is_simple, is_simple_and_free, subcommand_of, subcommand_rows_of, fault_of, HasKind}
+use Rattle.clap.specs.Words.{App, HasKind, HasMatchesOf, app_of, fault_of, is_simple}
+use Rattle.clap.specs.Words.{is_simple_and_free, subcommand_of, subcommand_rows_of}
 use Rattle.clap.specs.declared.parser.matches.ArgMatches.{ArgMatches}
 use Rattle.command_words.specs.Program.{program}
 use Rattle.command_words.specs.Task.{AreTaken}
@@ -22,10 +23,11 @@ pub returns-in-Ok-clause-ok : goal.returns-in-Ok-clause-ok
 returns-in-Ok-clause-ok c =
     let words = map (λ word. string_bytes word) c.args.words.now in
     let app_is = c.in_ok-command.ensures in
-    let taken : AreTaken words = subst (λ (a : App). fault_of a words ≡ []) app_is (c.in-Ok.ensures.kinds (ap is_simple_and_free app_is ∙ free)) in
+    let taken : AreTaken words = subst (λ (a : App). fault_of a words ≡ []) app_is
+    (c.in-Ok.ensures.kinds (ap is_simple_and_free app_is ∙ free)) in
     IfOk-weaker c.task.result _ _ (λ task h. h words taken
-    (rows_are (app_of c.in_ok-command.command) words c.in-Ok.matches app_is c.in-Ok.ensures.matches))
-    c.task.ensures.ok
+    (rows_are (app_of c.in_ok-command.command) words c.in-Ok.matches app_is
+    c.in-Ok.ensures.matches)) c.task.ensures.ok
 
 pub returns-in-Ok-clause-refused : goal.returns-in-Ok-clause-refused
 returns-in-Ok-clause-refused c =
@@ -38,4 +40,5 @@ pub returns-in-Err-clause-refused : goal.returns-in-Err-clause-refused
 returns-in-Err-clause-refused c =
     let words = map (λ word. string_bytes word) c.args.words.now in
     let app_is = c.in_ok-command.ensures in
-    c.refusal.ensures words (subst (λ (a : App). HasKind (fault_of a words) c.in-Err.error) app_is (c.in-Err.ensures.kinds (ap is_simple_and_free app_is ∙ free)))
+    c.refusal.ensures words (subst (λ (a : App). HasKind (fault_of a words) c.in-Err.error) app_is
+    (c.in-Err.ensures.kinds (ap is_simple_and_free app_is ∙ free)))

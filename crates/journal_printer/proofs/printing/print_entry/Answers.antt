@@ -5,8 +5,8 @@ use Rattle.text_puts.proofs.Counting.{stays}
 use Rattle.journal_printer.proofs.Entries.{one_unput, one_unwritten}
 use Rattle.journal_printer.proofs.printing.print_entry.Goals as goal
 
-pub returns-in_err-put_tree : goal.returns-in_err-put_tree
-returns-in_err-put_tree g c =
+pub returns-in_err-put_tree-clause-printed : goal.returns-in_err-put_tree-clause-printed
+returns-in_err-put_tree-clause-printed g c =
     let p = err_from_is_err_and c.from_residual.result c.from_residual.ensures.1 in
     rw (p.1, p.2)
     (one_unput (option_map (λ prefix. prefix.now) c.args.trees) c.args.entry.now
@@ -22,8 +22,8 @@ returns-in_err-put_tree g c =
     (λ name rises. let e = c.in_err-put_tree.ensures.risen name rises in cc)
     c.in_err-put_tree.ensures.others c.in_err-put_tree.ensures.readings refl refl)
 
-pub returns-in_err-write_line : goal.returns-in_err-write_line
-returns-in_err-write_line g c =
+pub returns-in_err-write_line-clause-printed : goal.returns-in_err-write_line-clause-printed
+returns-in_err-write_line-clause-printed g c =
     let p = err_from_is_err_and c.from_residual-in_err-write_line.result
     c.from_residual-in_err-write_line.ensures.1 in
     rw (p.1, p.2)

@@ -73,4 +73,6 @@ loop-due-preserved g c =
           c.in_ok-put.ensures.other_counts name ∙ c.loop-due.invariant.counts name;
       readings = λ name. c.in_ok-put.ensures.reading_counts name
           ∙ c.loop-due.invariant.readings name;
+      known = λ name known. c.in_ok-put.ensures.still_known name
+          (c.loop-due.invariant.known name known);
     }

@@ -11,4 +11,5 @@ invariant-loop-due g l = record {
       ≡ g.S.Shelf.putting_faults l.fn.shelf name;
   readings : (name : List ℕ) → g.S.Shelf.reading_faults l.shelf name
       ≡ g.S.Shelf.reading_faults l.fn.shelf name;
+  known : (name : List ℕ) → g.S.Shelf.knows l.fn.shelf name → g.S.Shelf.knows l.shelf name;
 }
