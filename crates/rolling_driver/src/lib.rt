@@ -6,6 +6,8 @@
 //! lines in order, and what was written is the journal's text.
 #![tactic(auto)]
 
+mod ending;
+mod opening;
 mod printing;
 mod roll;
 mod running;
