@@ -9,8 +9,8 @@
 mod ending;
 mod opening;
 mod printing;
-mod roll;
+mod rolling;
 mod running;
 mod status;
 
-pub use roll::{Rolled, roll};
+pub use rolling::{Rolled, roll};
