@@ -1,2 +1,4 @@
-pub mod Printing
+pub mod Pieces
+pub mod Rounds
+pub mod Statuses
 pub mod Watching

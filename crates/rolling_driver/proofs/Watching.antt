@@ -1,6 +1,6 @@
 -- A pass that looks, again and again.
-use Rattle.std.proofs.Common.{◌≡◌, ◌∙◌, ℕ, ◌≤◌, List, ◌++◌, length, take, drop, refl, sym, ap, subst, arith}
-use Rattle.std.proofs.lemmas.List.{append_assoc, drop-append-le, length-append}
+use Rattle.std.proofs.Common.{◌≡◌, ◌∙◌, ℕ, ◌≤◌, List, [], ◌∷◌, ◌++◌, length, drop, refl, sym, ap, subst, arith}
+use Rattle.std.proofs.lemmas.List.{append_assoc, drop-append-le}
 use Rattle.disp_model.specs.declared.entry.Entry.{Entry}
 use Rattle.turn_lock.specs.Known.{Known, StartsWith}
 use Rattle.turn_lock.proofs.Beginnings.{starts_refl}
@@ -57,4 +57,6 @@ seen_behind fetched seen more within (rest, is) =
     ap (drop fetched) is ∙ drop-append-le fetched seen rest within ∙ ap (λ (l : List Entry). drop fetched seen ++ l) (sym (ap (drop (length seen)) is ∙ whole seen rest))
   where
     whole : (xs ys : List Entry) → drop (length xs) (xs ++ ys) ≡ ys
-    whole xs ys = drop_at xs ys (length xs) refl
+    whole [] [] = refl
+    whole [] (y ∷ ys) = refl
+    whole (x ∷ xs) ys = whole xs ys

@@ -1,4 +1,4 @@
-ghost use Rattle.std.specs.Prelude.{◌≡◌, ◌≤◌, OnOk, option_map, drop, length};
+ghost use Rattle.std.specs.Prelude.{◌≡◌, ℕ, List, OnOk, option_map, drop, length};
 ghost use Rattle.text_puts.specs.Outside.{outside};
 ghost use Rattle.shared_board.specs.Board.{board_of, own_board, known, fetched};
 ghost use Rattle.rolling_driver.specs.Printed.{PrintsJournal, Watches};
@@ -14,10 +14,12 @@ use std::thread::yield_now;
 /// How often the printer gives way where there is nothing to print.
 const PAUSE: u32 = 64;
 
-/// Lets others go first.
-fn give_way() {
-    for _time in 0..PAUSE {
-        yield_now();
+/// Lets others go first, where there is nothing to do.
+fn give_way(is_idle: bool) {
+    if is_idle {
+        for _time in 0..PAUSE {
+            yield_now();
+        }
     }
 }
 
@@ -34,19 +36,20 @@ fn print_new<W: Wait, S: Shelf, O: Sink>(
 ) -> Result<(), PrintNo>
     requires board { own_board pass.old ≡ board_of board.now }
     ensures watches { Watches pass.old pass.new }
-    ensures printed { PrintsJournal (option_map (λ prefix. prefix.now) trees)
+    ensures printed { PrintsJournal (option_map (λ prefix. prefix.now) trees.entry)
         (drop (fetched pass.old) (known pass.new).seen)
         (outside (S.holds shelf.old) (S.reading_faults shelf.old) (S.putting_faults shelf.old)
         (O.faults out.old) (O.written out.old))
         (outside (S.holds shelf.new) (S.reading_faults shelf.new) (S.putting_faults shelf.new)
         (O.faults out.new) (O.written out.new)) result }
     ensures fetched { OnOk result (fetched pass.new ≡ length (known pass.new).seen) }
+    ensures known { (name : List ℕ) → S.knows shelf.old name → S.knows shelf.new name }
 {
-    let news = board.news(rt, alloc, pass)?;
+    let Ok(news) = board.news(rt, alloc, pass) else {
+        return Err(PrintNo::Memory);
+    };
     *over = news.ended;
-    if news.entries.is_empty() {
-        give_way();
-    }
+    give_way(news.entries.len() == 0);
     print_entries(alloc, shelf, out, trees, news.entries.as_slice())
 }
 
@@ -62,13 +65,14 @@ pub(crate) fn print_news<W: Wait, S: Shelf, O: Sink>(
 ) -> Result<(), PrintNo>
     requires board { own_board pass.old ≡ board_of board.now }
     ensures watches { Watches pass.old pass.new }
-    ensures printed { PrintsJournal (option_map (λ prefix. prefix.now) trees)
+    ensures printed { PrintsJournal (option_map (λ prefix. prefix.now) trees.entry)
         (drop (fetched pass.old) (known pass.new).seen)
         (outside (S.holds shelf.old) (S.reading_faults shelf.old) (S.putting_faults shelf.old)
         (O.faults out.old) (O.written out.old))
         (outside (S.holds shelf.new) (S.reading_faults shelf.new) (S.putting_faults shelf.new)
         (O.faults out.new) (O.written out.new)) result }
     ensures fetched { OnOk result (fetched pass.new ≡ length (known pass.new).seen) }
+    ensures known { (name : List ℕ) → S.knows shelf.old name → S.knows shelf.new name }
 {
     let mut over = false;
     for _ in rt.forever() {

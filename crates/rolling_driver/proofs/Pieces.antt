@@ -1,10 +1,12 @@
 -- A journal that is printed piece by piece.
-use Rattle.std.proofs.Common.{◌≡◌, ◌∙◌, ℕ, inl, inr, List, ◌++◌, Option, Result, Ok, Err, sym, ap, append_assoc}
+use Rattle.std.proofs.Common.{◌≡◌, ◌∙◌, ℕ, inl, inr, List, [], ◌++◌, Option, Result, Ok, Err, refl, sym, ap, arith, append_assoc}
 use Rattle.disp_model.specs.declared.entry.Entry.{Entry}
 use Rattle.text_puts.specs.Outside.{Outside}
+use Rattle.text_puts.proofs.Puttings.{only_all, stands_none}
 use Rattle.journal_printer.specs.declared.no.PrintNo.{PrintNo}
+use Rattle.journal_printer.specs.declared.no.PrintNo.TheVariants.{Memory}
 use Rattle.journal_printer.specs.Printing.{Prints}
-use Rattle.journal_printer.proofs.Printed.{printed_more, printed_first}
+use Rattle.journal_printer.proofs.Printed.{all_none, printed_more, printed_first}
 use Rattle.rolling_driver.specs.Printed.{PrintsFront, PrintsJournal}
 
 -- more behind entries that were all printed
@@ -30,3 +32,24 @@ journal_first trees xs ys old new why (inr out) = inr (record {
   printed = out.printed;
   told_is = out.told_is;
 })
+
+-- of no entries nothing is printed
+pub prints_none : (trees : Option (List ℕ)) (old : Outside) → Prints trees [] old old (Ok tt)
+prints_none trees old = record {
+  all = all_none trees old;
+  stops = tt;
+  unput = λ name rises. absurd (omega (arith, rises));
+  unwritten = λ rises. absurd (omega (arith, rises));
+  counted = omega arith;
+  reading = λ name. refl;
+  others = only_all [] old.holds old.holds old.putting old.putting (stands_none old.holds) (λ name. refl);
+}
+
+-- where memory ran out before anything was given to be printed
+pub journal_none : (trees : Option (List ℕ)) (journal : List Entry) (old : Outside) → PrintsJournal trees journal old old (Err Memory)
+journal_none trees journal old = inr (record { front = []; rest = journal; parts = refl; printed = prints_none trees old; told_is = refl })
+
+-- where all is told to be printed, it is
+pub journal_all : (trees : Option (List ℕ)) (journal : List Entry) (old new : Outside) → PrintsJournal trees journal old new (Ok tt) → Prints trees journal old new (Ok tt)
+journal_all trees journal old new (inl prints) = prints
+journal_all trees journal old new (inr out) = absurd (let e = out.told_is in cc)
