@@ -17,12 +17,22 @@ use Rattle.feed_runs.specs.declared.reader.Reader.{Reader}
 use Rattle.feed_runs.specs.Readers.{CountsFeeds}
 use Rattle.rolling_driver.specs.Printed.{PrintsJournal}
 
+-- what was printed behind this: all that is left, where all before it was printed, and else nothing
+abbrev pub PrintsBehind : Option (List ℕ) → List Entry → Outside → Outside → Result (Unit {0}) PrintNo → Result (Unit {0}) PrintNo → Type 0
+PrintsBehind trees rest old new (Ok done) told = PrintsJournal trees rest old new told
+PrintsBehind trees rest old new (Err why) told = (told ≡ Err why) × (new ≡ old)
+
+-- so it was, whatever readings failed meanwhile
+abbrev pub PrintsRest : Option (List ℕ) → List Entry → Outside → Outside → Result (Unit {0}) PrintNo → Result (Unit {0}) PrintNo → Type 0
+PrintsRest trees rest old new (Ok done) told = PrintsJournal trees rest old (record new { reading = old.reading }) told
+PrintsRest trees rest old new (Err why) told = (told ≡ Err why) × (record new { reading = old.reading } ≡ old)
+
+abbrev pub searcher_passes : List Searcher → List Pass
+searcher_passes searchers = map (λ s. s.pass) searchers
+
 module _ {F : Type 0} where
   abbrev pub reader_passes : List (Reader F) → List Pass
   reader_passes readers = map (λ r. r.pass) readers
-
-  abbrev pub searcher_passes : List Searcher → List Pass
-  searcher_passes searchers = map (λ s. s.pass) searchers
 
   -- what the passes of a run know, those of the feeds first
   abbrev pub known_of : List (Reader F) → List Searcher → List (Known Entry Terms)
@@ -36,11 +46,6 @@ module _ {F : Type 0} where
     pub reader_boards : All (λ r. own_board r.pass ≡ board_of board) readers
     pub searcher_boards : All (λ s. own_board s.pass ≡ board_of board) searchers
     pub given : (caller : ℕ) → Contains (known first).given caller → Contains ((known first).back ++ map caller_at (reader_passes readers) ++ map caller_at (searcher_passes searchers)) caller
-
-  -- what is printed behind what was: all that is left, where all before it was printed, and else nothing
-  abbrev pub PrintsRest : Option (List ℕ) → List Entry → Outside → Outside → Result (Unit {0}) PrintNo → Result (Unit {0}) PrintNo → Type 0
-  PrintsRest trees rest old new (Ok done) told = PrintsJournal trees rest old (record new { reading = old.reading }) told
-  PrintsRest trees rest old new (Err no) told = (told ≡ Err no) × (record new { reading = old.reading } ≡ old)
 
   -- the core that was behind the board, whose history is what all passes have seen together
   pub record IsEnded (name : F → List ℕ) (faults : F → ℕ) (trees : Option (List ℕ)) (first : Pass) (readers : List (Reader F)) (searchers : List Searcher)

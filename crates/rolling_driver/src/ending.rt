@@ -1,8 +1,8 @@
-ghost use Rattle.std.specs.Prelude.{◌≡◌, true, All, ℕ, List, OnOk, option_map, length};
+ghost use Rattle.std.specs.Prelude.{◌≡◌, All, ℕ, List, OnOk, option_map, drop, length};
 ghost use Rattle.text_puts.specs.Outside.{outside};
 ghost use Rattle.shared_board.specs.Board.{board_of, own_board, known, fetched};
-ghost use Rattle.rolling_driver.specs.Ended.{MayEnd, IsEnded};
-ghost use Rattle.rolling_driver.specs.Printed.{PrintsJournal};
+ghost use Rattle.rolling_driver.specs.Ended.{MayEnd, IsEnded, PrintsBehind};
+ghost use Rattle.rolling_driver.specs.Printed.{Watches};
 
 use crate::printing::print_news;
 use crew_runs::{Searcher, join_searchers};
@@ -15,6 +15,34 @@ use joined_passes::close_run;
 use shared_board::{Board, Pass};
 use std::alloc::Global;
 use std::sync::Wait;
+
+/// Prints what is not printed yet, where all before it was.
+fn print_rest<W: Wait, S: Shelf, O: Sink>(
+    rt: &W,
+    alloc: Global,
+    board: &Board,
+    first: &mut Pass,
+    printed: Result<(), PrintNo>,
+    shelf: &mut S,
+    out: &mut O,
+    trees: Option<&Text>,
+) -> Result<(), PrintNo>
+    requires board { own_board first.old ≡ board_of board.now }
+    ensures watches { Watches first.old first.new }
+    ensures printed { PrintsBehind (option_map (λ prefix. prefix.now) trees.entry)
+        (drop (fetched first.old) (known first.new).seen)
+        (outside (S.holds shelf.old) (S.reading_faults shelf.old) (S.putting_faults shelf.old)
+        (O.faults out.old) (O.written out.old))
+        (outside (S.holds shelf.new) (S.reading_faults shelf.new) (S.putting_faults shelf.new)
+        (O.faults out.new) (O.written out.new)) printed result }
+    ensures readings { (name : List ℕ) → S.reading_faults shelf.new name
+        ≡ S.reading_faults shelf.old name }
+{
+    match printed {
+        Ok(()) => print_news(rt, alloc, board, first, shelf, out, trees),
+        Err(no) => Err(no),
+    }
+}
 
 /// Joins the passes of a run, prints what is not printed yet, where all before it was, and closes the
 /// board and the feeds.
@@ -33,7 +61,7 @@ pub(crate) fn end_run<W: Wait, S: Shelf, O: Sink>(
     requires may { MayEnd board first readers.items searchers.items }
     requires fetched { OnOk printed (fetched first ≡ length (known first).seen) }
     requires known { All (λ r. S.knows shelf.old (S.Feed.name r.feed)) readers.items }
-    ensures ended { IsEnded S.Feed.name S.Feed.faults (option_map (λ prefix. prefix.now) trees) first
+    ensures ended { IsEnded S.Feed.name S.Feed.faults (option_map (λ prefix. prefix.now) trees.entry) first
         readers.items searchers.items printed
         (outside (S.holds shelf.old) (S.reading_faults shelf.old) (S.putting_faults shelf.old)
         (O.faults out.old) (O.written out.old))
@@ -43,10 +71,7 @@ pub(crate) fn end_run<W: Wait, S: Shelf, O: Sink>(
     let mut first = first;
     join_readers(&board, &mut first, shelf, readers);
     join_searchers(&board, &mut first, searchers);
-    let printed = match printed {
-        Ok(()) => print_news(rt, alloc, &board, &mut first, shelf, out, trees),
-        Err(no) => Err(no),
-    };
+    let printed = print_rest(rt, alloc, &board, &mut first, printed, shelf, out, trees);
     let closed = close_run(rt, alloc, board, first);
     (closed.core, printed)
 }

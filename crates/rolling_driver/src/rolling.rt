@@ -46,7 +46,7 @@ pub fn roll<R: Threads + Wait + Sync, S: Shelf, O: Sink, G: Gate>(
     requires feeds { AreNew S.Feed.has_ended S.Feed.faults feeds.items }
     requires known { All (λ feed. S.knows shelf.old (S.Feed.name feed)) feeds.items }
     ensures rolled { IfOk result (λ rolled.
-        IsRolled problem.now settings (option_map (λ prefix. prefix.now) trees)
+        IsRolled problem.now settings (option_map (λ prefix. prefix.now) trees.entry)
         (fed S.Feed.name S.Feed.lines feeds.items)
         (outside (S.holds shelf.old) (S.reading_faults shelf.old) (S.putting_faults shelf.old)
         (O.faults out.old) (O.written out.old))
