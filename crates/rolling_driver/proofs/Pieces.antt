@@ -1,5 +1,5 @@
 -- A journal that is printed piece by piece.
-use Rattle.std.proofs.Common.{◌≡◌, ◌∙◌, ℕ, inl, inr, List, [], ◌++◌, Option, Result, Ok, Err, refl, sym, ap, arith, append_assoc}
+use Rattle.std.proofs.Common.{◌∙◌, ℕ, inl, inr, List, [], ◌++◌, Option, Result, Ok, Err, refl, sym, ap, arith, append_assoc}
 use Rattle.disp_model.specs.declared.entry.Entry.{Entry}
 use Rattle.text_puts.specs.Outside.{Outside}
 use Rattle.text_puts.proofs.Puttings.{only_all, stands_none}
@@ -7,7 +7,7 @@ use Rattle.journal_printer.specs.declared.no.PrintNo.{PrintNo}
 use Rattle.journal_printer.specs.declared.no.PrintNo.TheVariants.{Memory}
 use Rattle.journal_printer.specs.Printing.{Prints}
 use Rattle.journal_printer.proofs.Printed.{all_none, printed_more, printed_first}
-use Rattle.rolling_driver.specs.Printed.{PrintsFront, PrintsJournal}
+use Rattle.rolling_driver.specs.Printed.{PrintsJournal}
 
 -- more behind entries that were all printed
 pub journal_more : (trees : Option (List ℕ)) (xs ys : List Entry) (old mid new : Outside) (told : Result (Unit {0}) PrintNo)

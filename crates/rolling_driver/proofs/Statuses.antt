@@ -1,5 +1,5 @@
 -- How readings ended, feed by feed.
-use Rattle.std.proofs.Common.{◌≡◌, ◌∙◌, ◌↔◌, ℕ, zero, suc, ◌<◌, List, [], ◌∷◌, Any, Contains, length, map, slice_index_or, refl, sym, ap, subst, arith}
+use Rattle.std.proofs.Common.{◌≡◌, ◌∙◌, ◌↔◌, ℕ, zero, suc, ◌<◌, List, [], ◌∷◌, Any, Contains, length, map, slice_index_or, refl, ap, subst, arith}
 use Rattle.std.proofs.lemmas.List.{length-map}
 use Rattle.feed_reader.specs.declared.read.Reading.{Reading as ReadingOf}
 use Rattle.feed_runs.specs.declared.reader.Reader.{Reader}

@@ -1,5 +1,5 @@
 -- A pass that looks, again and again.
-use Rattle.std.proofs.Common.{◌≡◌, ◌∙◌, ℕ, ◌≤◌, List, [], ◌∷◌, ◌++◌, length, drop, refl, sym, ap, subst, arith}
+use Rattle.std.proofs.Common.{◌≡◌, ◌∙◌, ℕ, ◌≤◌, List, [], ◌∷◌, ◌++◌, length, drop, refl, sym, ap, subst}
 use Rattle.std.proofs.lemmas.List.{append_assoc, drop-append-le}
 use Rattle.disp_model.specs.declared.entry.Entry.{Entry}
 use Rattle.turn_lock.specs.Known.{Known, StartsWith}

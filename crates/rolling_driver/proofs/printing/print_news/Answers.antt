@@ -1,4 +1,4 @@
-use Rattle.std.proofs.Common.{Ok, Err, option_map, ◌∙◌, refl}
+use Rattle.std.proofs.Common.{Ok, Err, option_map, ◌∙◌}
 use Rattle.std.proofs.lemmas.Result.{err_from_is_err_and}
 use Rattle.text_puts.specs.Outside.{outside}
 use Rattle.rolling_driver.proofs.Rounds.{journal_on, printed_on}

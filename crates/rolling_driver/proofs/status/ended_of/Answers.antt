@@ -1,4 +1,3 @@
-use Rattle.std.proofs.Common.{◌↔◌, IsTrue, Contains}
 use Rattle.rolling_driver.proofs.Statuses.{any_reading}
 use Rattle.rolling_driver.proofs.status.ended_of.Goals as goal
 
