@@ -17,6 +17,7 @@ use Rattle.answered_tasks.specs.declared.cause.Cause.{Cause}
 use Rattle.answered_tasks.specs.declared.cause.Cause.TheVariants.{Words, Failed, TooLong, NoProblem, NoSolution, BadLine, NoTree, WrongEdition, NoPlan, Memory}
 use Rattle.answered_tasks.specs.declared.cause.Input.TheVariants as input
 use Rattle.text_puts.specs.Outside.{Holdings, Counts}
+use Rattle.text_puts.proofs.Counting.{never_falls}
 use Rattle.answered_tasks.specs.Outside.{IsFile, HoldsTooMuch, ReadsOne, ReadsNames, IsBehind, IsName, IsProblemOrFixings, IsOneOfThree}
 use Rattle.answered_tasks.specs.Files.{IsProblemFile, IsRefusedLine, AreAsked, AreFixings, HasFixings}
 use Rattle.disp_outside.specs.Lines.{HasLinesOf}

@@ -36,6 +36,7 @@ use Rattle.instance_maker.specs.Made.{IsMade}
 use Rattle.journal_printer.specs.Journal.{tree_file}
 use Rattle.text_puts.specs.declared.put.Put.{Put}
 use Rattle.text_puts.specs.Outside.{Holdings}
+use Rattle.text_puts.specs.Puts.{PutsUnder}
 use Rattle.answered_tasks.specs.Files.{IsProblemFile, IsSolutionFile, AreAsked, AreFixings, AreOfEdition, IsTreeFile, IsPlanFile}
 use Rattle.answered_tasks.specs.Settled.{settled_tree, ShowsMark}
 use Rattle.answered_tasks.specs.Texts.{answer_lines, made_lines, plan_line, problem_file, valid_line, fault_line, accepted_line, refused_line, plan_fault_line, no_plan_line}

@@ -8,8 +8,8 @@ use Rattle.text_puts.specs.declared.put.Put.{Put}
 use Rattle.answered_tasks.specs.declared.cause.Cause.{Cause}
 use Rattle.answered_tasks.specs.declared.cause.Cause.TheVariants.{Failed, Memory}
 use Rattle.answered_tasks.specs.declared.cause.Input.{Input}
-use Rattle.text_puts.specs.Outside.{Outside, Holdings, HoldsBytes, Counts, Writes}
-use Rattle.text_puts.specs.Puts.{PutsUnder}
+use Rattle.text_puts.specs.Outside.{Outside, Holdings, Counts, Writes}
+use Rattle.text_puts.specs.Puts.{StandsAfter, PutsSome, PutMisses}
 use Rattle.answered_tasks.specs.Answers.{IsAnswer, IsDuePut}
 use Rattle.answered_tasks.specs.Causes.{StopsRun, IsReadingFault, line_of, due_line, status_of}
 

@@ -3,7 +3,7 @@ ghost use Rattle.text_puts.specs.Outside.{outside};
 ghost use Rattle.answered_tasks.specs.Outside.{FailsOfOne};
 ghost use Rattle.answered_tasks.specs.Answers.{IsDuePut};
 ghost use Rattle.answered_tasks.specs.Causes.{CountsReading, IsAnswerStatus};
-ghost use Rattle.text_puts.specs.Puts.{PutsOnly, PutMisses, PutsSome, StandsAfter};
+ghost use Rattle.text_puts.specs.Puts.{PutsOnly};
 ghost use Rattle.answered_tasks.specs.Endings.{EndsAnswered, EndsRefused, EndsFailed, GivesUp, CountsPutting, Publishes};
 
 use crate::answer::Answer;

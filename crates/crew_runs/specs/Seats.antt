@@ -6,7 +6,7 @@ use Rattle.turn_lock.specs.Known.{Known, given_known}
 use Rattle.turn_lock.specs.Section.{OwnsPlaces}
 use Rattle.shared_board.specs.declared.board.Board.{Board}
 use Rattle.shared_board.specs.declared.terms.Terms.{Terms}
-use Rattle.shared_board.specs.Board.{board_of, own_board, known}
+use Rattle.shared_board.specs.Board.{board_of, own_board, known, lines}
 use Rattle.shared_board.specs.Callers.{caller_of, searcher_caller}
 use Rattle.search_crew.specs.declared.crew.Crew.{Crew}
 use Rattle.search_crew.specs.Crews.{IsHandOf}
@@ -50,6 +50,7 @@ pub record MaySeat (v : Known Entry Terms) (count : ℕ) : Type 0 where
 pub record IsSeat (board : Board) (v : Known Entry Terms) (place : ℕ) (searcher : Searcher) : Type 0 where
   pub board_is : own_board searcher.pass ≡ board_of board
   pub knows : known searcher.pass ≡ given_known v (searcher_caller place)
+  pub none : lines searcher.pass ≡ 0
 
 abbrev pub AreSeats : Board → Known Entry Terms → List Searcher → Type 0
 AreSeats board v searchers = (place : ℕ) (one : Searcher) → slice_get searchers place ≡ Some one → IsSeat board v place one

@@ -1,2 +1,1 @@
-mod feeds;
 mod searchers;

@@ -5,7 +5,7 @@ ghost use Rattle.dispatch_cli.specs.Stops.{StopsWith, line_of};
 use answered_tasks::{Cause, give_up, stop};
 use disp_model::Memory;
 use disp_outside::{Sink, WriteNo};
-use std::alloc::Global;
+use std::alloc::{AllocError, Global};
 
 /// What stops a `roll` before it has begun.
 #[derive(Drop)]
@@ -20,13 +20,13 @@ pub enum RollNo {
     Memory,
 }
 
-impl From<Memory> for RollNo {
+impl From<AllocError> for RollNo {
     ghost use Rattle.std.specs.Prelude.{◌≡◌};
     ghost use Rattle.dispatch_cli.specs.declared.roll_no.RollNo.TheVariants.{Memory as OutOfMemory};
 
     ghost from_gives = { λ _ no. no ≡ OutOfMemory };
 
-    fn from(_refused: Memory) -> RollNo {
+    fn from(_refused: AllocError) -> RollNo {
         RollNo::Memory
     }
 }

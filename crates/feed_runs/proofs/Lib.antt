@@ -1,2 +1,4 @@
+pub mod Closing
 pub mod Ending
+pub mod Halving
 pub mod Seating

@@ -14,7 +14,7 @@ use Rattle.feed_runs.specs.declared.reader.Reader.{Reader}
 use Rattle.feed_runs.specs.Readers.{AreReaders, IsReader, MayRead, feeds_to, with_readers}
 
 -- those that have a pass already are below the next one
-below_next : (count caller : ℕ) → Contains (feeds_to count) caller → caller < count
+pub below_next : (count caller : ℕ) → Contains (feeds_to count) caller → caller < count
 below_next zero caller (k, within, is) = absurd (omega arith)
 below_next (suc count) caller there = ⊎_elim
     (λ (old : Contains (feeds_to count) caller). let below = below_next count caller old in omega (arith, below))

@@ -1,6 +1,7 @@
 -- Whose an entry is, once all passes are joined.
-use Rattle.std.proofs.Common.{◌≡◌, ◌≢◌, ◌∙◌, ℕ, suc, ◌<◌, ◌⊎◌, inl, inr, ⊎_elim, List, [], ◌∷◌, All, AllPairs, Contains, length, get_or, refl, sym, ap, arith}
-use Rattle.std.specs.Prelude.{Some, slice_get}
+use Rattle.std.proofs.Common.{◌≡◌, ◌≢◌, ◌∙◌, ℕ, zero, suc, ◌+◌, Bool, true, ◌<◌, ◌⊎◌, inl, inr, ⊎_elim, List, [], ◌∷◌, All, AllPairs, Contains, length, get_or, refl, sym, ap, arith}
+use Rattle.std.specs.Prelude.{Some, slice_get, if◌then◌else◌}
+use Rattle.std.proofs.lemmas.List.Sums.{sum_by-append}
 use Rattle.std.proofs.lemmas.Bool.{cases_lt}
 use Rattle.std.proofs.lemmas.List.{get_or_default}
 use Rattle.std.proofs.lemmas.List.Elements.{All-contains, All-contains_itself, Contains-append_cases}
@@ -11,9 +12,10 @@ use Rattle.turn_lock.specs.Known.{Known, StartsWith, joined_known}
 use Rattle.turn_lock.specs.Section.{OwnsPlaces}
 use Rattle.turn_lock.proofs.Beginnings.{starts_back, starts_none}
 use Rattle.shared_board.specs.declared.terms.Terms.{Terms}
-use Rattle.shared_board.specs.Callers.{caller_of}
+use Rattle.shared_board.specs.Callers.{caller_of, is_line_of, lines_of}
 use Rattle.shared_board.specs.Onward.{entries_by}
 use Rattle.shared_board.proofs.Onward.{fresh_entries}
+use Rattle.shared_board.proofs.LineCounts.{lines_at}
 use Rattle.joined_passes.specs.Joined.{joined_all, AreAllJoined}
 
 module _ {E T : Type 0} where
@@ -40,6 +42,16 @@ module _ {E T : Type 0} where
     where
       caller_is : {x y : Known E T} → x ≡ y → x.caller ≡ y.caller
       caller_is is = ap (λ (k : Known E T). k.caller) is
+
+-- none of the entries is a line where there are none
+pub no_line : (caller : ℕ) (entries : List Entry) (place : ℕ) (e : Entry) → lines_of caller entries ≡ 0 → slice_get entries place ≡ Some e → is_line_of caller e ≡ true → ⊥
+no_line caller [] place e none there line = absurd (cc)
+no_line caller (one ∷ entries) zero e none there line =
+    let is : one ≡ e = cc in
+    let counted : lines_at caller one ≡ 1 = ap (λ (b : Bool). if b then 1 else 0) (ap (is_line_of caller) is ∙ line) in
+    omega (arith, counted, none, sum_by-append (λ e. lines_at caller e) (one ∷ []) entries)
+no_line caller (one ∷ entries) (suc place) e none there line =
+    no_line caller entries place e (omega (arith, none, sum_by-append (λ e. lines_at caller e) (one ∷ []) entries)) there line
 
 module _ (v : Known Entry Terms) (ws : List (Known Entry Terms)) (history : List Entry) (are : AreAllJoined v ws history) where
   begins : (w : Known Entry Terms) → Contains ws w → StartsWith history w.seen

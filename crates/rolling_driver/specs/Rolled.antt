@@ -15,10 +15,6 @@ use Rattle.rolling_driver.specs.Printed.{PrintsJournal}
 use Rattle.rolling_driver.specs.Status.{IsStatus}
 
 module _ {F : Type 0} where
-  -- feeds of which nothing was read
-  abbrev pub AreNew : (F → Bool) → (F → ℕ) → List F → Type 0
-  AreNew has_ended faults feeds = All (λ feed. (has_ended feed ≡ false) × (faults feed ≡ 0)) feeds
-
   -- what clauses see of feeds
   abbrev pub fed : (F → List ℕ) → (F → Option (List (List ℕ))) → List F → List (List ℕ × Option (List (List ℕ)))
   fed name lines feeds = map (λ feed. (name feed, lines feed)) feeds

@@ -6,9 +6,11 @@
 //! lines in order, and what was written is the journal's text.
 #![tactic(auto)]
 
+mod ending;
+mod opening;
 mod printing;
-mod roll;
+mod rolling;
 mod running;
 mod status;
 
-pub use roll::{Rolled, roll};
+pub use rolling::{Rolled, roll};

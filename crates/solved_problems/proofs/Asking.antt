@@ -29,8 +29,10 @@ ask_asks before after line change told is enters counted = by_reply told enters 
   where
     v : Known Entry Terms
     v = known before
+
     w : Known Entry Terms
     w = known after
+
     by_reply : (told : CoreReply) (enters : Enters v (event.Ask v.caller line change) told w) → IsAsk enters.before v.caller line change told enters.after
         → AsksNext before after change
     by_reply (reply.Asked answer) enters asks = record {
@@ -54,6 +56,12 @@ module _ {X : Type 0} (p : X → Bool) where
   pub all_pass : (xs : List X) → length (filter p xs) ≡ length xs → filter p xs ≡ xs
   all_pass [] same = refl
   all_pass (x ∷ xs) same = ⊎_elim
-      (λ (yes : p x ≡ true). let rest : length (filter p xs) ≡ length xs = omega (arith, rw (← yes) same) in rw yes (ap (λ (l : List X). x ∷ l) (all_pass xs rest)))
-      (λ (no : p x ≡ false). let rest = no_more xs in absurd (omega (arith, rw (← no) same)))
+      (λ (yes : p x ≡ true).
+      let is : filter p (x ∷ xs) ≡ x ∷ filter p xs = rw yes refl in
+      let long : length (filter p (x ∷ xs)) ≡ suc (length (filter p xs)) = ap (λ (l : List X). length l) is in
+      is ∙ ap (λ (l : List X). x ∷ l) (all_pass xs (omega (arith, long, same))))
+      (λ (no : p x ≡ false).
+      let is : filter p (x ∷ xs) ≡ filter p xs = rw no refl in
+      let long : length (filter p (x ∷ xs)) ≡ length (filter p xs) = ap (λ (l : List X). length l) is in
+      let rest = no_more xs in absurd (omega (arith, long, same, rest)))
       (either_bool (p x))

@@ -22,18 +22,9 @@ use Rattle.shared_board.specs.Callers.{caller_of, is_line_of, lines_of, searcher
 use Rattle.shared_board.specs.Onward.{entries_by}
 use Rattle.shared_board.proofs.LineCounts.{behind_get}
 use Rattle.joined_passes.specs.Joined.{joined_all}
-use Rattle.joined_passes.proofs.Owning.{place_of}
+use Rattle.joined_passes.proofs.Owning.{place_of, no_line}
 use Rattle.solved_problems.specs.Solved.{AreLinesFor, IsSearched, MayBeAsked, HasSearched}
 use Rattle.solved_problems.proofs.Lines.{taken_lines}
-
--- none of the entries is a line where there are none
-no_line : (caller : ℕ) (entries : List Entry) (place : ℕ) (e : Entry) → lines_of caller entries ≡ 0 → slice_get entries place ≡ Some e → is_line_of caller e ≡ true → ⊥
-no_line caller [] place e none there line = absurd (cc)
-no_line caller (one ∷ entries) zero e none there line =
-    let is : one ≡ e = cc in
-    let counted : cond (is_line_of caller one) 1 0 ≡ 1 = ap (λ (b : Bool). cond b 1 0) (ap (is_line_of caller) is ∙ line) in
-    omega arith
-no_line caller (one ∷ entries) (suc place) e none there line = no_line caller entries place e (omega (arith, none)) there line
 
 -- an entry that names a caller without lines, or none, is of a search
 of_search : (caller : ℕ) (e : Entry) → (is_line_of caller e ≡ true → ⊥) → ((other : ℕ) → caller_of e ≡ Some other → other ≡ caller) → IsOfSearch e
@@ -46,8 +37,7 @@ of_search caller (Settled edition verdict tree) none named = tt
 of_search caller (Stopped edition spent bound) none named = tt
 
 module _ (v : Known Entry Terms) (ws : List (Known Entry Terms)) (history : List Entry) (own : OwnsPlaces caller_of v) (starts : StartsWith history v.seen)
-    (all : All (HasSearched history) ws) (covered : (place : ℕ) → place < length history → Contains (joined_all v ws).mine place)
-where
+    (all : All (HasSearched history) ws) (covered : (place : ℕ) → place < length history → Contains (joined_all v ws).mine place) where
   -- an entry behind those that the first pass has seen is of a search
   by_place : (place : ℕ) (e : Entry) → length v.seen ≤ place → slice_get history place ≡ Some e → IsOfSearch e
   by_place place e behind there = whose (place_of v ws place (covered place (slice_get_within history place e there)))

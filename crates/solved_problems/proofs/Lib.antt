@@ -2,3 +2,4 @@ pub mod Marks
 mod Lines
 mod Asking
 mod Ends
+mod Seated

@@ -1,7 +1,8 @@
 -- Lines of one caller that ask for changes.
-use Rattle.std.proofs.Common.{◌≡◌, ◌∙◌, ℕ, suc, ◌+◌, List, [], ◌∷◌, ◌++◌, length, take, refl, sym, ap, subst, arith}
+use Rattle.std.proofs.Common.{◌≡◌, ◌∙◌, ℕ, suc, ◌+◌, ◌<◌, List, [], ◌∷◌, ◌++◌, get_or, length, take, refl, sym, ap, subst, arith}
 use Rattle.std.specs.Prelude.{Some, slice_get}
-use Rattle.std.proofs.lemmas.List.{append_assoc, append-nil, take_at}
+use Rattle.std.proofs.Math.Seq.{take-suc}
+use Rattle.std.proofs.lemmas.List.{append_assoc, append-nil, length-take-le, take_at}
 use Rattle.disp_model.specs.declared.entry.Entry.{Entry}
 use Rattle.disp_model.specs.declared.entry.Entry.TheVariants.{Asked, Unread, Shown, Grown, Published, Settled, Stopped}
 use Rattle.disp_model.specs.declared.fixing.Change.{Change}
@@ -18,10 +19,13 @@ use Rattle.fixing_files.specs.Files.{IsTaken, TakesChange, TakesInTurn}
 use Rattle.history_laws.proofs.Appended.{changes_more}
 use Rattle.turn_lock.specs.Known.{StartsWith}
 use Rattle.turn_lock.proofs.Beginnings.{starts_get}
-use Rattle.solved_problems.specs.Solved.{AreAskedLines, IsLineFor, AreLinesFor, MayBeAsked}
+use Rattle.shared_board.specs.declared.pass.Pass.{Pass}
+use Rattle.shared_board.specs.Board.{known, lines}
+use Rattle.shared_board.specs.Onward.{entries_by}
+use Rattle.solved_problems.specs.Solved.{AreAskedLines, AsksNext, IsLineFor, AreLinesFor, MayBeAsked}
 
 -- one more line behind the others
-pub lines_more : (caller number : ℕ) (asked : List Change) (entries : List Entry) (change : Change) (entry : Entry) → AreLinesFor caller number asked entries
+lines_more : (caller number : ℕ) (asked : List Change) (entries : List Entry) (change : Change) (entry : Entry) → AreLinesFor caller number asked entries
     → IsLineFor caller (number + length asked) change entry → AreLinesFor caller number (asked ++ change ∷ []) (entries ++ entry ∷ [])
 lines_more caller number [] [] change entry all one = (subst (λ (n : ℕ). IsLineFor caller n change entry) (omega arith) one, tt)
 lines_more caller number [] (first ∷ entries) change entry all one = absurd all
@@ -38,6 +42,27 @@ as_many caller number [] [] all = refl
 as_many caller number [] (first ∷ entries) all = absurd all
 as_many caller number (first ∷ asked) [] all = absurd all
 as_many caller number (first ∷ asked) (here ∷ entries) (is, all) = ap suc (as_many caller (suc number) asked entries all)
+
+-- the line at the next place behind those before it
+lines_next : (caller place : ℕ) (asked : List Change) (entries more : List Entry) (change : Change) (told : Reply) → place < length asked → get_or asked place change ≡ change
+    → AreLinesFor caller 1 (take place asked) entries → more ≡ entries ++ Asked caller (place + 1) change told ∷ [] → AreLinesFor caller 1 (take (place + 1) asked) more
+lines_next caller place asked entries more change told within here all is =
+    let one : suc place ≡ place + 1 = omega arith in
+    let grown : take (place + 1) asked ≡ take place asked ++ change ∷ [] =
+    ap (λ (n : ℕ). take n asked) (sym one) ∙ (take-suc asked place change within ∙ ap (λ (c : Change). take place asked ++ c ∷ []) here) in
+    let number : place + 1 ≡ 1 + length (take place asked) = omega (arith, length-take-le place asked (omega (arith, within))) in
+    subst (λ (l : List Change). AreLinesFor caller 1 l more) (sym grown)
+    (subst (AreLinesFor caller 1 (take place asked ++ change ∷ [])) (sym is)
+    (lines_more caller 1 (take place asked) entries change (Asked caller (place + 1) change told) all (refl, number, refl)))
+
+-- so is the next one that was asked
+pub next_lines : (before after : Pass) (caller place : ℕ) (asked : List Change) (change : Change) → (known before).caller ≡ caller → lines before ≡ place → place < length asked
+    → get_or asked place change ≡ change → AsksNext before after change → AreLinesFor caller 1 (take place asked) (entries_by caller (known before).seen)
+    → AreLinesFor caller 1 (take (place + 1) asked) (entries_by caller (known after).seen)
+next_lines before after caller place asked change same counted within here asks all =
+    lines_next caller place asked (entries_by caller (known before).seen) (entries_by caller (known after).seen) change asks.reply within here all
+    (subst (λ (n : ℕ). entries_by caller (known after).seen ≡ entries_by caller (known before).seen ++ Asked caller (n + 1) change asks.reply ∷ []) counted
+    (subst (λ (n : ℕ). entries_by n (known after).seen ≡ entries_by n (known before).seen ++ Asked n (lines before + 1) change asks.reply ∷ []) same asks.entered))
 
 -- what is taken of a change is what stands behind it
 behind : (old : List Change) (change : Change) (told : Reply) → IsTaken told → old ++ taken change told ≡ changes_after old change told
@@ -65,12 +90,10 @@ module _ (problem : Problem) (settings : Settings) (history : List Entry) (legal
       let here : slice_get history (length h) ≡ Some (Asked feed line other told) = starts_get history _ starts (length h) _ (get_at h _ entries) in
       let front : take (length h) history ≡ h = ap (take (length h)) starts.1 ∙ (ap (take (length h)) (append_assoc h _ starts.0) ∙ take_at h _ (length h) refl) in
       let reply = subst (λ (c : Change). IsReply problem (changes_of h) c told) change_is (subst (λ (l : List Entry). IsReply problem (changes_of l) other told) front (legal (length h) _ here)) in
-      let same = one_reply problem (changes_of h) change told takes.reply reply takes.reply_is in
-      (
+      let same = one_reply problem (changes_of h) change told takes.reply reply takes.reply_is in (
         (feed_is, line_is, change_is, subst IsTaken (sym same) takes.taken),
         taken_lines (h ++ Asked feed line other told ∷ []) (suc number) asked entries
-            (subst (StartsWith history) (sym (append_assoc h (Asked feed line other told ∷ []) entries)) starts)
-            (
+            (subst (StartsWith history) (sym (append_assoc h (Asked feed line other told ∷ []) entries)) starts) (
               changes,
               subst (λ (l : List Change). TakesInTurn problem l asked changes)
                   (sym (ap (λ (c : Change). changes_of (h ++ Asked feed line c told ∷ [])) change_is ∙ changes_behind problem h feed line change told mid takes same)) later,

@@ -1,5 +1,5 @@
 // Searchers of one board.
-ghost use Rattle.std.specs.Prelude.{◌≡◌, IfOk};
+ghost use Rattle.std.specs.Prelude.{IfOk};
 ghost use Rattle.search_crew.specs.Working.{IsAtWork};
 
 use disp_model::{Answer, Problem, Rule, Settings, Unfinished};
@@ -22,6 +22,23 @@ fn board(alloc: Global, problem: &Problem, rule: Rule, budget: u32) -> Result<(B
     Ok((board, pass))
 }
 
+/// The answer of a crew of one for edition 0.
+fn answer_alone<R: Wait>(
+    rt: &R,
+    alloc: Global,
+    board: &Board,
+    pass: &mut Pass,
+    rule: Rule,
+) -> Result<Answer, Fail>
+    requires { IsAtWork board.now rule 0 pass.old }
+{
+    let (crew, mut hands) = crew_of(alloc, 1)?;
+    let Some(mut hand) = hands.pop() else {
+        unreachable!()
+    };
+    Ok(search(rt, alloc, board, pass, &crew, &mut hand, rule, 0, &OpenGate))
+}
+
 /// A search of edition 0 by one searcher has this answer.
 fn check<R: Wait + Abort>(
     rt: &R,
@@ -32,13 +49,8 @@ fn check<R: Wait + Abort>(
     wanted: Answer,
 ) -> Result<(), Fail> {
     let (board, mut pass) = board(alloc, problem, rule, budget)?;
-    let (crew, mut hands) = crew_of(alloc, 1)?;
-    for hand in hands.as_mut_slice() {
-        let found = search(
-            rt, alloc, &board, &mut pass, &crew, hand, rule, 0, &OpenGate,
-        );
-        assert!(rt; found == wanted);
-    }
+    let found = answer_alone(rt, alloc, &board, &mut pass, rule)?;
+    assert!(rt; found == wanted);
     Ok(())
 }
 

@@ -56,5 +56,6 @@ loop-hand-preserved c =
                 c.split-pass.ensures.given.0
                 ∙ (ap (λ (k : Known Entry Terms). given_known k c.loop-hand.caller) inv.knows
                 ∙ (ap (given_known v) inv.next ∙ ap (λ (n : ℕ). given_known v (256 + n)) (sym many)));
+            none = c.split-pass.ensures.given.2;
           }));
     }

@@ -12,6 +12,7 @@ invariant-loop-reader g l = record {
   is_first : (known l.first).first ≡ true;
   joins : Joins l.fn.first (map (λ r. r.pass) l.yielded) l.first;
   knows : (name : List ℕ) → g.S.Shelf.knows l.shelf name ↔ g.S.Shelf.knows l.fn.shelf name;
+  counts : CountsFeeds g.S.Feed.Feed.name g.S.Feed.Feed.faults (map (λ r. r.feed) l.yielded) (g.S.Shelf.reading_faults l.fn.shelf) (g.S.Shelf.reading_faults l.shelf);
   puttings : (name : List ℕ) → g.S.Shelf.putting_faults l.shelf name ≡ g.S.Shelf.putting_faults l.fn.shelf name;
   held : (name : List ℕ) → g.S.Shelf.holds l.shelf name ≡ g.S.Shelf.holds l.fn.shelf name;
 }

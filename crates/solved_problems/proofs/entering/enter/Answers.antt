@@ -1,31 +1,25 @@
-use Rattle.std.proofs.Common.{◌∙◌, ◌+◌, drop, subst}
-use Rattle.std.proofs.lemmas.Option.{slice_get-get_or}
-use Rattle.solved_problems.specs.Solved.{MayBeAsked}
-use Rattle.solved_problems.proofs.Lines.{first_taken, rest_taken, lines_behind, next_left}
+use Rattle.std.proofs.Common.{◌≡◌, ◌∙◌, ℕ, List, length, drop, rules, sym, ap, subst}
+use Rattle.disp_model.specs.declared.entry.Entry.{Entry}
+use Rattle.shared_board.specs.Board.{known, fetched}
+use Rattle.shared_board.specs.Callers.{is_line_of}
+use Rattle.shared_board.specs.Onward.{entries_by}
+use Rattle.shared_board.proofs.Onward.{looked_entries}
+use Rattle.solved_problems.specs.Solved.{AreLinesFor}
+use Rattle.solved_problems.proofs.Asking.{all_pass}
+use Rattle.solved_problems.proofs.Lines.{as_many}
 use Rattle.solved_problems.proofs.entering.enter.Goals as goal
 
-pub enter_line-requires : goal.enter_line-requires
-enter_line-requires c =
-    let asked = c.args.asked.now in
-    let place = c.loop-place.place in
-    let here = slice_get-get_or asked place _ c.loop-place-test.true in
-    first_taken c.loop-place.core.problem c.loop-place.core.history _ (drop (place + 1) asked)
-    (subst (MayBeAsked c.loop-place.core.problem c.loop-place.core.history)
-    (next_left asked place _ here) c.loop-place.invariant.may)
-
-pub loop-place-preserved : goal.loop-place-preserved
-loop-place-preserved c =
-    let before = c.loop-place.core in
-    let after = c.enter_line.new.core in
-    let asked = c.args.asked.now in
-    let place = c.loop-place.place in
-    let here = slice_get-get_or asked place _ c.loop-place-test.true in
-    let enters = c.in_ok-enter_line.ensures in
-    record {
-      problem = enters.problem ∙ c.loop-place.invariant.problem;
-      settings = enters.settings ∙ c.loop-place.invariant.settings;
-      asks = lines_behind before after asked place _ here c.loop-place.invariant.asks enters;
-      may = rest_taken before after (place + 1) _ (drop (place + 1) asked)
-          (subst (MayBeAsked before.problem before.history) (next_left asked place _ here)
-          c.loop-place.invariant.may) enters;
-    }
+pub returns-then-len-asked-clause-asks : goal.returns-then-len-asked-clause-asks
+returns-then-len-asked-clause-asks g c =
+    let caller = (known c.args.first.now).caller in let mid = c.enter_lines.new.pass in let seen = (known c.news.new.pass).seen in
+    let on = c.in_ok-enter_lines.ensures.on in let asked = c.args.asked.now in
+    let none : fetched mid ≡ 0 = on.fetched_is ∙ c.requires.none.1 in
+    let all : c.in_ok-news.news.entries ≡ seen = c.in_ok-news.ensures.entries.0 ∙ ap (λ (n : ℕ). drop n seen) none in
+    let read : length c.in_ok-news.news.entries ≡ length asked = search rules in
+    let looked = c.in_ok-news.ensures.ended in
+    let stay : entries_by caller seen ≡ entries_by caller (known mid).seen =
+    subst (λ (n : ℕ). entries_by n seen ≡ entries_by n (known mid).seen) on.role.caller (looked_entries (known mid) (known c.news.new.pass) (looked.0, looked.1)) in
+    let lines = c.in_ok-enter_lines.ensures.asks in
+    let many : length (entries_by caller seen) ≡ length seen =
+    ap (λ (l : List Entry). length l) stay ∙ (as_many caller 1 asked _ lines ∙ (sym read ∙ ap (λ (l : List Entry). length l) all)) in
+    subst (AreLinesFor caller 1 asked) (all_pass (is_line_of caller) seen many) (subst (AreLinesFor caller 1 asked) (sym stay) lines)

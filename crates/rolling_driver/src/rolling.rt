@@ -1,18 +1,15 @@
-ghost use Rattle.std.specs.Prelude.{◌≡◌, ◌≤◌, ◌<◌, false, All, IfOk, length, option_map};
+ghost use Rattle.std.specs.Prelude.{◌≡◌, ◌≤◌, All, IfOk, length, option_map};
 ghost use Rattle.disp_model.specs.declared.limits.TheConstants.{MOST_CALLERS};
 ghost use Rattle.text_puts.specs.Outside.{outside};
-ghost use Rattle.rolling_driver.specs.Rolled.{IsRolled, AreNew, fed};
+ghost use Rattle.rolling_driver.specs.Opened.{AreNew};
+ghost use Rattle.rolling_driver.specs.Rolled.{IsRolled, fed};
 
-use crate::printing::print_news;
+use crate::ending::end_run;
+use crate::opening::{Run, open_run};
 use crate::running::run_all;
 use crate::status::{ended_of, status_of};
-use crew_runs::{join_searchers, seats_of};
 use disp_model::{Entry, Memory, Problem, Settings, Text};
 use disp_outside::{Gate, Shelf, Sink};
-use feed_runs::{join_readers, readers_of};
-use joined_passes::close_run;
-use search_crew::crew_of;
-use shared_board::Board;
 use std::alloc::Global;
 use std::sync::Wait;
 use std::thread::Threads;
@@ -56,11 +53,13 @@ pub fn roll<R: Threads + Wait + Sync, S: Shelf, O: Sink, G: Gate>(
         (outside (S.holds shelf.new) (S.reading_faults shelf.new) (S.putting_faults shelf.new)
         (O.faults out.new) (O.written out.new)) rolled.journal.items rolled.status) }
 {
-    let count = feeds.len() as u32;
-    let (board, mut first) = Board::new(alloc, problem, settings, count, workers)?;
-    let (crew, hands) = crew_of(alloc, workers)?;
-    let mut readers = readers_of(alloc, &board, &mut first, feeds)?;
-    let mut searchers = seats_of(alloc, &board, &mut first, hands)?;
+    let Run {
+        board,
+        mut first,
+        crew,
+        mut readers,
+        mut searchers,
+    } = open_run(alloc, problem, settings, workers, feeds)?;
     let printed = run_all(
         rt,
         alloc,
@@ -76,13 +75,9 @@ pub fn roll<R: Threads + Wait + Sync, S: Shelf, O: Sink, G: Gate>(
         trees,
     );
     let ended = ended_of(readers.as_slice());
-    join_readers(&board, &mut first, shelf, readers);
-    join_searchers(&board, &mut first, searchers);
-    let printed = match printed {
-        Ok(()) => print_news(rt, alloc, &board, &mut first, shelf, out, trees),
-        Err(no) => Err(no),
-    };
-    let mut core = close_run(rt, alloc, board, first).core;
+    let (mut core, printed) = end_run(
+        rt, alloc, board, first, readers, searchers, printed, shelf, out, trees,
+    );
     let mark = core.standing().mark;
     Ok(Rolled {
         status: status_of(mark, ended, printed),

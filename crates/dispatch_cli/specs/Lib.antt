@@ -1,0 +1,3 @@
+pub mod Stops
+pub mod Feeds
+pub mod Rolls

@@ -1,0 +1,76 @@
+-- How a roll ends.
+use Rattle.std.specs.Prelude.{◌≡◌, ◌⊎◌, ℕ, ◌<◌, List, [], Contains, length}
+use Rattle.disp_model.specs.declared.entry.Entry.{Entry}
+use Rattle.disp_model.specs.declared.limits.TheConstants.{MOST_CALLERS}
+use Rattle.disp_model.specs.declared.problem.Problem.{Problem}
+use Rattle.command_words.specs.declared.task.RollTask.{RollTask}
+use Rattle.command_words.specs.declared.task.Task.TheVariants.{Roll}
+use Rattle.command_words.specs.Settings.{roll_settings_of}
+use Rattle.command_words.specs.Task.{IsTask}
+use Rattle.text_puts.specs.Outside.{Outside, Holdings, Counts}
+use Rattle.answered_tasks.specs.Causes.{StopsProblem}
+use Rattle.answered_tasks.specs.Endings.{Ends}
+use Rattle.answered_tasks.specs.Files.{IsProblemFile}
+use Rattle.answered_tasks.specs.Outside.{ReadsNames}
+use Rattle.rolling_driver.specs.Rolled.{Fed, IsRolled}
+use Rattle.dispatch_cli.specs.declared.roll_no.RollNo.{RollNo}
+use Rattle.dispatch_cli.specs.declared.roll_no.RollNo.TheVariants as no
+use Rattle.dispatch_cli.specs.Feeds.{AreFed, IsUnopened}
+use Rattle.dispatch_cli.specs.Stops.{StopsWith, IsFault}
+
+-- the name is that of the problem or of a feed
+abbrev pub IsInput : RollTask → List ℕ → Type 0
+IsInput task name = (name ≡ task.problem) ⊎ Contains task.feeds name
+
+-- there is a problem, and the feed of this number was not opened
+pub record IsWithoutFeed (task : RollTask) (holds : Holdings) (old new : Counts) (number : ℕ) : Type 0 where
+  pub problem : Problem
+  pub file : IsProblemFile holds task.problem problem
+  pub unopened : IsUnopened task.feeds old new number
+
+-- this has happened, so that the roll did not begin
+abbrev pub StopsRoll : RollTask → Holdings → Counts → Counts → RollNo → Type 0
+StopsRoll task holds old new (no.TooManyFeeds count) = (count ≡ length task.feeds) × ((MOST_CALLERS < count) × ((name : List ℕ) → new name ≡ old name))
+StopsRoll task holds old new (no.Problem why) = StopsProblem holds old new task.problem why
+StopsRoll task holds old new (no.FeedFailed number) = IsWithoutFeed task holds old new number
+StopsRoll task holds old new no.Memory = (name : List ℕ) → new name ≡ old name
+
+-- it did not begin: its cause is told, the journal is empty, nothing is put, and every name holds what it held
+pub record EndsStopped (task : RollTask) (old new : Outside) (status : ℕ) (journal : List Entry) : Type 0 where
+  pub no : RollNo
+  pub stops : StopsRoll task old.holds old.reading new.reading no
+  pub journal_is : journal ≡ []
+  pub told : StopsWith old.faults new.faults old.written new.written no status
+  pub reads : ReadsNames (IsInput task) old.reading new.reading old.putting new.putting old.holds new.holds (IsFault no)
+
+-- two moments with the same names, counts and output
+pub record IsAsBefore (old new : Outside) : Type 0 where
+  pub holds : (name : List ℕ) → new.holds name ≡ old.holds name
+  pub reading : (name : List ℕ) → new.reading name ≡ old.reading name
+  pub putting : (name : List ℕ) → new.putting name ≡ old.putting name
+  pub faults : new.faults ≡ old.faults
+  pub written : new.written ≡ old.written
+
+-- the problem was read and the feeds were opened, which left all as before, and then they ran
+pub record EndsRun (task : RollTask) (old new : Outside) (status : ℕ) (journal : List Entry) : Type 0 where
+  pub problem : Problem
+  pub file : IsProblemFile old.holds task.problem problem
+  pub feeds : List Fed
+  pub fed : AreFed old.holds task.feeds feeds
+  pub start : Outside
+  pub begins : IsAsBefore old start
+  pub ran : IsRolled problem (roll_settings_of task) task.trees feeds start new journal status
+
+-- how a roll ends
+abbrev pub EndsRoll : RollTask → Outside → Outside → ℕ → List Entry → Type 0
+EndsRoll task old new status journal = EndsStopped task old new status journal ⊎ EndsRun task old new status journal
+
+-- the words ask for a roll, and it ends so
+pub record RollsAs (words : List (List ℕ)) (old new : Outside) (status : ℕ) (journal : List Entry) : Type 0 where
+  pub task : RollTask
+  pub is_task : IsTask words (Roll task)
+  pub ends : EndsRoll task old new status journal
+
+-- how the program ends
+abbrev pub EndsAs : List (List ℕ) → Outside → Outside → ℕ → List Entry → Type 0
+EndsAs words old new status journal = Ends words old new status journal ⊎ RollsAs words old new status journal

@@ -1,0 +1,47 @@
+-- What stops a roll before it has begun, and what is printed for it.
+use Rattle.std.specs.Prelude.{◌≡◌, ◌≢◌, ◌⊎◌, ℕ, ◌≤◌, List, [], ◌++◌, codes, Option}
+use Rattle.std.specs.Fmt.{decimal}
+use Rattle.disp_outside.specs.Sink.{WritesPart}
+use Rattle.text_puts.specs.Outside.{Writes}
+use Rattle.answered_tasks.specs.declared.cause.Cause.TheVariants as cause
+use Rattle.answered_tasks.specs.Causes.{IsReadingFault, line_of as cause_line, due_line as cause_due, status_of as cause_status}
+use Rattle.answered_tasks.specs.Endings.{WritesThenGivesUp}
+use Rattle.answered_tasks.specs.Texts.{line}
+use Rattle.dispatch_cli.specs.declared.roll_no.RollNo.{RollNo}
+use Rattle.dispatch_cli.specs.declared.roll_no.RollNo.TheVariants.{TooManyFeeds, Problem, FeedFailed, Memory}
+
+-- the line that is printed for it
+abbrev pub line_of : RollNo → List ℕ
+line_of (TooManyFeeds count) = line (codes "TooMany feeds " ++ decimal count)
+line_of (Problem why) = cause_line why
+line_of (FeedFailed number) = line (codes "feed " ++ decimal number ++ codes ": Failed")
+line_of Memory = cause_line cause.Memory
+
+-- what is due before the line for want of memory: nothing where that is what stopped it
+abbrev pub due_line : RollNo → List ℕ
+due_line (TooManyFeeds count) = line_of (TooManyFeeds count)
+due_line (Problem why) = cause_due why
+due_line (FeedFailed number) = line_of (FeedFailed number)
+due_line Memory = []
+
+-- the status for it
+abbrev pub status_of : RollNo → ℕ
+status_of (TooManyFeeds count) = 2
+status_of (Problem why) = cause_status why
+status_of (FeedFailed number) = 4
+status_of Memory = 5
+
+-- a reading of a name failed
+abbrev pub IsFault : RollNo → Type 0
+IsFault (TooManyFeeds count) = ⊥
+IsFault (Problem why) = IsReadingFault why
+IsFault (FeedFailed number) = Unit {0}
+IsFault Memory = ⊥
+
+-- how the writing of its line ends
+pub record StopsWith (old_faults new_faults : ℕ) (old new : Option (List ℕ)) (no : RollNo) (status : ℕ) : Type 0 where
+  pub counted : old_faults ≤ new_faults
+  pub statuses : (status ≡ status_of no) ⊎ (status ≡ 5)
+  pub part : status ≢ 5 → WritesPart old new (line_of no)
+  pub whole : status ≢ 5 → new_faults ≡ old_faults → Writes old new (line_of no)
+  pub memory : status ≡ 5 → WritesThenGivesUp old new (due_line no)

@@ -1,0 +1,52 @@
+ghost use Rattle.std.specs.Prelude.{◌≡◌, true, All, ℕ, List, OnOk, option_map, length};
+ghost use Rattle.text_puts.specs.Outside.{outside};
+ghost use Rattle.shared_board.specs.Board.{board_of, own_board, known, fetched};
+ghost use Rattle.rolling_driver.specs.Ended.{MayEnd, IsEnded};
+ghost use Rattle.rolling_driver.specs.Printed.{PrintsJournal};
+
+use crate::printing::print_news;
+use crew_runs::{Searcher, join_searchers};
+use disp_model::Text;
+use disp_outside::{Shelf, Sink};
+use dispatch_core::Core;
+use feed_runs::{Reader, join_readers};
+use journal_printer::PrintNo;
+use joined_passes::close_run;
+use shared_board::{Board, Pass};
+use std::alloc::Global;
+use std::sync::Wait;
+
+/// Joins the passes of a run, prints what is not printed yet, where all before it was, and closes the
+/// board and the feeds.
+pub(crate) fn end_run<W: Wait, S: Shelf, O: Sink>(
+    rt: &W,
+    alloc: Global,
+    board: Board,
+    first: Pass,
+    readers: Vec<Reader<S::Feed>>,
+    searchers: Vec<Searcher>,
+    printed: Result<(), PrintNo>,
+    shelf: &mut S,
+    out: &mut O,
+    trees: Option<&Text>,
+) -> (Core, Result<(), PrintNo>)
+    requires may { MayEnd board first readers.items searchers.items }
+    requires fetched { OnOk printed (fetched first ≡ length (known first).seen) }
+    requires known { All (λ r. S.knows shelf.old (S.Feed.name r.feed)) readers.items }
+    ensures ended { IsEnded S.Feed.name S.Feed.faults (option_map (λ prefix. prefix.now) trees) first
+        readers.items searchers.items printed
+        (outside (S.holds shelf.old) (S.reading_faults shelf.old) (S.putting_faults shelf.old)
+        (O.faults out.old) (O.written out.old))
+        (outside (S.holds shelf.new) (S.reading_faults shelf.new) (S.putting_faults shelf.new)
+        (O.faults out.new) (O.written out.new)) result.0 result.1 }
+{
+    let mut first = first;
+    join_readers(&board, &mut first, shelf, readers);
+    join_searchers(&board, &mut first, searchers);
+    let printed = match printed {
+        Ok(()) => print_news(rt, alloc, &board, &mut first, shelf, out, trees),
+        Err(no) => Err(no),
+    };
+    let closed = close_run(rt, alloc, board, first);
+    (closed.core, printed)
+}
