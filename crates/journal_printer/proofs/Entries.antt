@@ -141,7 +141,8 @@ one_unput trees entry old new put.Memory failed memory risen others reading writ
         comes = record { rest = []; parts = refl };
         written = written ∙ writes_nothing old.written;
         faults = faults;
-        puts = inl (stands_same [] old.holds old.holds new.holds (memory refl) (stands_none old.holds));
+        puts = inl (stands_same [] old.holds old.holds new.holds (memory refl)
+            (stands_none old.holds));
         putting = λ name. stays (old.putting name) (new.putting name) (others name).never_falls
             (λ rises. unlike (risen name rises));
       };

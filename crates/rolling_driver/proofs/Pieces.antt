@@ -1,5 +1,22 @@
 -- A journal that is printed piece by piece.
-use Rattle.std.proofs.Common.{◌≡◌, ◌∙◌, ℕ, inl, inr, List, [], ◌++◌, Option, Result, Ok, Err, refl, sym, ap, arith, append_assoc}
+use Rattle.std.proofs.Common.{
+  ◌∙◌,
+  ℕ,
+  inl,
+  inr,
+  List,
+  [],
+  ◌++◌,
+  Option,
+  Result,
+  Ok,
+  Err,
+  refl,
+  sym,
+  ap,
+  arith,
+  append_assoc,
+}
 use Rattle.disp_model.specs.declared.entry.Entry.{Entry}
 use Rattle.text_puts.specs.Outside.{Outside}
 use Rattle.text_puts.proofs.Puttings.{only_all, stands_none}
@@ -7,12 +24,15 @@ use Rattle.journal_printer.specs.declared.no.PrintNo.{PrintNo}
 use Rattle.journal_printer.specs.declared.no.PrintNo.TheVariants.{Memory}
 use Rattle.journal_printer.specs.Printing.{Prints}
 use Rattle.journal_printer.proofs.Printed.{all_none, printed_more, printed_first}
-use Rattle.rolling_driver.specs.Printed.{PrintsFront, PrintsJournal}
+use Rattle.rolling_driver.specs.Printed.{PrintsJournal}
 
 -- more behind entries that were all printed
-pub journal_more : (trees : Option (List ℕ)) (xs ys : List Entry) (old mid new : Outside) (told : Result (Unit {0}) PrintNo)
-    → Prints trees xs old mid (Ok tt) → PrintsJournal trees ys mid new told → PrintsJournal trees (xs ++ ys) old new told
-journal_more trees xs ys old mid new told first (inl more) = inl (printed_more trees xs ys old mid new told first.all more)
+pub journal_more : (trees : Option (List ℕ)) (xs ys : List Entry) (old mid new : Outside)
+    (told : Result (Unit {0}) PrintNo)
+    → Prints trees xs old mid (Ok tt) → PrintsJournal trees ys mid new told
+    → PrintsJournal trees (xs ++ ys) old new told
+journal_more trees xs ys old mid new told first (inl more) =
+    inl (printed_more trees xs ys old mid new told first.all more)
 journal_more trees xs ys old mid new told first (inr out) = inr (record {
   front = xs ++ out.front;
   rest = out.rest;
@@ -22,9 +42,11 @@ journal_more trees xs ys old mid new told first (inr out) = inr (record {
 })
 
 -- where the printing stopped, it stopped for a longer journal
-pub journal_first : (trees : Option (List ℕ)) (xs ys : List Entry) (old new : Outside) (why : PrintNo)
+pub journal_first : (trees : Option (List ℕ)) (xs ys : List Entry) (old new : Outside)
+    (why : PrintNo)
     → PrintsJournal trees xs old new (Err why) → PrintsJournal trees (xs ++ ys) old new (Err why)
-journal_first trees xs ys old new why (inl stopped) = inl (printed_first trees xs ys old new why stopped)
+journal_first trees xs ys old new why (inl stopped) =
+    inl (printed_first trees xs ys old new why stopped)
 journal_first trees xs ys old new why (inr out) = inr (record {
   front = out.front;
   rest = out.rest ++ ys;
@@ -42,14 +64,23 @@ prints_none trees old = record {
   unwritten = λ rises. absurd (omega (arith, rises));
   counted = omega arith;
   reading = λ name. refl;
-  others = only_all [] old.holds old.holds old.putting old.putting (stands_none old.holds) (λ name. refl);
+  others = only_all [] old.holds old.holds old.putting old.putting (stands_none old.holds)
+      (λ name. refl);
 }
 
 -- where memory ran out before anything was given to be printed
-pub journal_none : (trees : Option (List ℕ)) (journal : List Entry) (old : Outside) → PrintsJournal trees journal old old (Err Memory)
-journal_none trees journal old = inr (record { front = []; rest = journal; parts = refl; printed = prints_none trees old; told_is = refl })
+pub journal_none : (trees : Option (List ℕ)) (journal : List Entry) (old : Outside)
+    → PrintsJournal trees journal old old (Err Memory)
+journal_none trees journal old = inr (record {
+  front = [];
+  rest = journal;
+  parts = refl;
+  printed = prints_none trees old;
+  told_is = refl;
+})
 
 -- where all is told to be printed, it is
-pub journal_all : (trees : Option (List ℕ)) (journal : List Entry) (old new : Outside) → PrintsJournal trees journal old new (Ok tt) → Prints trees journal old new (Ok tt)
+pub journal_all : (trees : Option (List ℕ)) (journal : List Entry) (old new : Outside)
+    → PrintsJournal trees journal old new (Ok tt) → Prints trees journal old new (Ok tt)
 journal_all trees journal old new (inl prints) = prints
 journal_all trees journal old new (inr out) = absurd (let e = out.told_is in cc)

@@ -1,5 +1,25 @@
 -- How readings ended, feed by feed.
-use Rattle.std.proofs.Common.{◌≡◌, ◌∙◌, ◌↔◌, ℕ, zero, suc, ◌<◌, List, [], ◌∷◌, Any, Contains, length, map, slice_index_or, refl, sym, ap, subst, arith}
+use Rattle.std.proofs.Common.{
+  ◌≡◌,
+  ◌∙◌,
+  ◌↔◌,
+  ℕ,
+  zero,
+  suc,
+  ◌<◌,
+  List,
+  [],
+  ◌∷◌,
+  Any,
+  Contains,
+  length,
+  map,
+  slice_index_or,
+  refl,
+  ap,
+  subst,
+  arith,
+}
 use Rattle.std.proofs.lemmas.List.{length-map}
 use Rattle.feed_reader.specs.declared.read.Reading.{Reading as ReadingOf}
 use Rattle.feed_runs.specs.declared.reader.Reader.{Reader}
@@ -8,16 +28,20 @@ module _ {F : Type 0} where
   abbrev ends : List (Reader F) → List ReadingOf
   ends readers = map (λ r. r.reading) readers
 
-  reading_at : (readers : List (Reader F)) (k : ℕ) (d : Reader F) → slice_index_or (ends readers) k d.reading ≡ (slice_index_or readers k d).reading
+  reading_at : (readers : List (Reader F)) (k : ℕ) (d : Reader F)
+      → slice_index_or (ends readers) k d.reading ≡ (slice_index_or readers k d).reading
   reading_at [] k d = refl
   reading_at (first ∷ rest) zero d = refl
   reading_at (first ∷ rest) (suc k) d = reading_at rest k d
 
-  reader_at : (readers : List (Reader F)) (k : ℕ) (one : ReadingOf) → k < length (ends readers) → slice_index_or (ends readers) k one ≡ one
+  reader_at : (readers : List (Reader F)) (k : ℕ) (one : ReadingOf) → k < length (ends readers)
+      → slice_index_or (ends readers) k one ≡ one
       → Any (λ r. r.reading ≡ one) readers
   reader_at [] k one within is = absurd (omega (arith, within))
   reader_at (first ∷ rest) zero one within is = (0, first, omega arith, refl, is)
-  reader_at (first ∷ rest) (suc k) one within is = let a = reader_at rest k one (omega (arith, within)) is in (suc a.0, a.1, omega (arith, a.2), a.3, a.4)
+  reader_at (first ∷ rest) (suc k) one within is =
+      let a = reader_at rest k one (omega (arith, within)) is in
+      (suc a.0, a.1, omega (arith, a.2), a.3, a.4)
 
   -- some reader's reading ended so, exactly where this is one of the ends
   pub any_reading : (readers : List (Reader F)) (one : ReadingOf)

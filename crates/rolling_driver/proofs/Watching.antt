@@ -1,5 +1,20 @@
 -- A pass that looks, again and again.
-use Rattle.std.proofs.Common.{◌≡◌, ◌∙◌, ℕ, ◌≤◌, List, [], ◌∷◌, ◌++◌, length, drop, refl, sym, ap, subst, arith}
+use Rattle.std.proofs.Common.{
+  ◌≡◌,
+  ◌∙◌,
+  ℕ,
+  ◌≤◌,
+  List,
+  [],
+  ◌∷◌,
+  ◌++◌,
+  length,
+  drop,
+  refl,
+  sym,
+  ap,
+  subst,
+}
 use Rattle.std.proofs.lemmas.List.{append_assoc, drop-append-le}
 use Rattle.disp_model.specs.declared.entry.Entry.{Entry}
 use Rattle.turn_lock.specs.Known.{Known, StartsWith}
@@ -21,7 +36,8 @@ watches_refl pass = record {
   owns = λ own. own;
 }
 
-pub watches_watches : (one two three : Pass) → Watches one two → Watches two three → Watches one three
+pub watches_watches : (one two three : Pass) → Watches one two → Watches two three
+    → Watches one three
 watches_watches one two three first second = record {
   board_is = second.board_is ∙ first.board_is;
   lines_are = second.lines_are ∙ first.lines_are;
@@ -34,27 +50,33 @@ watches_watches one two three first second = record {
   };
   starts = (
     first.starts.0 ++ second.starts.0,
-    second.starts.1 ∙ ap (λ (l : List Entry). l ++ second.starts.0) first.starts.1 ∙ append_assoc (known one).seen first.starts.0 second.starts.0,
+    second.starts.1 ∙ ap (λ (l : List Entry). l ++ second.starts.0) first.starts.1
+        ∙ append_assoc (known one).seen first.starts.0 second.starts.0,
   );
   mine_is = second.mine_is ∙ first.mine_is;
   owns = λ own. second.owns (first.owns own);
 }
 
 -- one look
-pub looked_watches : (before after : Pass) → own_board after ≡ own_board before → lines after ≡ lines before → Looked (known before) (known after) → Watches before after
+pub looked_watches : (before after : Pass) → own_board after ≡ own_board before
+    → lines after ≡ lines before → Looked (known before) (known after) → Watches before after
 looked_watches before after same counted (core, looks) = record {
   board_is = same;
   lines_are = counted;
   role = role_looked (known before) core (known after) looks;
-  starts = subst (λ (l : List Entry). StartsWith l (known before).seen) (sym (ap (λ (k : Known Entry Terms). k.seen) looks.knows)) looks.found.begins.starts;
+  starts = subst (λ (l : List Entry). StartsWith l (known before).seen)
+      (sym (ap (λ (k : Known Entry Terms). k.seen) looks.knows)) looks.found.begins.starts;
   mine_is = ap (λ (k : Known Entry Terms). k.mine) looks.knows;
   owns = λ own. looks.owns;
 }
 
 -- what is behind some of those seen, and then what comes
-pub seen_behind : (fetched : ℕ) (seen more : List Entry) → fetched ≤ length seen → StartsWith more seen → drop fetched more ≡ drop fetched seen ++ drop (length seen) more
+pub seen_behind : (fetched : ℕ) (seen more : List Entry) → fetched ≤ length seen
+    → StartsWith more seen → drop fetched more ≡ drop fetched seen ++ drop (length seen) more
 seen_behind fetched seen more within (rest, is) =
-    ap (drop fetched) is ∙ drop-append-le fetched seen rest within ∙ ap (λ (l : List Entry). drop fetched seen ++ l) (sym (ap (drop (length seen)) is ∙ whole seen rest))
+    ap (drop fetched) is ∙ drop-append-le fetched seen rest within
+    ∙ ap (λ (l : List Entry). drop fetched seen ++ l)
+    (sym (ap (drop (length seen)) is ∙ whole seen rest))
   where
     whole : (xs ys : List Entry) → drop (length xs) (xs ++ ys) ≡ ys
     whole [] [] = refl

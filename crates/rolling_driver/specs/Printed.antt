@@ -13,16 +13,20 @@ use Rattle.shared_board.specs.Callers.{caller_of}
 use Rattle.shared_board.specs.Standing.{SameRole}
 
 -- the first of the entries were printed, and memory ran out behind them
-pub record PrintsFront (trees : Option (List ℕ)) (journal : List Entry) (old new : Outside) (told : Result (Unit {0}) PrintNo) : Type 0 where
+pub record PrintsFront (trees : Option (List ℕ)) (journal : List Entry) (old new : Outside)
+    (told : Result (Unit {0}) PrintNo) : Type 0 where
   pub front : List Entry
   pub rest : List Entry
   pub parts : journal ≡ front ++ rest
   pub printed : Prints trees front old new (Ok tt)
   pub told_is : told ≡ Err Memory
 
--- how the printing of the journal ends: as the printer's does, or for want of memory before it was given more
-abbrev pub PrintsJournal : Option (List ℕ) → List Entry → Outside → Outside → Result (Unit {0}) PrintNo → Type 0
-PrintsJournal trees journal old new told = Prints trees journal old new told ⊎ PrintsFront trees journal old new told
+-- how the printing of the journal ends: as the printer's does, or for want of memory before it was
+-- given more
+abbrev pub PrintsJournal : Option (List ℕ) → List Entry → Outside → Outside
+    → Result (Unit {0}) PrintNo → Type 0
+PrintsJournal trees journal old new told = Prints trees journal old new told
+    ⊎ PrintsFront trees journal old new told
 
 -- the pass has looked, and done nothing else
 pub record Watches (before after : Pass) : Type 0 where

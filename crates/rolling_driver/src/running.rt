@@ -1,4 +1,4 @@
-ghost use Rattle.std.specs.Prelude.{◌≡◌, All, OnOk, option_map, drop, length};
+ghost use Rattle.std.specs.Prelude.{◌≡◌, ℕ, List, All, OnOk, option_map, drop, length};
 ghost use Rattle.std.specs.Thread.{IsSync};
 ghost use Rattle.text_puts.specs.Outside.{outside};
 ghost use Rattle.shared_board.specs.Board.{board_of, own_board, known, fetched};
@@ -67,16 +67,37 @@ pub(crate) fn run_all<R: Threads + Wait + Sync, S: Shelf, O: Sink, G: Gate>(
     ensures readers { HaveRead S.Feed.lines S.Feed.faults S.Feed.name readers.old readers.new }
     ensures searchers { HaveRun searchers.old searchers.new }
     ensures watches { Watches first.old first.new }
-    ensures printed { PrintsJournal (option_map (λ prefix. prefix.now) trees)
+    ensures printed { PrintsJournal (option_map (λ prefix. prefix.now) trees.entry)
         (drop (fetched first.old) (known first.new).seen)
         (outside (S.holds shelf.old) (S.reading_faults shelf.old) (S.putting_faults shelf.old)
         (O.faults out.old) (O.written out.old))
         (outside (S.holds shelf.new) (S.reading_faults shelf.new) (S.putting_faults shelf.new)
         (O.faults out.new) (O.written out.new)) result }
     ensures fetched { OnOk result (fetched first.new ≡ length (known first.new).seen) }
+    ensures known { (name : List ℕ) → S.knows shelf.old name → S.knows shelf.new name }
 {
-    let mut print = || print_news(rt, alloc, board, first, shelf, out, trees);
-    let mut work = || run_both(rt, alloc, board, crew, rule, gate, readers, searchers);
+    let mut print = || -> Result<(), PrintNo>
+        requires { own_board first.now ≡ board_of board.now }
+        ensures watches { Watches first.entry.now first.exit.now }
+        ensures printed { PrintsJournal (option_map (λ prefix. prefix.now) trees.entry)
+            (drop (fetched first.entry.now) (known first.exit.now).seen)
+            (outside (S.holds shelf.entry.now) (S.reading_faults shelf.entry.now)
+            (S.putting_faults shelf.entry.now) (O.faults out.entry.now) (O.written out.entry.now))
+            (outside (S.holds shelf.exit.now) (S.reading_faults shelf.exit.now)
+            (S.putting_faults shelf.exit.now) (O.faults out.exit.now) (O.written out.exit.now))
+            result }
+        ensures fetched { OnOk result
+            (fetched first.exit.now ≡ length (known first.exit.now).seen) }
+        ensures known { (name : List ℕ) → S.knows shelf.entry.now name
+            → S.knows shelf.exit.now name }
+    { print_news(rt, alloc, board, first, shelf, out, trees) };
+    let mut work = ||
+        requires { IsSync R.row × AreReady S.Feed.has_ended board.now readers.now
+            × All (IsSeated board.now crew.now rule) searchers.now }
+        ensures readers { HaveRead S.Feed.lines S.Feed.faults S.Feed.name readers.entry.now
+            readers.exit.now }
+        ensures searchers { HaveRun searchers.entry.now searchers.exit.now }
+    { run_both(rt, alloc, board, crew, rule, gate, readers, searchers) };
     let (printed, ()) = join_mut(rt, &mut print, &mut work);
     printed
 }

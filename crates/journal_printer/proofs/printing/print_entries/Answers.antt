@@ -20,7 +20,8 @@ returns-in_err-print_entry-clause-printed g c =
     (g.S.Shelf.reading_faults c.print_entry.new.shelf)
     (g.S.Shelf.putting_faults c.print_entry.new.shelf) (g.O.Sink.faults c.print_entry.new.out)
     (g.O.Sink.written c.print_entry.new.out))
-    c.in_err-print_entry.field-0.0 c.loop-entry-test.true c.entry-item.is c.loop-entry.invariant.printed
+    c.in_err-print_entry.field-0.0 c.loop-entry-test.true c.entry-item.is
+    c.loop-entry.invariant.printed
     c.in_err-print_entry.ensures.printed)
 
 pub loop-entry-preserved : goal.loop-entry-preserved
@@ -37,6 +38,7 @@ loop-entry-preserved g c = record {
       (g.S.Shelf.reading_faults c.print_entry.new.shelf)
       (g.S.Shelf.putting_faults c.print_entry.new.shelf) (g.O.Sink.faults c.print_entry.new.out)
       (g.O.Sink.written c.print_entry.new.out))
-      c.loop-entry-test.true c.entry-item.is c.loop-entry.invariant.printed c.in_ok-print_entry.ensures.printed.all;
+      c.loop-entry-test.true c.entry-item.is c.loop-entry.invariant.printed
+      c.in_ok-print_entry.ensures.printed.all;
   known = λ name known. c.print_entry.ensures.known name (c.loop-entry.invariant.known name known);
 }

@@ -1,4 +1,4 @@
-use Rattle.std.proofs.Common.{Ok, Err, option_map, ◌∙◌, refl}
+use Rattle.std.proofs.Common.{Ok, Err, option_map, ◌∙◌}
 use Rattle.std.proofs.lemmas.Result.{err_from_is_err_and}
 use Rattle.text_puts.specs.Outside.{outside}
 use Rattle.rolling_driver.proofs.Rounds.{journal_on, printed_on}
@@ -8,36 +8,54 @@ pub returns-in_err-print_new-clause-printed : goal.returns-in_err-print_new-clau
 returns-in_err-print_new-clause-printed g c =
     let p = err_from_is_err_and c.from_residual.result c.from_residual.ensures.1 in
     rw (p.1, p.2)
-    (journal_on (option_map (λ prefix. prefix.now) c.args.trees) c.args.pass.now c.loop.pass c.print_new.new.pass
+    (journal_on (option_map (λ prefix. prefix.now) c.args.trees) c.args.pass.now c.loop.pass
+    c.print_new.new.pass
     (outside (g.S.Shelf.holds c.args.shelf.now) (g.S.Shelf.reading_faults c.args.shelf.now)
-    (g.S.Shelf.putting_faults c.args.shelf.now) (g.O.Sink.faults c.args.out.now) (g.O.Sink.written c.args.out.now))
+    (g.S.Shelf.putting_faults c.args.shelf.now) (g.O.Sink.faults c.args.out.now)
+    (g.O.Sink.written c.args.out.now))
     (outside (g.S.Shelf.holds c.loop.shelf) (g.S.Shelf.reading_faults c.loop.shelf)
-    (g.S.Shelf.putting_faults c.loop.shelf) (g.O.Sink.faults c.loop.out) (g.O.Sink.written c.loop.out))
-    (outside (g.S.Shelf.holds c.print_new.new.shelf) (g.S.Shelf.reading_faults c.print_new.new.shelf)
-    (g.S.Shelf.putting_faults c.print_new.new.shelf) (g.O.Sink.faults c.print_new.new.out) (g.O.Sink.written c.print_new.new.out))
-    c.loop.invariant.so_far c.in_err-print_new.ensures.watches (Err c.in_err-print_new.field-0.0) c.in_err-print_new.ensures.printed)
+    (g.S.Shelf.putting_faults c.loop.shelf) (g.O.Sink.faults c.loop.out)
+    (g.O.Sink.written c.loop.out))
+    (outside (g.S.Shelf.holds c.print_new.new.shelf)
+    (g.S.Shelf.reading_faults c.print_new.new.shelf)
+    (g.S.Shelf.putting_faults c.print_new.new.shelf) (g.O.Sink.faults c.print_new.new.out)
+    (g.O.Sink.written c.print_new.new.out))
+    c.loop.invariant.so_far c.in_err-print_new.ensures.watches (Err c.in_err-print_new.field-0.0)
+    c.in_err-print_new.ensures.printed)
 
 pub returns-then-over-clause-printed : goal.returns-then-over-clause-printed
 returns-then-over-clause-printed g c =
-    journal_on (option_map (λ prefix. prefix.now) c.args.trees) c.args.pass.now c.loop.pass c.print_new.new.pass
+    journal_on (option_map (λ prefix. prefix.now) c.args.trees) c.args.pass.now c.loop.pass
+    c.print_new.new.pass
     (outside (g.S.Shelf.holds c.args.shelf.now) (g.S.Shelf.reading_faults c.args.shelf.now)
-    (g.S.Shelf.putting_faults c.args.shelf.now) (g.O.Sink.faults c.args.out.now) (g.O.Sink.written c.args.out.now))
+    (g.S.Shelf.putting_faults c.args.shelf.now) (g.O.Sink.faults c.args.out.now)
+    (g.O.Sink.written c.args.out.now))
     (outside (g.S.Shelf.holds c.loop.shelf) (g.S.Shelf.reading_faults c.loop.shelf)
-    (g.S.Shelf.putting_faults c.loop.shelf) (g.O.Sink.faults c.loop.out) (g.O.Sink.written c.loop.out))
-    (outside (g.S.Shelf.holds c.print_new.new.shelf) (g.S.Shelf.reading_faults c.print_new.new.shelf)
-    (g.S.Shelf.putting_faults c.print_new.new.shelf) (g.O.Sink.faults c.print_new.new.out) (g.O.Sink.written c.print_new.new.out))
-    c.loop.invariant.so_far c.in_ok-print_new.ensures.watches (Ok tt) c.in_ok-print_new.ensures.printed
+    (g.S.Shelf.putting_faults c.loop.shelf) (g.O.Sink.faults c.loop.out)
+    (g.O.Sink.written c.loop.out))
+    (outside (g.S.Shelf.holds c.print_new.new.shelf)
+    (g.S.Shelf.reading_faults c.print_new.new.shelf)
+    (g.S.Shelf.putting_faults c.print_new.new.shelf) (g.O.Sink.faults c.print_new.new.out)
+    (g.O.Sink.written c.print_new.new.out))
+    c.loop.invariant.so_far c.in_ok-print_new.ensures.watches (Ok tt)
+    c.in_ok-print_new.ensures.printed
 
 pub loop-preserved : goal.loop-preserved
 loop-preserved g c = record {
   board = c.in_ok-print_new.ensures.watches.board_is ∙ c.loop.invariant.board;
-  so_far = printed_on (option_map (λ prefix. prefix.now) c.args.trees) c.args.pass.now c.loop.pass c.print_new.new.pass
+  so_far = printed_on (option_map (λ prefix. prefix.now) c.args.trees) c.args.pass.now c.loop.pass
+      c.print_new.new.pass
       (outside (g.S.Shelf.holds c.args.shelf.now) (g.S.Shelf.reading_faults c.args.shelf.now)
-      (g.S.Shelf.putting_faults c.args.shelf.now) (g.O.Sink.faults c.args.out.now) (g.O.Sink.written c.args.out.now))
+      (g.S.Shelf.putting_faults c.args.shelf.now) (g.O.Sink.faults c.args.out.now)
+      (g.O.Sink.written c.args.out.now))
       (outside (g.S.Shelf.holds c.loop.shelf) (g.S.Shelf.reading_faults c.loop.shelf)
-      (g.S.Shelf.putting_faults c.loop.shelf) (g.O.Sink.faults c.loop.out) (g.O.Sink.written c.loop.out))
-      (outside (g.S.Shelf.holds c.print_new.new.shelf) (g.S.Shelf.reading_faults c.print_new.new.shelf)
-      (g.S.Shelf.putting_faults c.print_new.new.shelf) (g.O.Sink.faults c.print_new.new.out) (g.O.Sink.written c.print_new.new.out))
-      c.loop.invariant.so_far c.in_ok-print_new.ensures.watches c.in_ok-print_new.ensures.fetched c.in_ok-print_new.ensures.printed;
+      (g.S.Shelf.putting_faults c.loop.shelf) (g.O.Sink.faults c.loop.out)
+      (g.O.Sink.written c.loop.out))
+      (outside (g.S.Shelf.holds c.print_new.new.shelf)
+      (g.S.Shelf.reading_faults c.print_new.new.shelf)
+      (g.S.Shelf.putting_faults c.print_new.new.shelf) (g.O.Sink.faults c.print_new.new.out)
+      (g.O.Sink.written c.print_new.new.out))
+      c.loop.invariant.so_far c.in_ok-print_new.ensures.watches c.in_ok-print_new.ensures.fetched
+      c.in_ok-print_new.ensures.printed;
   known = λ name known. c.print_new.ensures.known name (c.loop.invariant.known name known);
 }

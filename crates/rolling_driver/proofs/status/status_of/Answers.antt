@@ -28,7 +28,9 @@ returns c readings ended = inr (
   λ wants. differ ((c.if-wants_memory.ensures readings ended).1 wants),
   inr (
     λ there. let e = ended.too_many.1 there in let f = c.if-ended.false in absurd cc,
-    inr (λ failed. differ ((c.if-has_failed.ensures readings ended).1 failed),
-        c.status_of_mark.ensures),
+    inr (
+      λ failed. differ ((c.if-has_failed.ensures readings ended).1 failed),
+      c.status_of_mark.ensures,
+    ),
   ),
 )
