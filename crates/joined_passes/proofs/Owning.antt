@@ -54,11 +54,11 @@ no_line caller (one ∷ entries) (suc place) e none there line =
     no_line caller entries place e (omega (arith, none, sum_by-append (λ e. lines_at caller e) (one ∷ []) entries)) there line
 
 module _ (v : Known Entry Terms) (ws : List (Known Entry Terms)) (history : List Entry) (are : AreAllJoined v ws history) where
-  begins : (w : Known Entry Terms) → Contains ws w → StartsWith history w.seen
+  pub begins : (w : Known Entry Terms) → Contains ws w → StartsWith history w.seen
   begins w one = All-contains (λ u. StartsWith history u.seen) ws w are.starts one
 
   -- an entry that names a caller is one that the caller's pass has seen
-  owner : (place : ℕ) (e : Entry) (caller : ℕ) → slice_get history place ≡ Some e → caller_of e ≡ Some caller
+  pub owner : (place : ℕ) (e : Entry) (caller : ℕ) → slice_get history place ≡ Some e → caller_of e ≡ Some caller
       → (w : Known Entry Terms) × Contains ws w × (w.caller ≡ caller) × (place < length w.seen)
   owner place e caller there names = by_place (place_of v ws place (are.covered place (slice_get_within history place e there)))
     where

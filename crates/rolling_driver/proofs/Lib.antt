@@ -5,3 +5,4 @@ pub mod Rounds
 pub mod Shifting
 pub mod Beginning
 pub mod Joining
+pub mod Whose
