@@ -13,7 +13,7 @@ use Rattle.solution_verifier.specs.First.{IsRight}
 use Rattle.tree_checker.specs.declared.why.Checked.{Checked}
 use Rattle.tree_checker.specs.Checks.{IsChecked}
 use Rattle.command_words.specs.declared.task.Task.TheVariants.{Check}
-use Rattle.answered_tasks.specs.declared.answer.Answer.{Answer}
+use Rattle.answered_tasks.specs.declared.outcome.Answer.{Answer}
 use Rattle.answered_tasks.specs.declared.cause.Cause.{Cause}
 use Rattle.answered_tasks.specs.declared.cause.Cause.TheVariants.{Words, Failed, TooLong, NoProblem, NoSolution, BadLine, NoTree, WrongEdition, NoPlan, Memory}
 use Rattle.answered_tasks.specs.declared.cause.Input.{Input}

@@ -1,8 +1,6 @@
 -- Lines that go out one after another, and some of a line at the end.
-use Rattle.std.proofs.Common.{◌≡◌, ℕ, zero, suc, ◌+◌, ◌<◌, ◌≤◌, List, [], ◌∷◌, ◌++◌, length, get_or, take, Option, Some, None, refl, sym, ap, ◌∙◌, append_assoc, append-nil, arith, length-append}
+use Rattle.std.proofs.Common.{◌≡◌, ℕ, zero, suc, ◌+◌, ◌<◌, List, [], ◌∷◌, ◌++◌, length, get_or, take, Option, refl, sym, ap, ◌∙◌, append_assoc, append-nil, arith}
 use Rattle.std.specs.List.{concat}
-use Rattle.std.specs.Io.KnownBytes.{append_known}
-use Rattle.std.proofs.Math.Seq.{take-append-add, take-length}
 use Rattle.disp_outside.specs.Sink.{WritesPart}
 use Rattle.disp_outside.specs.declared.sink.WriteNo.{WriteNo}
 use Rattle.disp_outside.specs.declared.sink.WriteNo.TheVariants.{Failed, Memory}

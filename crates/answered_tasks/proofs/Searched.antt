@@ -1,6 +1,5 @@
 -- A search of what was asked is the answer.
-use Rattle.std.proofs.Common.{◌≡◌, ◌∙◌, ◌+◌, ◌<◌, ℕ, suc, arith, get_or, length, take, List, [], ◌∷◌, ◌++◌, Option, Some, None, refl, sym, ap, subst}
-use Rattle.std.proofs.Math.Seq.{take-suc}
+use Rattle.std.proofs.Common.{◌≡◌, ◌∙◌, ℕ, List, [], Option, Some, None, refl, sym, ap, subst}
 use Rattle.disp_model.specs.declared.entry.Entry.{Entry}
 use Rattle.disp_model.specs.declared.entry.Mark.{Mark}
 use Rattle.disp_model.specs.declared.entry.Standing.{Standing}
@@ -10,7 +9,7 @@ use Rattle.disp_model.specs.declared.settings.Settings.{Settings}
 use Rattle.disp_model.specs.History.{edition_of, newest, last_plan, IsStanding}
 use Rattle.command_words.specs.declared.task.SolveTask.{SolveTask}
 use Rattle.command_words.specs.Settings.{settings_of}
-use Rattle.answered_tasks.specs.declared.answer.Answer.{Answer}
+use Rattle.answered_tasks.specs.declared.outcome.Answer.{Answer}
 use Rattle.solved_problems.specs.Promised.{Promises}
 use Rattle.solved_problems.specs.Solved.{IsSearched, MayBeAsked}
 use Rattle.solved_problems.proofs.Marks.{marks_say}

@@ -25,10 +25,10 @@ use Rattle.command_words.specs.declared.task.JudgeTask.{JudgeTask}
 use Rattle.command_words.specs.declared.task.MakeTask.{MakeTask}
 use Rattle.command_words.specs.declared.task.SolveTask.{SolveTask}
 use Rattle.command_words.specs.declared.task.Task.{Task}
-use Rattle.command_words.specs.declared.task.Task.TheVariants.{Solve, Verify, Report, Make, Check}
+use Rattle.command_words.specs.declared.task.Task.TheVariants.{Solve, Verify, Report, Make, Check, Roll}
 use Rattle.command_words.specs.Settings.{settings_of}
 use Rattle.command_words.specs.Task.{IsTask}
-use Rattle.answered_tasks.specs.declared.answer.Answer.{Answer}
+use Rattle.answered_tasks.specs.declared.outcome.Answer.{Answer}
 use Rattle.answered_tasks.specs.declared.judge.Telling.{Telling}
 use Rattle.answered_tasks.specs.declared.judge.Telling.TheVariants.{Cost, Table}
 use Rattle.dispatch_reports.specs.Tables.{report_lines}
@@ -205,12 +205,15 @@ pub record AnswersMake (task : MakeTask) (answer : Answer) : Type 0 where
   pub lines : answer.lines ≡ made_lines problem standing
   pub puts : answer.puts ≡ put_under task.out (Some (problem_file problem))
 
+-- this is the answer to a task; there is none to one to roll, which goes on from answer to answer
 abbrev pub AnswersTask : Holdings → Task → Answer → Type 0
 AnswersTask holds (Solve task) answer = AnswersSolve holds task answer
 AnswersTask holds (Verify task) answer = AnswersJudge holds Cost task answer
 AnswersTask holds (Report task) answer = AnswersJudge holds Table task answer
 AnswersTask holds (Make task) answer = AnswersMake task answer
-AnswersTask holds (Check problem tree fixings plan) answer = AnswersCheck holds problem tree fixings plan answer
+AnswersTask holds (Check problem tree fixings plan) answer =
+    AnswersCheck holds problem tree fixings plan answer
+AnswersTask holds (Roll task) answer = ⊥
 
 -- the words ask for a task, and this is the answer to it
 pub record IsAnswer (words : List (List ℕ)) (holds : Holdings) (answer : Answer) : Type 0 where

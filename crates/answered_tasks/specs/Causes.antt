@@ -23,7 +23,7 @@ use Rattle.fixing_files.specs.declared.take.LineNo.TheVariants as reason
 use Rattle.fixing_files.specs.Files.{StopsAt}
 use Rattle.command_words.specs.declared.task.JudgeTask.{JudgeTask}
 use Rattle.command_words.specs.declared.task.Task.{Task}
-use Rattle.command_words.specs.declared.task.Task.TheVariants.{Solve, Verify, Report, Make, Check}
+use Rattle.command_words.specs.declared.task.Task.TheVariants.{Solve, Verify, Report, Make, Check, Roll}
 use Rattle.command_words.specs.Task.{IsTask, AreRefused}
 use Rattle.answered_tasks.specs.declared.cause.Cause.{Cause}
 use Rattle.answered_tasks.specs.declared.cause.Cause.TheVariants.{Words, Failed, TooLong, NoProblem, NoSolution, BadLine, NoTree, WrongEdition, NoPlan, Memory}
@@ -107,7 +107,7 @@ judged_name task input.Fixings = task.fixings
 judged_name task input.Tree = None
 judged_name task input.Plan = None
 
--- the name that a task gives for an input
+-- the name that a task gives for an input, where it is another than one to roll
 abbrev pub input_name : Task → Input → Option (List ℕ)
 input_name (Solve task) input.Problem = Some task.problem
 input_name (Solve task) input.Solution = None
@@ -122,6 +122,7 @@ input_name (Check problem tree fixings plan) input.Solution = None
 input_name (Check problem tree fixings plan) input.Fixings = fixings
 input_name (Check problem tree fixings plan) input.Tree = Some tree
 input_name (Check problem tree fixings plan) input.Plan = plan
+input_name (Roll task) which = None
 
 -- the file of the name is read, and its bytes are such
 pub record IsBadFile (holds : Holdings) (name : List ℕ) (Bad : List ℕ → Type 0) : Type 0 where
@@ -243,6 +244,23 @@ pub record CountsReading (words : List (List ℕ)) (old new : Counts) (name : Li
   pub never_falls : old name ≤ new name
   pub stays : ((task : Task) (which : Input) → IsTask words task → input_name task which ≡ Some name → ⊥) → new name ≡ old name
 
+-- why there is no problem of a name
+abbrev pub StopsProblem : Holdings → Counts → Counts → List ℕ → Cause → Type 0
+StopsProblem holds old new name (Failed which) = (which ≡ input.Problem) × (old name < new name)
+StopsProblem holds old new name (TooLong which) = (which ≡ input.Problem) × HoldsTooMuch holds name
+StopsProblem holds old new name (NoProblem refusal) = IsBadFile holds name (λ bytes. IsNoProblem bytes refusal)
+StopsProblem holds old new name Memory = Unit {0}
+StopsProblem holds old new name _ = ⊥
+
+-- a reading failed
+abbrev pub IsReadingFault : Cause → Type 0
+IsReadingFault (Failed which) = Unit {0}
+IsReadingFault _ = ⊥
+
+-- the answer ends with one of the statuses of an answer
+abbrev pub IsAnswerStatus : ℕ → Type 0
+IsAnswerStatus status = (status ≡ 0) ⊎ ((status ≡ 1) ⊎ (status ≡ 3))
+
 -- ---- for private clauses
 
 -- why there is no file of a name
@@ -251,12 +269,6 @@ Misses holds old new which name (Failed other) = (other ≡ which) × (old name 
 Misses holds old new which name (TooLong other) = (other ≡ which) × HoldsTooMuch holds name
 Misses holds old new which name Memory = Unit {0}
 Misses holds old new which name _ = ⊥
-
--- why the words ask for nothing
-abbrev pub RefusesWords : List (List ℕ) → Cause → Type 0
-RefusesWords words (Words text) = AreRefused words
-RefusesWords words Memory = Unit {0}
-RefusesWords words _ = ⊥
 
 -- why bytes are no problem
 abbrev pub RefusesProblem : List ℕ → Cause → Type 0
@@ -288,14 +300,6 @@ abbrev pub RefusesPlan : List ℕ → Cause → Type 0
 RefusesPlan bytes (NoPlan refusal) = IsNoSolution bytes refusal
 RefusesPlan bytes Memory = Unit {0}
 RefusesPlan bytes _ = ⊥
-
--- why there is no problem of a name
-abbrev pub StopsProblem : Holdings → Counts → Counts → List ℕ → Cause → Type 0
-StopsProblem holds old new name (Failed which) = (which ≡ input.Problem) × (old name < new name)
-StopsProblem holds old new name (TooLong which) = (which ≡ input.Problem) × HoldsTooMuch holds name
-StopsProblem holds old new name (NoProblem refusal) = IsBadFile holds name (λ bytes. IsNoProblem bytes refusal)
-StopsProblem holds old new name Memory = Unit {0}
-StopsProblem holds old new name _ = ⊥
 
 -- why there is no solution of a name
 abbrev pub StopsSolution : Holdings → Counts → Counts → List ℕ → Cause → Type 0
@@ -396,15 +400,6 @@ StopsSolve holds old new problem fixings cause =
     StopsProblem holds old new problem cause
     ⊎ ((read : Problem) × IsProblemFile holds problem read
     × StopsGivenFixings holds old new read fixings cause)
-
--- a reading failed
-abbrev pub IsReadingFault : Cause → Type 0
-IsReadingFault (Failed which) = Unit {0}
-IsReadingFault _ = ⊥
-
--- the answer ends with one of the statuses of an answer
-abbrev pub IsAnswerStatus : ℕ → Type 0
-IsAnswerStatus status = (status ≡ 0) ⊎ ((status ≡ 1) ⊎ (status ≡ 3))
 
 -- why the lines of a feed are not taken, where they are told
 abbrev pub RefusesLines : Problem → Option (List (List ℕ)) → Cause → Type 0

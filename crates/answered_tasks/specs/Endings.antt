@@ -1,17 +1,17 @@
 -- How a run of the program ends.
-use Rattle.std.specs.Prelude.{◌≡◌, ◌≢◌, ◌⊎◌, ℕ, ◌<◌, ◌≤◌, List, [], ◌∷◌, ◌++◌, Option}
+use Rattle.std.specs.Prelude.{◌≡◌, ◌≢◌, ◌⊎◌, ℕ, ◌<◌, ◌≤◌, List, [], Option}
 use Rattle.std.specs.List.{concat}
 use Rattle.disp_outside.specs.Sink.{WritesPart}
 use Rattle.disp_model.specs.declared.entry.Entry.{Entry}
-use Rattle.answered_tasks.specs.declared.answer.Answer.{Answer}
-use Rattle.text_puts.specs.declared.put.Put.{Put}
+use Rattle.answered_tasks.specs.declared.outcome.Answer.{Answer}
 use Rattle.answered_tasks.specs.declared.cause.Cause.{Cause}
 use Rattle.answered_tasks.specs.declared.cause.Cause.TheVariants.{Failed, Memory}
 use Rattle.answered_tasks.specs.declared.cause.Input.{Input}
 use Rattle.text_puts.specs.Outside.{Outside, Holdings, Counts, Writes}
 use Rattle.text_puts.specs.Puts.{StandsAfter, PutsSome, PutMisses}
 use Rattle.answered_tasks.specs.Answers.{IsAnswer, IsDuePut}
-use Rattle.answered_tasks.specs.Causes.{StopsRun, IsReadingFault, line_of, due_line, status_of}
+use Rattle.answered_tasks.specs.Causes.{StopsRun, IsReadingFault, IsAnswerStatus, CountsReading, line_of, due_line, status_of}
+use Rattle.answered_tasks.specs.Outside.{FailsOfOne}
 
 -- status 0, 1 or 3: what was to be put is held, and the lines of the answer were written
 pub record EndsAnswered (words : List (List ℕ)) (old new : Outside) (status : ℕ) (journal : List Entry) : Type 0 where
@@ -118,21 +118,36 @@ pub record CountsPutting (words : List (List ℕ)) (holds : Holdings) (old new :
   pub never_falls : old name ≤ new name
   pub stays : (IsDuePut words holds name → ⊥) → new name ≡ old name
 
--- ---- for private clauses
+-- how a run ends, by its status, for words that ask for another task than to roll
+pub record Ends (words : List (List ℕ)) (old new : Outside) (status : ℕ) (journal : List Entry) :
+    Type 0 where
+  pub statuses : IsAnswerStatus status ⊎ ((status ≡ 2) ⊎ ((status ≡ 4) ⊎ (status ≡ 5)))
+  -- An answer's journal is legal; an optimal plan is valid and none costs less; an infeasible
+  -- problem has no valid plan; the tree that is put shows that; where it is unfinished the whole
+  -- budget is spent.
+  pub answered : IsAnswerStatus status → EndsAnswered words old new status journal
+  pub refused : status ≡ 2 → EndsRefused words old new journal
+  pub failed : status ≡ 4 → EndsFailed words old new journal
+  pub memory : status ≡ 5 → GivesUp words old new journal
+  -- A fault shows in the status, ends the reading, and no other count changes.
+  pub reading_fault : (name : List ℕ) → old.reading name < new.reading name
+      → (status ≡ 4) ⊎ (status ≡ 5)
+  pub reading_ends : FailsOfOne old.reading new.reading
+  pub putting_fault : (name : List ℕ) → old.putting name < new.putting name → status ≡ 4
+  pub write_fault : old.faults < new.faults → IsAnswerStatus status → ⊥
+  pub write_counted : old.faults ≤ new.faults
+  pub reading_counts : (name : List ℕ) → CountsReading words old.reading new.reading name
+  pub putting_counts : (name : List ℕ)
+      → CountsPutting words old.holds old.putting new.putting name
+  -- Each name under which there is nothing to put holds what it held.
+  pub held : (name : List ℕ) → (IsDuePut words old.holds name → ⊥)
+      → new.holds name ≡ old.holds name
 
 -- some of the text went out, and some of the line for want of memory behind it
 pub record WritesThenGivesUp (old new : Option (List ℕ)) (text : List ℕ) : Type 0 where
   pub between : Option (List ℕ)
   pub part : WritesPart old between text
   pub memory : WritesPart between new (line_of Memory)
-
--- how the writing of the lines of an answer ends
-pub record Finishes (old_faults new_faults : ℕ) (old new : Option (List ℕ)) (text : List ℕ) (wanted status : ℕ) : Type 0 where
-  pub counted : old_faults ≤ new_faults
-  pub statuses : (status ≡ wanted) ⊎ ((status ≡ 4) ⊎ (status ≡ 5))
-  pub done : status ≢ 4 → status ≢ 5 → Writes old new text × (new_faults ≡ old_faults)
-  pub failed : status ≡ 4 → WritesPart old new text × (old_faults < new_faults)
-  pub memory : status ≡ 5 → WritesThenGivesUp old new text
 
 -- how the writing of the line for what stopped a run ends
 pub record Halts (old_faults new_faults : ℕ) (old new : Option (List ℕ)) (cause : Cause) (status : ℕ) : Type 0 where
@@ -141,6 +156,16 @@ pub record Halts (old_faults new_faults : ℕ) (old new : Option (List ℕ)) (ca
   pub part : status ≢ 5 → WritesPart old new (line_of cause)
   pub whole : status ≢ 5 → new_faults ≡ old_faults → Writes old new (line_of cause)
   pub memory : status ≡ 5 → WritesThenGivesUp old new (due_line cause)
+
+-- ---- for private clauses
+
+-- how the writing of the lines of an answer ends
+pub record Finishes (old_faults new_faults : ℕ) (old new : Option (List ℕ)) (text : List ℕ) (wanted status : ℕ) : Type 0 where
+  pub counted : old_faults ≤ new_faults
+  pub statuses : (status ≡ wanted) ⊎ ((status ≡ 4) ⊎ (status ≡ 5))
+  pub done : status ≢ 4 → status ≢ 5 → Writes old new text × (new_faults ≡ old_faults)
+  pub failed : status ≡ 4 → WritesPart old new text × (old_faults < new_faults)
+  pub memory : status ≡ 5 → WritesThenGivesUp old new text
 
 -- a putting failed, and nothing was written
 pub record PutFails (answer : Answer) (old new : Outside) : Type 0 where

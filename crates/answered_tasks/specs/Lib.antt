@@ -4,4 +4,5 @@ pub mod Texts
 pub mod Settled
 pub mod Answers
 pub mod Causes
+pub mod Reading
 pub mod Endings

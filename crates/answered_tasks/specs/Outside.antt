@@ -1,6 +1,5 @@
 -- The outside as the program sees it at one moment.
 use Rattle.std.specs.Prelude.{◌≡◌, ◌≢◌, ◌⊎◌, ℕ, ◌<◌, ◌≤◌, List, length, Option, Some, IfSome, IsSomeAnd}
-use Rattle.std.specs.Io.KnownBytes.{append_known}
 use Rattle.text_puts.specs.Outside.{Holdings, Counts, HoldsBytes}
 use Rattle.disp_model.specs.declared.limits.TheConstants.{MOST_FILE_BYTES}
 

@@ -11,10 +11,8 @@ use Rattle.problem_text.specs.Texts.{problem_text}
 use Rattle.solution_text.specs.Texts.{solution_text}
 use Rattle.solution_verifier.specs.declared.fault.Fault.{Fault}
 use Rattle.solution_verifier.specs.FaultText.{with_numbers, fault_text}
-use Rattle.disp_model.specs.declared.tree.TreeNode.{TreeNode}
 use Rattle.disp_model.specs.declared.tree.Verdict.{Verdict}
 use Rattle.disp_model.specs.declared.tree.Verdict.TheVariants as verdict
-use Rattle.tree_certificate.specs.TreeTexts.{tree_text}
 use Rattle.tree_checker.specs.declared.why.Why.{Why}
 use Rattle.tree_checker.specs.declared.why.Why.TheVariants.{BadName, BadChoice, HasRoute, NotCycle, EmptyWalk, NotForced, BadArc, NotLate, RepeatedComponent, RepeatedTrain, WrongTrain, WrongEnd, NoVerdict, BelowCost}
 

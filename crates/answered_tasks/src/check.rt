@@ -4,10 +4,10 @@ ghost use Rattle.answered_tasks.specs.Answers.{AnswersCheck, IsCheckedWithPlan, 
 ghost use Rattle.answered_tasks.specs.Causes.{StopsTask, StopsFromPlan, StopsFromTree, StopsFromFixings, IsReadingFault, IsAnswerStatus};
 ghost use Rattle.command_words.specs.declared.task.Task.TheVariants.{Check};
 
-use crate::answer::Answer;
 use crate::cause::Cause;
 use crate::input::{editions_of, given_plan, problem_file, tree_file};
 use crate::judge_tree::judge_tree;
+use crate::outcome::Answer;
 use disp_model::{Fixing, Problem, Text, Tree, Verdict};
 use disp_outside::Shelf;
 use fixing_editions::Editions;

@@ -60,11 +60,12 @@ fn solution_of(alloc: Global, bytes: &[u8]) -> Result<(Plan, Option<u64>), Cause
 }
 
 /// The problem of a file.
-pub(crate) fn problem_file<S: Shelf>(
-    alloc: Global,
-    shelf: &mut S,
-    name: &str,
-) -> Result<Problem, Cause>
+///
+/// # Errors
+///
+/// `Failed` and `TooLong` of a problem where the file is not read, `NoProblem` where it is none,
+/// and `Memory`.
+pub fn problem_file<S: Shelf>(alloc: Global, shelf: &mut S, name: &str) -> Result<Problem, Cause>
     ensures ok { IfOk result (IsProblemFile (S.holds shelf.old) name.now) }
     ensures no { IfErr result
         (StopsProblem (S.holds shelf.old) (S.reading_faults shelf.old) (S.reading_faults shelf.new)

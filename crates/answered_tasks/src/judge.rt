@@ -3,8 +3,8 @@ ghost use Rattle.answered_tasks.specs.Texts.{valid_line};
 ghost use Rattle.answered_tasks.specs.Answers.{IsJudged, IsOneLine, IsTold, told_lines};
 ghost use Rattle.answered_tasks.specs.Causes.{IsAnswerStatus};
 
-use crate::answer::Answer;
 use crate::lines::{fault_line, valid_line};
+use crate::outcome::Answer;
 use disp_model::{Fixing, List, Memory, Plan, Problem};
 use dispatch_reports::report_lines;
 use solution_verifier::verify;

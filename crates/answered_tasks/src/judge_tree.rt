@@ -4,9 +4,9 @@ ghost use Rattle.solution_verifier.specs.First.{IsRight};
 ghost use Rattle.answered_tasks.specs.Answers.{IsFaultUnder, IsSaidOfPlan, IsTwoLines, IsAcceptedWith, IsAcceptedFor, IsTreeChecked};
 ghost use Rattle.answered_tasks.specs.Causes.{IsAnswerStatus, IsWant};
 
-use crate::answer::Answer;
 use crate::cause::Cause;
 use crate::judge::one_line;
+use crate::outcome::Answer;
 use crate::tree_lines::{accepted_line, no_plan_line, plan_fault_line, refused_line};
 use disp_model::{Fixing, List, Memory, Plan, Problem, Tree, Verdict};
 use solution_verifier::{Fault, verify};

@@ -9,17 +9,20 @@ ghost use Rattle.answered_tasks.specs.Answers.{AnswersMake, made_settings, put_u
 ghost use Rattle.answered_tasks.specs.Causes.{IsAnswerStatus, IsWant};
 ghost use Rattle.answered_tasks.specs.Texts.{made_lines, problem_file};
 
-use crate::answer::Answer;
 use crate::cause::Cause;
 use crate::lines::{operations_line, trains_line};
+use crate::outcome::Answer;
 use crate::solve::{status_of, verdict_line};
 use command_words::MakeTask;
 use disp_model::{Copied, List, Memory, Problem, Rule, Settings, Standing, Text};
+use disp_outside::Gate;
 use dispatch_core::Core;
 use instance_maker::make;
 use problem_text::write_problem;
 use solved_problems::solve;
 use std::alloc::Global;
+use std::sync::Wait;
+use std::thread::Threads;
 use text_puts::Put;
 
 /// How many operations the trains have.
@@ -107,13 +110,18 @@ fn answer_of(
     })
 }
 
-/// Makes the problem of a number, and solves it.
-pub(crate) fn run_make(alloc: Global, task: &MakeTask) -> Result<Answer, Cause>
+/// Makes the problem of a number, and solves it with one searcher.
+pub(crate) fn run_make<R: Threads + Wait + Sync, G: Gate>(
+    rt: &R,
+    alloc: Global,
+    task: &MakeTask,
+    gate: &G,
+) -> Result<Answer, Cause>
     ensures ok { IfOk result (AnswersMake task.now) }
     ensures no { IfErr result IsWant }
     ensures status { IfOk result (λ answer. IsAnswerStatus answer.status) }
 {
     let problem = make(alloc, task.number, task.trains)?;
-    let core = solve(alloc, &problem, made_settings(), &[])?;
+    let core = solve(rt, alloc, &problem, made_settings(), 1, &[], gate)?;
     Ok(answer_of(alloc, &problem, core, task)?)
 }

@@ -26,7 +26,7 @@ pub(crate) fn print<O: Sink>(out: &mut O, lines: &[List<u8>]) -> Result<(), Writ
 }
 
 /// Tells that memory ran out, and gives the status for it.
-pub(crate) fn give_up<O: Sink>(out: &mut O) -> u8
+pub fn give_up<O: Sink>(out: &mut O) -> u8
     ensures status { result ≡ 5 }
     ensures part { WritesPart (O.written out.old) (O.written out.new) (line_of OutOfMemory) }
     ensures counted { O.faults out.old ≤ O.faults out.new }
@@ -49,7 +49,7 @@ pub(crate) fn finish<O: Sink>(out: &mut O, lines: &[List<u8>], status: u8) -> u8
 }
 
 /// Tells what stopped the run, and gives the status.
-pub(crate) fn stop<O: Sink>(alloc: Global, out: &mut O, cause: &Cause) -> u8
+pub fn stop<O: Sink>(alloc: Global, out: &mut O, cause: &Cause) -> u8
     ensures { Halts (O.faults out.old) (O.faults out.new) (O.written out.old) (O.written out.new)
         cause.now result }
 {

@@ -1,17 +1,19 @@
-ghost use Rattle.std.specs.Prelude.{◌≡◌, ◌≢◌, ◌≤◌, ◌<◌, ◌⊎◌, ℕ, List, OnOk, IsErrOf, map, string_bytes};
+ghost use Rattle.std.specs.Prelude.{◌≡◌, ◌<◌, ℕ, List};
 ghost use Rattle.text_puts.specs.Outside.{outside};
-ghost use Rattle.answered_tasks.specs.Outside.{FailsOfOne};
-ghost use Rattle.answered_tasks.specs.Answers.{IsDuePut};
-ghost use Rattle.answered_tasks.specs.Causes.{CountsReading, IsAnswerStatus};
 ghost use Rattle.text_puts.specs.Puts.{PutsOnly};
-ghost use Rattle.answered_tasks.specs.Endings.{EndsAnswered, EndsRefused, EndsFailed, GivesUp, CountsPutting, Publishes};
+ghost use Rattle.answered_tasks.specs.Causes.{IsAnswerStatus};
+ghost use Rattle.answered_tasks.specs.Reading.{IsRead, IsNoRoll};
+ghost use Rattle.answered_tasks.specs.Endings.{Ends, Publishes};
 
-use crate::answer::Answer;
 use crate::done::Done;
+use crate::outcome::Answer;
 use crate::print::{finish, give_up, stop};
 use crate::run::run;
+use command_words::{Task, WordsNo};
 use disp_outside::{Gate, PutNo, Shelf, Sink};
 use std::alloc::Global;
+use std::sync::Wait;
+use std::thread::Threads;
 use text_puts::put_all;
 
 /// Puts what is to be put, and then writes the lines of an answer.
@@ -37,82 +39,41 @@ fn publish<S: Shelf, O: Sink>(alloc: Global, shelf: &mut S, out: &mut O, answer:
     }
 }
 
-/// Runs the program for the words behind its name, and says how it ended.
+/// Does what is asked, if it is another task than `roll`, and says how it ended.
 ///
 /// `solve PROBLEM` reads the file of that name from the shelf, with `--fixings F` what the lines of
-/// another ask for, and searches with at most so many branchings as `--budget B` says. It writes to
-/// the sink the edition, the verdict, and the best plan, where there is one, one line each; with
-/// `--plan OUT` that plan is put under that name before, and with `--tree OUT` the tree that shows
-/// the verdict, where the search came to one. What is refused is told in one line; for refused
-/// words that is clap's text. `verify PROBLEM SOLUTION` judges a solution and tells its cost,
-/// `report PROBLEM SOLUTION` judges it too and writes the table of its trains, and `check PROBLEM
-/// TREE` judges a tree and, with `--plan P`, a plan behind it; all read fixings with `--fixings F`.
-/// `make NUMBER TRAINS` makes the problem of a number, solves it, and writes how large it is and the
-/// verdict; with `--out FILE` that problem is put under that name before. The gate is not used so
-/// far.
+/// another ask for, and searches with so many searchers side by side as `--workers W` says, and at
+/// most so many branchings as `--budget B` says. It writes to the sink the edition, the verdict,
+/// and the best plan, where there is one, one line each; with `--plan OUT` that plan is put under
+/// that name before, and with `--tree OUT` the tree that shows the verdict, where the search came
+/// to one. What is refused is told in one line; for refused words that is clap's text. `verify
+/// PROBLEM SOLUTION` judges a solution and tells its cost, `report PROBLEM SOLUTION` judges it too
+/// and writes the table of its trains, and `check PROBLEM TREE` judges a tree and, with `--plan P`,
+/// a plan behind it; all read fixings with `--fixings F`. `make NUMBER TRAINS` makes the problem of
+/// a number, solves it with one searcher, and writes how large it is and the verdict; with `--out
+/// FILE` that problem is put under that name before. A searcher passes the gate before each work.
 ///
 /// The status is 0 where a plan of least cost was found, a solution is valid or a tree is accepted,
 /// 1 where no plan is valid, a solution has a fault, or a tree is refused, 2 where the words or a
 /// file are refused, 3 where the budget is spent before the search ended, 4 where a reading of a
 /// file, a putting of the plan, the tree or the problem, or a write failed, and 5 where memory ran
 /// out.
-pub fn dispatch<R, S: Shelf, O: Sink, G: Gate>(
-    _rt: &R,
+pub fn answer<R: Threads + Wait + Sync, S: Shelf, O: Sink, G: Gate>(
+    rt: &R,
     alloc: Global,
-    words: &[String],
+    read: Result<Task, WordsNo>,
     shelf: &mut S,
     out: &mut O,
-    _gate: &G,
+    gate: &G,
 ) -> Done
-    ensures statuses { IsAnswerStatus result.status
-        ⊎ ((result.status ≡ 2) ⊎ ((result.status ≡ 4) ⊎ (result.status ≡ 5))) }
-
-    // An answer's journal is legal; an optimal plan is valid and none costs less; an infeasible
-    // problem has no valid plan; the tree that is put shows that; where it is unfinished the whole
-    // budget is spent.
-    ensures answered { IsAnswerStatus result.status
-        → EndsAnswered (map (λ word. string_bytes word) words.now)
+    requires task { IsNoRoll read }
+    ensures ends { (words : List (List ℕ)) → IsRead words read → Ends words
         (outside (S.holds shelf.old) (S.reading_faults shelf.old) (S.putting_faults shelf.old)
         (O.faults out.old) (O.written out.old))
         (outside (S.holds shelf.new) (S.reading_faults shelf.new) (S.putting_faults shelf.new)
         (O.faults out.new) (O.written out.new)) result.status result.journal.items }
-    ensures refused { result.status ≡ 2 → EndsRefused (map (λ word. string_bytes word) words.now)
-        (outside (S.holds shelf.old) (S.reading_faults shelf.old) (S.putting_faults shelf.old)
-        (O.faults out.old) (O.written out.old))
-        (outside (S.holds shelf.new) (S.reading_faults shelf.new) (S.putting_faults shelf.new)
-        (O.faults out.new) (O.written out.new)) result.journal.items }
-    ensures failed { result.status ≡ 4 → EndsFailed (map (λ word. string_bytes word) words.now)
-        (outside (S.holds shelf.old) (S.reading_faults shelf.old) (S.putting_faults shelf.old)
-        (O.faults out.old) (O.written out.old))
-        (outside (S.holds shelf.new) (S.reading_faults shelf.new) (S.putting_faults shelf.new)
-        (O.faults out.new) (O.written out.new)) result.journal.items }
-    ensures memory { result.status ≡ 5 → GivesUp (map (λ word. string_bytes word) words.now)
-        (outside (S.holds shelf.old) (S.reading_faults shelf.old) (S.putting_faults shelf.old)
-        (O.faults out.old) (O.written out.old))
-        (outside (S.holds shelf.new) (S.reading_faults shelf.new) (S.putting_faults shelf.new)
-        (O.faults out.new) (O.written out.new)) result.journal.items }
-
-    // A fault shows in the status, ends the reading, and no other count changes.
-    ensures reading_fault { (name : List ℕ) → S.reading_faults shelf.old name
-        < S.reading_faults shelf.new name → (result.status ≡ 4) ⊎ (result.status ≡ 5) }
-    ensures reading_ends { FailsOfOne (S.reading_faults shelf.old) (S.reading_faults shelf.new) }
-    ensures putting_fault { (name : List ℕ) → S.putting_faults shelf.old name
-        < S.putting_faults shelf.new name → result.status ≡ 4 }
-    ensures write_fault { O.faults out.old < O.faults out.new → IsAnswerStatus result.status → ⊥ }
-    ensures write_counted { O.faults out.old ≤ O.faults out.new }
-    ensures reading_counts { (name : List ℕ)
-        → CountsReading (map (λ word. string_bytes word) words.now) (S.reading_faults shelf.old)
-        (S.reading_faults shelf.new) name }
-    ensures putting_counts { (name : List ℕ)
-        → CountsPutting (map (λ word. string_bytes word) words.now) (S.holds shelf.old)
-        (S.putting_faults shelf.old) (S.putting_faults shelf.new) name }
-
-    // Each name under which there is nothing to put holds what it held.
-    ensures held { (name : List ℕ)
-        → (IsDuePut (map (λ word. string_bytes word) words.now) (S.holds shelf.old) name → ⊥)
-        → S.holds shelf.new name ≡ S.holds shelf.old name }
 {
-    match run(alloc, words, shelf) {
+    match run(rt, alloc, read, shelf, gate) {
         Ok(answer) => {
             let status = publish(alloc, shelf, out, &answer);
             Done {

@@ -1,27 +1,34 @@
-ghost use Rattle.std.specs.Prelude.{◌≡◌, ◌<◌, ℕ, List, Some, IfOk, IfErr, IsErrAnd, map, option_map, string_bytes};
+ghost use Rattle.std.specs.Prelude.{◌≡◌, ◌<◌, ℕ, List, Some, Ok, IfOk, IfErr, IsErrAnd, option_map};
 ghost use Rattle.command_words.specs.Task.{IsTask};
+ghost use Rattle.text_puts.specs.Outside.{Holdings, Counts};
+ghost use Rattle.answered_tasks.specs.Reading.{IsRead, IsNoRoll};
 ghost use Rattle.answered_tasks.specs.Outside.{FailsOfOne, ReadsOne, ReadsNames, IsGiven, IsProblemOrFixings, IsOneOfTwo, IsOneOfThree};
 ghost use Rattle.answered_tasks.specs.Answers.{IsAnswer, AnswersTask, AnswersSolve, IsSolvedWith, AnswersJudge, IsJudgedFile, IsJudgedBy};
-ghost use Rattle.answered_tasks.specs.Causes.{RefusesWords, StopsRun, StopsTask, StopsGivenFixings, StopsSolve, StopsSolution, StopsJudging, StopsVerify, IsReadingFault, IsAnswerStatus, CountsReading, CountsTask};
+ghost use Rattle.answered_tasks.specs.Causes.{StopsRun, StopsTask, StopsGivenFixings, StopsSolve, StopsSolution, StopsJudging, StopsVerify, IsReadingFault, IsAnswerStatus, CountsReading, CountsTask};
 
-use crate::answer::Answer;
 use crate::cause::Cause;
 use crate::check::run_check;
 use crate::input::{asked_of, fixings_file, problem_file, solution_file};
 use crate::judge::{Telling, judge};
 use crate::maker::run_make;
+use crate::outcome::Answer;
 use crate::solve::solve;
-use command_words::{JudgeTask, SolveTask, Task, WordsNo, read_words};
+use command_words::{JudgeTask, SolveTask, Task, WordsNo};
 use disp_model::{Fixing, Problem, Text};
-use disp_outside::Shelf;
+use disp_outside::{Gate, Shelf};
 use std::alloc::Global;
+use std::sync::Wait;
+use std::thread::Threads;
 
-/// The task that the words ask for.
-fn task_of(alloc: Global, words: &[String]) -> Result<Task, Cause>
-    ensures ok { IfOk result (IsTask (map (λ word. string_bytes word) words.now)) }
-    ensures no { IfErr result (RefusesWords (map (λ word. string_bytes word) words.now)) }
+/// The task that was read, or why there is none.
+fn task_of(read: Result<Task, WordsNo>) -> Result<Task, Cause>
+    ensures ok { IfOk result (λ task. (words : List (List ℕ)) → IsRead words read
+        → IsTask words task) }
+    ensures no { IfErr result (λ cause. (words : List (List ℕ)) (holds : Holdings)
+        (old new : Counts) → IsRead words read → StopsRun words holds old new cause) }
+    ensures no_roll { IfOk result (λ task. IsNoRoll read → IsNoRoll (Ok task)) }
 {
-    match read_words(alloc, words) {
+    match read {
         Ok(task) => Ok(task),
         Err(WordsNo::Refused(text)) => Err(Cause::Words(text)),
         Err(WordsNo::Memory) => Err(Cause::Memory),
@@ -29,11 +36,13 @@ fn task_of(alloc: Global, words: &[String]) -> Result<Task, Cause>
 }
 
 /// Solves a problem with what the lines of a file ask for, if there is one.
-fn solve_with<S: Shelf>(
+fn solve_with<R: Threads + Wait + Sync, S: Shelf, G: Gate>(
+    rt: &R,
     alloc: Global,
     shelf: &mut S,
     problem: &Problem,
     task: &SolveTask,
+    gate: &G,
 ) -> Result<Answer, Cause>
     ensures ok { IfOk result (IsSolvedWith (S.holds shelf.old) problem.now task.now) }
     ensures no { IfErr result
@@ -46,13 +55,19 @@ fn solve_with<S: Shelf>(
         (IsErrAnd result IsReadingFault) }
 {
     match asked_of(alloc, shelf, problem, task.fixings.as_ref()) {
-        Ok(asked) => solve(alloc, problem, asked.as_slice(), task),
+        Ok(asked) => solve(rt, alloc, problem, asked.as_slice(), task, gate),
         Err(cause) => Err(cause),
     }
 }
 
 /// Solves the problem of a file with the fixings of another.
-fn run_solve<S: Shelf>(alloc: Global, shelf: &mut S, task: &SolveTask) -> Result<Answer, Cause>
+fn run_solve<R: Threads + Wait + Sync, S: Shelf, G: Gate>(
+    rt: &R,
+    alloc: Global,
+    shelf: &mut S,
+    task: &SolveTask,
+    gate: &G,
+) -> Result<Answer, Cause>
     ensures ok { IfOk result (AnswersSolve (S.holds shelf.old) task.now) }
     ensures no { IfErr result
         (StopsSolve (S.holds shelf.old) (S.reading_faults shelf.old) (S.reading_faults shelf.new)
@@ -64,7 +79,7 @@ fn run_solve<S: Shelf>(alloc: Global, shelf: &mut S, task: &SolveTask) -> Result
         (IsErrAnd result IsReadingFault) }
 {
     match problem_file(alloc, shelf, task.problem.as_str()) {
-        Ok(problem) => solve_with(alloc, shelf, &problem, task),
+        Ok(problem) => solve_with(rt, alloc, shelf, &problem, task, gate),
         Err(cause) => Err(cause),
     }
 }
@@ -188,7 +203,14 @@ fn run_judge<S: Shelf>(
 }
 
 /// Does what a task asks for.
-fn run_task<S: Shelf>(alloc: Global, shelf: &mut S, task: &Task) -> Result<Answer, Cause>
+fn run_task<R: Threads + Wait + Sync, S: Shelf, G: Gate>(
+    rt: &R,
+    alloc: Global,
+    shelf: &mut S,
+    task: &Task,
+    gate: &G,
+) -> Result<Answer, Cause>
+    requires { IsNoRoll (Ok task.now) }
     ensures ok { IfOk result (AnswersTask (S.holds shelf.old) task.now) }
     ensures no { IfErr result
         (StopsTask (S.holds shelf.old) (S.reading_faults shelf.old) (S.reading_faults shelf.new)
@@ -205,31 +227,38 @@ fn run_task<S: Shelf>(alloc: Global, shelf: &mut S, task: &Task) -> Result<Answe
     ensures held { (name : List ℕ) → S.holds shelf.new name ≡ S.holds shelf.old name }
 {
     match task {
-        Task::Solve(task) => run_solve(alloc, shelf, task),
+        Task::Solve(task) => run_solve(rt, alloc, shelf, task, gate),
         Task::Verify(task) => run_judge(alloc, shelf, task, Telling::Cost),
         Task::Report(task) => run_judge(alloc, shelf, task, Telling::Table),
-        Task::Make(task) => run_make(alloc, task),
+        Task::Make(task) => run_make(rt, alloc, task, gate),
         Task::Check {
             problem,
             tree,
             fixings,
             plan,
         } => run_check(alloc, shelf, problem, tree, fixings.as_ref(), plan.as_ref()),
+        Task::Roll(_) => unreachable!(),
     }
 }
 
-/// The answer to the words, from the files of the shelf.
-pub(crate) fn run<S: Shelf>(alloc: Global, words: &[String], shelf: &mut S) -> Result<Answer, Cause>
-    ensures ok { IfOk result
-        (IsAnswer (map (λ word. string_bytes word) words.now) (S.holds shelf.old)) }
-    ensures no { IfErr result
-        (StopsRun (map (λ word. string_bytes word) words.now) (S.holds shelf.old)
-        (S.reading_faults shelf.old) (S.reading_faults shelf.new)) }
+/// The answer to what the words ask for, from the files of the shelf.
+pub(crate) fn run<R: Threads + Wait + Sync, S: Shelf, G: Gate>(
+    rt: &R,
+    alloc: Global,
+    read: Result<Task, WordsNo>,
+    shelf: &mut S,
+    gate: &G,
+) -> Result<Answer, Cause>
+    requires { IsNoRoll read }
+    ensures ok { IfOk result (λ answer. (words : List (List ℕ)) → IsRead words read
+        → IsAnswer words (S.holds shelf.old) answer) }
+    ensures no { IfErr result (λ cause. (words : List (List ℕ)) → IsRead words read
+        → StopsRun words (S.holds shelf.old) (S.reading_faults shelf.old)
+        (S.reading_faults shelf.new) cause) }
     ensures status { IfOk result (λ answer. IsAnswerStatus answer.status) }
 
-    ensures counts { (name : List ℕ)
-        → CountsReading (map (λ word. string_bytes word) words.now) (S.reading_faults shelf.old)
-        (S.reading_faults shelf.new) name }
+    ensures counts { (words : List (List ℕ)) (name : List ℕ) → IsRead words read
+        → CountsReading words (S.reading_faults shelf.old) (S.reading_faults shelf.new) name }
     ensures one { FailsOfOne (S.reading_faults shelf.old) (S.reading_faults shelf.new) }
     ensures failed { (name : List ℕ) → S.reading_faults shelf.old name
         < S.reading_faults shelf.new name → IsErrAnd result IsReadingFault }
@@ -237,6 +266,8 @@ pub(crate) fn run<S: Shelf>(alloc: Global, words: &[String], shelf: &mut S) -> R
         ≡ S.putting_faults shelf.old name }
     ensures held { (name : List ℕ) → S.holds shelf.new name ≡ S.holds shelf.old name }
 {
-    let task = task_of(alloc, words)?;
-    run_task(alloc, shelf, &task)
+    match task_of(read) {
+        Ok(task) => run_task(rt, alloc, shelf, &task, gate),
+        Err(cause) => Err(cause),
+    }
 }

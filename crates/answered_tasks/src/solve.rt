@@ -11,18 +11,21 @@ ghost use Rattle.answered_tasks.specs.Texts.{edition_line, verdict_line, plan_li
 ghost use Rattle.answered_tasks.specs.Texts.{answer_lines};
 ghost use Rattle.journal_printer.specs.Journal.{tree_file};
 
-use crate::answer::Answer;
 use crate::cause::Cause;
 use crate::journal::{best_plan, settled_tree};
 use crate::lines::{edition_line, infeasible_line, optimal_line, plan_line, unfinished_line};
+use crate::outcome::Answer;
 use command_words::SolveTask;
 use disp_model::{
     Change, Copied, List, Mark, Memory, Plan, Problem, Standing, Text, Tree, Verdict,
 };
+use disp_outside::Gate;
 use dispatch_core::Core;
 use journal_printer::tree_file;
 use solved_problems::solve as solve_problem;
 use std::alloc::Global;
+use std::sync::Wait;
+use std::thread::Threads;
 use text_puts::Put;
 
 /// The lines of an edition, of its verdict, and of a plan where there is one.
@@ -173,17 +176,20 @@ fn answer_of(alloc: Global, core: Core, task: &SolveTask) -> Result<Answer, Memo
 }
 
 /// The answer to a problem with the changes that are asked, each of which is taken.
-pub(crate) fn solve(
+pub(crate) fn solve<R: Threads + Wait + Sync, G: Gate>(
+    rt: &R,
     alloc: Global,
     problem: &Problem,
     asked: &[Change],
     task: &SolveTask,
+    gate: &G,
 ) -> Result<Answer, Cause>
     requires { MayBeAsked problem.now [] asked.now }
     ensures ok { IfOk result (IsSolved problem.now task.now asked.now) }
     ensures no { IfErr result IsWant }
     ensures status { IfOk result (λ answer. IsAnswerStatus answer.status) }
 {
-    let core = solve_problem(alloc, problem, task.settings(), asked)?;
+    let settings = task.settings();
+    let core = solve_problem(rt, alloc, problem, settings, task.workers, asked, gate)?;
     Ok(answer_of(alloc, core, task)?)
 }

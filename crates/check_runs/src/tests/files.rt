@@ -4,7 +4,9 @@ use disp_outside::OpenGate;
 use dispatch_cli::dispatch;
 use outside_in_memory::{MemShelf, SteadySink};
 use std::process::Abort;
+use std::sync::Wait;
 use std::test::Fail;
+use std::thread::Threads;
 use word_lists::words_of;
 
 const ALL: [&str; 7] = ["check", "p", "t", "--plan", "s", "--fixings", "f"];
@@ -19,7 +21,11 @@ fn the_first_file_that_is_refused_decides(rt: HostRuntime) -> Result<(), Fail> {
 }
 
 // The shelf gives this line and the status 4.
-fn fails(rt: &(impl Abort + AllocGlobal), shelf: &mut MemShelf, line: &str) -> Result<(), Fail> {
+fn fails(
+    rt: &(impl Threads + Wait + Sync + Abort + AllocGlobal),
+    shelf: &mut MemShelf,
+    line: &str,
+) -> Result<(), Fail> {
     let alloc = rt.alloc();
     let words = words_of(alloc, &ALL)?;
     let mut out = SteadySink::new(alloc);

@@ -1,12 +1,19 @@
 // What `check` prints of plans.
 use super::runs::{SECOND, TREE, TWO, row};
 use std::process::Abort;
+use std::sync::Wait;
 use std::test::Fail;
+use std::thread::Threads;
 
 const WITH_PLAN: [&str; 5] = ["check", "p", "t", "--plan", "s"];
 
 // The plan is judged so behind the tree of the two trains.
-fn plan(rt: &(impl Abort + AllocGlobal), plan: &str, status: u8, lines: &str) -> Result<(), Fail> {
+fn plan(
+    rt: &(impl Threads + Wait + Sync + Abort + AllocGlobal),
+    plan: &str,
+    status: u8,
+    lines: &str,
+) -> Result<(), Fail> {
     row(rt, &WITH_PLAN, TWO, TREE, "", plan, status, lines)
 }
 

@@ -3,7 +3,9 @@ use disp_outside::OpenGate;
 use dispatch_cli::dispatch;
 use outside_in_memory::{SteadyShelf, SteadySink};
 use std::process::Abort;
+use std::sync::Wait;
 use std::test::Fail;
+use std::thread::Threads;
 use word_lists::words_of;
 
 // Two trains that share r: one holds it for 10, the other for 4. Each costs the start of its second
@@ -22,7 +24,7 @@ pub(crate) const SECOND: &str =
 // The words give this status and these lines, for these files; nothing is put, and the journal is
 // empty.
 pub(crate) fn row(
-    rt: &(impl Abort + AllocGlobal),
+    rt: &(impl Threads + Wait + Sync + Abort + AllocGlobal),
     words: &[&str],
     problem: &str,
     tree: &str,

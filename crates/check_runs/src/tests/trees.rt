@@ -1,16 +1,23 @@
 // What `check` prints of trees.
 use super::runs::{TREE, TWO, row};
 use std::process::Abort;
+use std::sync::Wait;
 use std::test::Fail;
+use std::thread::Threads;
 
 // The tree is checked so for the two trains.
-fn tree(rt: &(impl Abort + AllocGlobal), tree: &str, status: u8, line: &str) -> Result<(), Fail> {
+fn tree(
+    rt: &(impl Threads + Wait + Sync + Abort + AllocGlobal),
+    tree: &str,
+    status: u8,
+    line: &str,
+) -> Result<(), Fail> {
     row(rt, &["check", "p", "t"], TWO, tree, "", "", status, line)
 }
 
 // The tree is checked so with fixings.
 fn fixed(
-    rt: &(impl Abort + AllocGlobal),
+    rt: &(impl Threads + Wait + Sync + Abort + AllocGlobal),
     tree: &str,
     fixings: &str,
     status: u8,

@@ -3,7 +3,9 @@ use disp_outside::{OpenGate, Shelf};
 use dispatch_cli::dispatch;
 use outside_in_memory::{MemShelf, SteadyShelf, SteadySink};
 use std::process::Abort;
+use std::sync::Wait;
 use std::test::Fail;
+use std::thread::Threads;
 use word_lists::words_of;
 
 // The problem of 1 for one train, which holds the block for 28.
@@ -12,7 +14,7 @@ const ALONE: &str =
 
 /// The words end with this status, and what is written begins so.
 fn run<S: Shelf>(
-    rt: &(impl Abort + AllocGlobal),
+    rt: &(impl Threads + Wait + Sync + Abort + AllocGlobal),
     shelf: &mut S,
     words: &[&str],
     status: u8,
@@ -28,7 +30,11 @@ fn run<S: Shelf>(
 }
 
 /// `make` of these words prints these lines.
-fn row(rt: &(impl Abort + AllocGlobal), words: &[&str], want: &str) -> Result<(), Fail> {
+fn row(
+    rt: &(impl Threads + Wait + Sync + Abort + AllocGlobal),
+    words: &[&str],
+    want: &str,
+) -> Result<(), Fail> {
     let mut shelf = SteadyShelf::new(rt.alloc());
     run(rt, &mut shelf, words, 0, want)
 }

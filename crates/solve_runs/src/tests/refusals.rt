@@ -4,7 +4,9 @@ use disp_outside::OpenGate;
 use dispatch_cli::dispatch;
 use outside_in_memory::{SteadyShelf, SteadySink};
 use std::process::Abort;
+use std::sync::Wait;
 use std::test::Fail;
+use std::thread::Threads;
 use word_lists::words_of;
 
 const NOT_JSON: &str = "problem: NotJson\n";
@@ -82,7 +84,11 @@ fn what_is_no_json_is_refused(rt: HostRuntime) -> Result<(), Fail> {
 }
 
 // The words get clap's text.
-fn is_told(rt: &(impl Abort + AllocGlobal), words: &[&str], text: &str) -> Result<(), Fail> {
+fn is_told(
+    rt: &(impl Threads + Wait + Sync + Abort + AllocGlobal),
+    words: &[&str],
+    text: &str,
+) -> Result<(), Fail> {
     let alloc = rt.alloc();
     let words = words_of(alloc, words)?;
     let mut shelf = SteadyShelf::new(alloc);
@@ -103,7 +109,12 @@ fn other_words_are_refused(rt: HostRuntime) -> Result<(), Fail> {
     is_told(&rt, &["solve", "p", "--budget", "-1"], "'-1'")?;
     is_told(&rt, &["solve", "p", "--budget", "x"], "'x'")?;
     is_told(&rt, &["solve", "p", "--budget", "4294967296"], "4294967296")?;
-    is_told(&rt, &["solve", "p", "--workers", "2"], "--workers")?;
+    is_told(&rt, &["solve", "p", "--workers", "0"], "0 is not in 1..=64")?;
+    is_told(
+        &rt,
+        &["solve", "p", "--workers", "65"],
+        "65 is not in 1..=64",
+    )?;
     is_told(&rt, &["--help"], "Usage: dispatch")?;
     is_told(&rt, &["fly", "p"], "'fly'")
 }

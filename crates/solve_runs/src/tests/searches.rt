@@ -3,7 +3,9 @@ use disp_outside::OpenGate;
 use dispatch_cli::dispatch;
 use outside_in_memory::{SteadyShelf, SteadySink};
 use std::process::Abort;
+use std::sync::Wait;
 use std::test::Fail;
+use std::thread::Threads;
 use word_lists::words_of;
 
 /// Two trains on one block, for 10 and for 4.
@@ -28,7 +30,7 @@ const EIGHTEEN: &str =
 /// `solve p --fixings f --rule RULE --budget B` of these files ends with this status and these
 /// lines.
 fn check_by(
-    rt: &(impl Abort + AllocGlobal),
+    rt: &(impl Threads + Wait + Sync + Abort + AllocGlobal),
     rule: &str,
     problem: &str,
     fixings: &str,
@@ -62,7 +64,7 @@ fn check_by(
 
 /// The same by both rules.
 fn check(
-    rt: &(impl Abort + AllocGlobal),
+    rt: &(impl Threads + Wait + Sync + Abort + AllocGlobal),
     problem: &str,
     fixings: &str,
     budget: &str,
@@ -149,4 +151,28 @@ fn fixings_change_what_is_least(rt: HostRuntime) -> Result<(), Fail> {
         2,
         "fixings line 2: refused StartedAt 0\n",
     )
+}
+
+/// `solve p --workers W` of two trains on one block finds the same plan.
+fn check_workers(
+    rt: &(impl Threads + Wait + Sync + Abort + AllocGlobal),
+    workers: &str,
+) -> Result<(), Fail> {
+    let alloc = rt.alloc();
+    let words = words_of(alloc, &["solve", "p", "--workers", workers])?;
+    let mut shelf = SteadyShelf::new(alloc);
+    shelf.place("p", ONE_BLOCK.as_bytes())?;
+    let mut out = SteadySink::new(alloc);
+    let done = dispatch(rt, alloc, &words, &mut shelf, &mut out, &OpenGate);
+    assert_eq!(rt; done.status, 0, "{workers}");
+    assert_eq!(rt; out.written(), EIGHTEEN.as_bytes(), "{workers}");
+    Ok(())
+}
+
+#[test]
+fn searchers_side_by_side_find_the_same(rt: HostRuntime) -> Result<(), Fail> {
+    for workers in ["1", "2", "4"] {
+        check_workers(&rt, workers)?;
+    }
+    Ok(())
 }

@@ -4,14 +4,16 @@ use disp_outside::OpenGate;
 use dispatch_cli::dispatch;
 use outside_in_memory::{MemShelf, SteadyShelf, SteadySink};
 use std::process::Abort;
+use std::sync::Wait;
 use std::test::Fail;
+use std::thread::Threads;
 use word_lists::words_of;
 
 const NEVER: &str = r#"{"trains":[[{"start_lb":5,"start_ub":4}]],"objective":[]}"#;
 
 /// The words end with this status and these lines.
 fn run(
-    rt: &(impl Abort + AllocGlobal),
+    rt: &(impl Threads + Wait + Sync + Abort + AllocGlobal),
     shelf: &mut SteadyShelf,
     words: &[&str],
     status: u8,
@@ -28,7 +30,7 @@ fn run(
 
 /// `solve` puts a tree, which begins so, and `check` says this of it and the plan.
 fn shown(
-    rt: &(impl Abort + AllocGlobal),
+    rt: &(impl Threads + Wait + Sync + Abort + AllocGlobal),
     problem: &str,
     fixings: &str,
     status: u8,

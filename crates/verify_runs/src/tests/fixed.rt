@@ -4,12 +4,14 @@ use disp_outside::OpenGate;
 use dispatch_cli::dispatch;
 use outside_in_memory::{MemShelf, SteadySink};
 use std::process::Abort;
+use std::sync::Wait;
 use std::test::Fail;
+use std::thread::Threads;
 use word_lists::words_of;
 
 // The solution of cost 18 is judged so with a file of fixings.
 fn row(
-    rt: &(impl Abort + AllocGlobal),
+    rt: &(impl Threads + Wait + Sync + Abort + AllocGlobal),
     fixings: &[u8],
     status: u8,
     line: &str,

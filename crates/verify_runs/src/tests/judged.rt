@@ -4,7 +4,9 @@ use dispatch_cli::dispatch;
 use outside_in_memory::{MemShelf, SteadyShelf, SteadySink};
 use std::alloc::Global;
 use std::process::Abort;
+use std::sync::Wait;
 use std::test::Fail;
+use std::thread::Threads;
 use word_lists::words_of;
 
 // Two trains that share r: one holds it for 10, the other for 4. Each costs the start of its second
@@ -62,7 +64,7 @@ fn verify<R: AllocGlobal>(rt: &R, problem: &str, solution: &str) -> Result<(u8, 
 
 // The events are judged so, on a problem, with what is stated.
 fn row(
-    rt: &(impl Abort + AllocGlobal),
+    rt: &(impl Threads + Wait + Sync + Abort + AllocGlobal),
     problem: &str,
     events: &[(u64, u32, u32)],
     stated: &str,

@@ -4,12 +4,14 @@ use disp_outside::OpenGate;
 use dispatch_cli::dispatch;
 use outside_in_memory::{SteadyShelf, SteadySink};
 use std::process::Abort;
+use std::sync::Wait;
 use std::test::Fail;
+use std::thread::Threads;
 use word_lists::words_of;
 
 /// `report p s --fixings f` of these files ends with this status and these lines.
 fn row(
-    rt: &(impl Abort + AllocGlobal),
+    rt: &(impl Threads + Wait + Sync + Abort + AllocGlobal),
     solution: &str,
     fixings: &str,
     status: u8,

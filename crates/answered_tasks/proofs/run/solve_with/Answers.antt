@@ -5,9 +5,18 @@ use Rattle.answered_tasks.proofs.Checking.{reads_well}
 use Rattle.answered_tasks.proofs.run.solve_with.Goals as goal
 
 pub solve-requires : goal.solve-requires
-solve-requires g c = rw c.as_slice.ensures.value
-    (may_be_asked (g.S.Shelf.holds c.args.shelf.now) c.args.problem.now
-    c.args.task.now.fixings c.in-Ok.asked.items (rw c.as_ref.ensures.value at c.in-Ok.ensures.ok))
+solve-requires g c =
+    let holds = g.S.Shelf.holds c.args.shelf.now in
+    let fixings = c.args.task.now.fixings in
+    let asked = c.in-Ok.asked.items in (
+      record { shared = c.type_bounds.sync-R.shared },
+      (
+        record { shared = c.type_bounds.sync-G.shared },
+        rw c.as_slice.ensures.value
+            (may_be_asked holds c.args.problem.now fixings asked
+            (rw c.as_ref.ensures.value at c.in-Ok.ensures.ok)),
+      ),
+    )
 
 pub returns-in-Ok-clause-ok : goal.returns-in-Ok-clause-ok
 returns-in-Ok-clause-ok g c = IfOk-weaker c.solve.result _ _ (λ answer h. record {

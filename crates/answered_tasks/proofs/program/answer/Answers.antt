@@ -1,0 +1,40 @@
+use Rattle.std.proofs.Common.{refl}
+use Rattle.text_puts.specs.Outside.{outside}
+use Rattle.answered_tasks.proofs.Ended.{ends_of_answer, ends_of_stop, read_well}
+use Rattle.answered_tasks.proofs.program.answer.Goals as goal
+
+pub returns-in-Ok : goal.returns-in-Ok
+returns-in-Ok g c =
+    let old = outside (g.S.Shelf.holds c.args.shelf.now) (g.S.Shelf.reading_faults c.args.shelf.now)
+    (g.S.Shelf.putting_faults c.args.shelf.now) (g.O.Sink.faults c.args.out.now)
+    (g.O.Sink.written c.args.out.now) in
+    let mid = outside (g.S.Shelf.holds c.run.new.shelf) (g.S.Shelf.reading_faults c.run.new.shelf)
+    (g.S.Shelf.putting_faults c.run.new.shelf) (g.O.Sink.faults c.args.out.now)
+    (g.O.Sink.written c.args.out.now) in
+    let new = outside (g.S.Shelf.holds c.publish-status.new.shelf)
+    (g.S.Shelf.reading_faults c.publish-status.new.shelf)
+    (g.S.Shelf.putting_faults c.publish-status.new.shelf) (g.O.Sink.faults c.publish-status.new.out)
+    (g.O.Sink.written c.publish-status.new.out) in
+    record {
+      ends = λ words read. ends_of_answer words old mid new c.in-Ok.answer c.publish-status.result _
+          (c.in-Ok.ensures.ok words read) c.in-Ok.ensures.status c.into_vec.ensures
+          (read_well old.reading mid.reading new.reading _
+          (λ name. (c.in-Ok.ensures.counts words name read).never_falls) c.in-Ok.ensures.failed (λ e. e)
+          c.publish-status.ensures.readings) c.in-Ok.ensures.held c.in-Ok.ensures.puttings refl refl
+          c.publish-status.ensures.ends c.publish-status.ensures.risen c.publish-status.ensures.others;
+    }
+
+pub returns-in-Err : goal.returns-in-Err
+returns-in-Err g c =
+    let old = outside (g.S.Shelf.holds c.args.shelf.now) (g.S.Shelf.reading_faults c.args.shelf.now)
+    (g.S.Shelf.putting_faults c.args.shelf.now) (g.O.Sink.faults c.args.out.now)
+    (g.O.Sink.written c.args.out.now) in
+    let new = outside (g.S.Shelf.holds c.run.new.shelf) (g.S.Shelf.reading_faults c.run.new.shelf)
+    (g.S.Shelf.putting_faults c.run.new.shelf) (g.O.Sink.faults c.stop.new.out)
+    (g.O.Sink.written c.stop.new.out) in
+    record {
+      ends = λ words read. ends_of_stop words old new c.in-Err.cause c.stop.result _ (c.in-Err.ensures.no words read)
+          c.stop.ensures (record { held = c.in-Err.ensures.held; counts = c.in-Err.ensures.puttings })
+          c.new.ensures.items (λ name. c.in-Err.ensures.counts words name read) c.in-Err.ensures.one
+          c.in-Err.ensures.failed;
+    }
