@@ -14,7 +14,7 @@ use Rattle.answered_tasks.specs.Files.{IsProblemFile}
 use Rattle.answered_tasks.specs.Outside.{ReadsNames}
 use Rattle.rolling_driver.specs.Rolled.{Fed, IsRolled}
 use Rattle.dispatch_cli.specs.declared.roll_no.RollNo.{RollNo}
-use Rattle.dispatch_cli.specs.declared.roll_no.RollNo.TheVariants as no
+use Rattle.dispatch_cli.specs.declared.roll_no.RollNo.TheVariants as roll_no
 use Rattle.dispatch_cli.specs.Feeds.{AreFed, IsUnopened}
 use Rattle.dispatch_cli.specs.Stops.{StopsWith, IsFault}
 
@@ -30,20 +30,25 @@ pub record IsWithoutFeed (task : RollTask) (holds : Holdings) (old new : Counts)
 
 -- this has happened, so that the roll did not begin
 abbrev pub StopsRoll : RollTask → Holdings → Counts → Counts → RollNo → Type 0
-StopsRoll task holds old new (no.TooManyFeeds count) = (count ≡ length task.feeds) × ((MOST_CALLERS < count) × ((name : List ℕ) → new name ≡ old name))
-StopsRoll task holds old new (no.Problem why) = StopsProblem holds old new task.problem why
-StopsRoll task holds old new (no.FeedFailed number) = IsWithoutFeed task holds old new number
-StopsRoll task holds old new no.Memory = (name : List ℕ) → new name ≡ old name
+StopsRoll task holds old new (roll_no.TooManyFeeds count) = (count ≡ length task.feeds) × (MOST_CALLERS < count)
+StopsRoll task holds old new (roll_no.Problem why) = StopsProblem holds old new task.problem why
+StopsRoll task holds old new (roll_no.FeedFailed number) = IsWithoutFeed task holds old new number
+StopsRoll task holds old new roll_no.Memory = Unit {0}
 
--- it did not begin: its cause is told, the journal is empty, nothing is put, and every name holds what it held
+-- only names of the task were read, a count rose only where that is the cause, and of one name alone; nothing is put, and every name
+-- holds what it held
+abbrev pub ReadsInputs : RollTask → Outside → Outside → RollNo → Type 0
+ReadsInputs task old new why = ReadsNames (IsInput task) old.reading new.reading old.putting new.putting old.holds new.holds (IsFault why)
+
+-- it did not begin: the cause is told, and the journal is empty
 pub record EndsStopped (task : RollTask) (old new : Outside) (status : ℕ) (journal : List Entry) : Type 0 where
-  pub no : RollNo
-  pub stops : StopsRoll task old.holds old.reading new.reading no
+  pub why : RollNo
+  pub stops : StopsRoll task old.holds old.reading new.reading why
+  pub reads : ReadsInputs task old new why
+  pub told : StopsWith old.faults new.faults old.written new.written why status
   pub journal_is : journal ≡ []
-  pub told : StopsWith old.faults new.faults old.written new.written no status
-  pub reads : ReadsNames (IsInput task) old.reading new.reading old.putting new.putting old.holds new.holds (IsFault no)
 
--- two moments with the same names, counts and output
+-- two moments with the same files, counts and output
 pub record IsAsBefore (old new : Outside) : Type 0 where
   pub holds : (name : List ℕ) → new.holds name ≡ old.holds name
   pub reading : (name : List ℕ) → new.reading name ≡ old.reading name
@@ -51,15 +56,19 @@ pub record IsAsBefore (old new : Outside) : Type 0 where
   pub faults : new.faults ≡ old.faults
   pub written : new.written ≡ old.written
 
--- the problem was read and the feeds were opened, which left all as before, and then they ran
-pub record EndsRun (task : RollTask) (old new : Outside) (status : ℕ) (journal : List Entry) : Type 0 where
-  pub problem : Problem
-  pub file : IsProblemFile old.holds task.problem problem
+-- the feeds were opened, which left all as before, and ran with a problem
+pub record RunsFeeds (task : RollTask) (problem : Problem) (old new : Outside) (status : ℕ) (journal : List Entry) : Type 0 where
   pub feeds : List Fed
   pub fed : AreFed old.holds task.feeds feeds
   pub start : Outside
   pub begins : IsAsBefore old start
   pub ran : IsRolled problem (roll_settings_of task) task.trees feeds start new journal status
+
+-- the problem was read, and the feeds ran with it
+pub record EndsRun (task : RollTask) (old new : Outside) (status : ℕ) (journal : List Entry) : Type 0 where
+  pub problem : Problem
+  pub file : IsProblemFile old.holds task.problem problem
+  pub runs : RunsFeeds task problem old new status journal
 
 -- how a roll ends
 abbrev pub EndsRoll : RollTask → Outside → Outside → ℕ → List Entry → Type 0
@@ -74,3 +83,12 @@ pub record RollsAs (words : List (List ℕ)) (old new : Outside) (status : ℕ) 
 -- how the program ends
 abbrev pub EndsAs : List (List ℕ) → Outside → Outside → ℕ → List Entry → Type 0
 EndsAs words old new status journal = Ends words old new status journal ⊎ RollsAs words old new status journal
+
+-- ---- for private clauses
+
+-- a roll has not begun, and nothing was written
+pub record HasNotBegun (task : RollTask) (old new : Outside) (why : RollNo) : Type 0 where
+  pub stops : StopsRoll task old.holds old.reading new.reading why
+  pub reads : ReadsInputs task old new why
+  pub faults : new.faults ≡ old.faults
+  pub written : new.written ≡ old.written

@@ -38,10 +38,15 @@ IsFault (Problem why) = IsReadingFault why
 IsFault (FeedFailed number) = Unit {0}
 IsFault Memory = ⊥
 
--- how the writing of its line ends
-pub record StopsWith (old_faults new_faults : ℕ) (old new : Option (List ℕ)) (no : RollNo) (status : ℕ) : Type 0 where
+-- how the writing of a line ends that is due: the status is the wanted one, and the line went out, or some of it where a write failed;
+-- or it is that for want of memory
+pub record Tells (old_faults new_faults : ℕ) (old new : Option (List ℕ)) (text due : List ℕ) (wanted status : ℕ) : Type 0 where
   pub counted : old_faults ≤ new_faults
-  pub statuses : (status ≡ status_of no) ⊎ (status ≡ 5)
-  pub part : status ≢ 5 → WritesPart old new (line_of no)
-  pub whole : status ≢ 5 → new_faults ≡ old_faults → Writes old new (line_of no)
-  pub memory : status ≡ 5 → WritesThenGivesUp old new (due_line no)
+  pub statuses : (status ≡ wanted) ⊎ (status ≡ 5)
+  pub part : status ≢ 5 → WritesPart old new text
+  pub whole : status ≢ 5 → new_faults ≡ old_faults → Writes old new text
+  pub memory : status ≡ 5 → WritesThenGivesUp old new due
+
+-- how the writing of the line for what stopped a roll ends
+abbrev pub StopsWith : ℕ → ℕ → Option (List ℕ) → Option (List ℕ) → RollNo → ℕ → Type 0
+StopsWith old_faults new_faults old new why status = Tells old_faults new_faults old new (line_of why) (due_line why) (status_of why) status

@@ -1,8 +1,6 @@
-ghost use Rattle.std.specs.Prelude.{◌≡◌, ◌<◌, ◌↔◌, All, List, ℕ, IfOk, IfErr, IsErrAnd, OnErr, length, map};
-ghost use Rattle.answered_tasks.specs.Outside.{ReadsNames};
-ghost use Rattle.rolling_driver.specs.Rolled.{AreNew, fed};
-ghost use Rattle.dispatch_cli.specs.Feeds.{AreFed, StopsFeeds};
-ghost use Rattle.dispatch_cli.specs.Stops.{IsFault};
+ghost use Rattle.std.specs.Prelude.{◌≡◌, ◌≢◌, ◌≤◌, All, List, ℕ, [], OnOk, OnErr, IfOk, IfErr};
+ghost use Rattle.rolling_driver.specs.Rolled.{AreNew};
+ghost use Rattle.dispatch_cli.specs.Feeds.{AreOpened, OpensOne, StopsFeed, StopsFeeds};
 
 use crate::roll_no::RollNo;
 use disp_model::Text;
@@ -31,7 +29,23 @@ fn open_next<S: Shelf>(
     name: &str,
     number: u64,
     feeds: &mut Vec<S::Feed>,
-) -> Result<(), RollNo> {
+) -> Result<(), RollNo>
+    ensures ok { OnOk result
+        (OpensOne S.Feed.name S.Feed.lines S.Feed.has_ended S.Feed.faults (S.holds shelf.old)
+        name.now feeds.old.items feeds.new.items) }
+    ensures known { OnOk result (S.knows shelf.new name.now) }
+    ensures quiet { OnOk result
+        (S.reading_faults shelf.new name.now ≡ S.reading_faults shelf.old name.now) }
+    ensures same { OnErr result (feeds.new.items ≡ feeds.old.items) }
+    ensures no { IfErr result (StopsFeed name.now number (S.reading_faults shelf.old)
+        (S.reading_faults shelf.new)) }
+    ensures others { (other : List ℕ) → other ≢ name.now
+        → S.reading_faults shelf.new other ≡ S.reading_faults shelf.old other }
+    ensures still { (other : List ℕ) → S.knows shelf.old other → S.knows shelf.new other }
+    ensures puttings { (other : List ℕ) → S.putting_faults shelf.new other
+        ≡ S.putting_faults shelf.old other }
+    ensures held { (other : List ℕ) → S.holds shelf.new other ≡ S.holds shelf.old other }
+{
     feeds.reserve(1)?;
     match shelf.feed(alloc, name) {
         Ok(feed) => {
@@ -49,11 +63,27 @@ fn open_each<S: Shelf>(
     shelf: &mut S,
     names: &[Text],
     feeds: &mut Vec<S::Feed>,
-) -> Result<(), RollNo> {
+) -> Result<(), RollNo>
+    requires none { feeds.old.items ≡ [] }
+    ensures ok { OnOk result
+        (AreOpened S.Feed.name S.Feed.lines S.Feed.has_ended S.Feed.faults (S.holds shelf.old)
+        names.now feeds.new.items) }
+    ensures known { All (λ feed. S.knows shelf.new (S.Feed.name feed)) feeds.new.items }
+    ensures are_new { AreNew S.Feed.has_ended S.Feed.faults feeds.new.items }
+    ensures quiet { OnOk result ((name : List ℕ) → S.reading_faults shelf.new name
+        ≡ S.reading_faults shelf.old name) }
+    ensures no { IfErr result (StopsFeeds names.now (S.reading_faults shelf.old)
+        (S.reading_faults shelf.new)) }
+    ensures puttings { (name : List ℕ) → S.putting_faults shelf.new name
+        ≡ S.putting_faults shelf.old name }
+    ensures held { (name : List ℕ) → S.holds shelf.new name ≡ S.holds shelf.old name }
+{
     let mut number = 0;
     for name in names {
-        open_next(alloc, shelf, name.as_str(), number, feeds)?;
-        number += 1;
+        match open_next(alloc, shelf, name.as_str(), number, feeds) {
+            Ok(()) => number += 1,
+            Err(no) => return Err(no),
+        }
     }
     Ok(())
 }
@@ -67,7 +97,20 @@ pub(crate) fn open_feeds<S: Shelf>(
     alloc: Global,
     shelf: &mut S,
     names: &[Text],
-) -> Result<Vec<S::Feed>, RollNo> {
+) -> Result<Vec<S::Feed>, RollNo>
+    ensures ok { IfOk result (λ feeds.
+        AreOpened S.Feed.name S.Feed.lines S.Feed.has_ended S.Feed.faults (S.holds shelf.old)
+        names.now feeds.items) }
+    ensures known { IfOk result
+        (λ feeds. All (λ feed. S.knows shelf.new (S.Feed.name feed)) feeds.items) }
+    ensures quiet { OnOk result ((name : List ℕ) → S.reading_faults shelf.new name
+        ≡ S.reading_faults shelf.old name) }
+    ensures no { IfErr result (StopsFeeds names.now (S.reading_faults shelf.old)
+        (S.reading_faults shelf.new)) }
+    ensures puttings { (name : List ℕ) → S.putting_faults shelf.new name
+        ≡ S.putting_faults shelf.old name }
+    ensures held { (name : List ℕ) → S.holds shelf.new name ≡ S.holds shelf.old name }
+{
     let mut feeds = Vec::new(alloc);
     match open_each(alloc, shelf, names, &mut feeds) {
         Ok(()) => Ok(feeds),

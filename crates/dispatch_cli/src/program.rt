@@ -1,3 +1,7 @@
+ghost use Rattle.std.specs.Prelude.{map, string_bytes};
+ghost use Rattle.text_puts.specs.Outside.{outside};
+ghost use Rattle.dispatch_cli.specs.Rolls.{EndsAs};
+
 use crate::roll::run_roll;
 use answered_tasks::{Done, answer};
 use command_words::{Task, read_words};
@@ -35,7 +39,13 @@ pub fn dispatch<R: Threads + Wait + Sync, S: Shelf, O: Sink, G: Gate>(
     shelf: &mut S,
     out: &mut O,
     gate: &G,
-) -> Done {
+) -> Done
+    ensures ends { EndsAs (map (λ word. string_bytes word) words.now)
+        (outside (S.holds shelf.old) (S.reading_faults shelf.old) (S.putting_faults shelf.old)
+        (O.faults out.old) (O.written out.old))
+        (outside (S.holds shelf.new) (S.reading_faults shelf.new) (S.putting_faults shelf.new)
+        (O.faults out.new) (O.written out.new)) result.status result.journal.items }
+{
     match read_words(alloc, words) {
         Ok(Task::Roll(task)) => run_roll(rt, alloc, &task, shelf, out, gate),
         read => answer(rt, alloc, read, shelf, out, gate),

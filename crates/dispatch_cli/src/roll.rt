@@ -1,3 +1,12 @@
+ghost use Rattle.std.specs.Prelude.{◌≡◌, ◌≤◌, ℕ, List, IfOk, IfErr, IsErrAnd, OnErr, length};
+ghost use Rattle.disp_model.specs.declared.limits.TheConstants.{MOST_CALLERS as most};
+ghost use Rattle.text_puts.specs.Outside.{outside};
+ghost use Rattle.answered_tasks.specs.Files.{IsProblemFile};
+ghost use Rattle.answered_tasks.specs.Outside.{ReadsOne};
+ghost use Rattle.dispatch_cli.specs.Feeds.{StopsFeeds};
+ghost use Rattle.dispatch_cli.specs.Rolls.{StopsRoll, HasNotBegun, RunsFeeds, EndsRun, EndsRoll};
+ghost use Rattle.dispatch_cli.specs.Stops.{IsFault};
+
 use crate::feeds::open_feeds;
 use crate::roll_no::{RollNo, stop_roll};
 use answered_tasks::{Done, problem_file};
@@ -10,7 +19,15 @@ use std::sync::Wait;
 use std::thread::Threads;
 
 /// The problem of a task's file, where it names no more feeds than there may be.
-fn problem_of<S: Shelf>(alloc: Global, shelf: &mut S, task: &RollTask) -> Result<Problem, RollNo> {
+fn problem_of<S: Shelf>(alloc: Global, shelf: &mut S, task: &RollTask) -> Result<Problem, RollNo>
+    ensures ok { IfOk result (IsProblemFile (S.holds shelf.old) task.now.problem) }
+    ensures few { IfOk result (λ _. length task.now.feeds ≤ most) }
+    ensures no { IfErr result (StopsRoll task.now (S.holds shelf.old)
+        (S.reading_faults shelf.old) (S.reading_faults shelf.new)) }
+    ensures reads { ReadsOne task.now.problem (S.reading_faults shelf.old)
+        (S.reading_faults shelf.new) (S.putting_faults shelf.old) (S.putting_faults shelf.new)
+        (S.holds shelf.old) (S.holds shelf.new) (IsErrAnd result IsFault) }
+{
     let count = task.feeds.len();
     if count > MOST_CALLERS as usize {
         return Err(RollNo::TooManyFeeds(count as u64));
@@ -30,8 +47,26 @@ fn roll_feeds<R: Threads + Wait + Sync, S: Shelf, O: Sink, G: Gate>(
     shelf: &mut S,
     out: &mut O,
     gate: &G,
-) -> Result<Rolled, RollNo> {
-    let feeds = open_feeds(alloc, shelf, task.feeds.as_slice())?;
+) -> Result<Rolled, RollNo>
+    requires few { length task.now.feeds ≤ most }
+    ensures ok { IfOk result (λ rolled. RunsFeeds task.now problem.now
+        (outside (S.holds shelf.old) (S.reading_faults shelf.old) (S.putting_faults shelf.old)
+        (O.faults out.old) (O.written out.old))
+        (outside (S.holds shelf.new) (S.reading_faults shelf.new) (S.putting_faults shelf.new)
+        (O.faults out.new) (O.written out.new)) rolled.status rolled.journal.items) }
+    ensures no { IfErr result (StopsFeeds task.now.feeds (S.reading_faults shelf.old)
+        (S.reading_faults shelf.new)) }
+    ensures puttings { OnErr result ((name : List ℕ) → S.putting_faults shelf.new name
+        ≡ S.putting_faults shelf.old name) }
+    ensures held { OnErr result ((name : List ℕ) → S.holds shelf.new name
+        ≡ S.holds shelf.old name) }
+    ensures faults { OnErr result (O.faults out.new ≡ O.faults out.old) }
+    ensures written { OnErr result (O.written out.new ≡ O.written out.old) }
+{
+    let feeds = match open_feeds(alloc, shelf, task.feeds.as_slice()) {
+        Ok(feeds) => feeds,
+        Err(no) => return Err(no),
+    };
     let trees = task.trees.as_ref();
     let settings = task.settings();
     match roll(
@@ -59,9 +94,22 @@ fn rolled_of<R: Threads + Wait + Sync, S: Shelf, O: Sink, G: Gate>(
     shelf: &mut S,
     out: &mut O,
     gate: &G,
-) -> Result<Rolled, RollNo> {
-    let problem = problem_of(alloc, shelf, task)?;
-    roll_feeds(rt, alloc, &problem, task, shelf, out, gate)
+) -> Result<Rolled, RollNo>
+    ensures ok { IfOk result (λ rolled. EndsRun task.now
+        (outside (S.holds shelf.old) (S.reading_faults shelf.old) (S.putting_faults shelf.old)
+        (O.faults out.old) (O.written out.old))
+        (outside (S.holds shelf.new) (S.reading_faults shelf.new) (S.putting_faults shelf.new)
+        (O.faults out.new) (O.written out.new)) rolled.status rolled.journal.items) }
+    ensures no { IfErr result (HasNotBegun task.now
+        (outside (S.holds shelf.old) (S.reading_faults shelf.old) (S.putting_faults shelf.old)
+        (O.faults out.old) (O.written out.old))
+        (outside (S.holds shelf.new) (S.reading_faults shelf.new) (S.putting_faults shelf.new)
+        (O.faults out.new) (O.written out.new))) }
+{
+    match problem_of(alloc, shelf, task) {
+        Ok(problem) => roll_feeds(rt, alloc, &problem, task, shelf, out, gate),
+        Err(no) => Err(no),
+    }
 }
 
 /// Runs a task, and says how it ended.
@@ -72,7 +120,13 @@ pub(crate) fn run_roll<R: Threads + Wait + Sync, S: Shelf, O: Sink, G: Gate>(
     shelf: &mut S,
     out: &mut O,
     gate: &G,
-) -> Done {
+) -> Done
+    ensures ends { EndsRoll task.now
+        (outside (S.holds shelf.old) (S.reading_faults shelf.old) (S.putting_faults shelf.old)
+        (O.faults out.old) (O.written out.old))
+        (outside (S.holds shelf.new) (S.reading_faults shelf.new) (S.putting_faults shelf.new)
+        (O.faults out.new) (O.written out.new)) result.status result.journal.items }
+{
     match rolled_of(rt, alloc, task, shelf, out, gate) {
         Ok(rolled) => Done {
             status: rolled.status,

@@ -1,6 +1,6 @@
-ghost use Rattle.std.specs.Prelude.{◌≡◌, IfOk, string_bytes};
+ghost use Rattle.std.specs.Prelude.{◌≡◌, ◌≢◌, List, ℕ, IfOk, string_bytes};
 ghost use Rattle.dispatch_cli.specs.declared.roll_no.RollNo.TheVariants.{TooManyFeeds, FeedFailed};
-ghost use Rattle.dispatch_cli.specs.Stops.{StopsWith, line_of};
+ghost use Rattle.dispatch_cli.specs.Stops.{StopsWith, Tells, line_of};
 
 use answered_tasks::{Cause, give_up, stop};
 use disp_model::Memory;
@@ -46,7 +46,12 @@ fn failed_line(alloc: Global, number: u64) -> Result<String, Memory>
 }
 
 /// Writes a line, if there was room for it, and gives the status.
-fn tell<O: Sink>(out: &mut O, line: Result<String, Memory>, status: u8) -> u8 {
+fn tell<O: Sink>(out: &mut O, line: Result<String, Memory>, status: u8) -> u8
+    requires { status ≢ 5 }
+    ensures { (text : List ℕ) → IfOk line (λ line. string_bytes line ≡ text)
+        → Tells (O.faults out.old) (O.faults out.new) (O.written out.old) (O.written out.new)
+        text text status result }
+{
     let Ok(line) = line else {
         return give_up(out);
     };

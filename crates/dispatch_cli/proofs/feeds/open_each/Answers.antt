@@ -1,0 +1,28 @@
+use Rattle.std.proofs.Common.{ℕ, ◌+◌, ◌∙◌, length, refl, ap}
+use Rattle.std.proofs.lemmas.Option.{slice_get_read}
+use Rattle.text_puts.proofs.Counting.{same_all}
+use Rattle.dispatch_cli.proofs.Opening.{stops_more, opened_more, known_more, read_at}
+use Rattle.dispatch_cli.proofs.feeds.open_each.Goals as goal
+
+pub returns-in-Err-clause-no : goal.returns-in-Err-clause-no
+returns-in-Err-clause-no g c =
+    let inv = c.loop-name.invariant in let names = c.args.names.now in
+    let is = read_at names c.loop-name.name-index c.name-item.result c.as_str.result.now c.name-item.is c.as_str.ensures in
+    stops_more names c.loop-name.name-index c.as_str.result.now c.loop-name.number _ _ _ c.in-Err.no
+    (slice_get_read names (length names) c.loop-name.name-index c.as_str.result.now refl c.loop-name-test.true is) inv.number inv.quiet c.open_next.ensures.others
+    c.in-Err.ensures.no
+
+pub loop-name-preserved : goal.loop-name-preserved
+loop-name-preserved g c =
+    let inv = c.loop-name.invariant in let names = c.args.names.now in let one = c.as_str.result.now in
+    let is = read_at names c.loop-name.name-index c.name-item.result one c.name-item.is c.as_str.ensures in
+    record {
+      number = ap (λ (n : ℕ). n + 1) inv.number;
+      opened = opened_more g.S.Feed.Feed.name g.S.Feed.Feed.lines g.S.Feed.Feed.has_ended g.S.Feed.Feed.faults (g.S.Shelf.holds c.args.shelf.now)
+          (g.S.Shelf.holds c.loop-name.shelf) names c.loop-name.name-index one _ _ c.loop-name-test.true is inv.held inv.opened c.in-Ok.ensures.ok;
+      known = known_more g.S.Feed.Feed.name g.S.Feed.Feed.lines g.S.Feed.Feed.has_ended g.S.Feed.Feed.faults (g.S.Shelf.knows c.loop-name.shelf)
+          (g.S.Shelf.knows c.open_next.new.shelf) (g.S.Shelf.holds c.loop-name.shelf) one _ _ c.open_next.ensures.still c.in-Ok.ensures.known inv.known c.in-Ok.ensures.ok;
+      quiet = λ name. same_all one _ _ c.in-Ok.ensures.quiet c.open_next.ensures.others name ∙ inv.quiet name;
+      puttings = λ name. c.open_next.ensures.puttings name ∙ inv.puttings name;
+      held = λ name. c.open_next.ensures.held name ∙ inv.held name;
+    }
