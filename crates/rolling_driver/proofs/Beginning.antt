@@ -1,6 +1,5 @@
 -- Passes for the feeds and the searchers of a run.
-use Rattle.std.proofs.Common.{◌≡◌, ◌∙◌, ℕ, ◌+◌, ◌<◌, ◌≤◌, Bool, false, List, [], All, Contains, get_or, length, map, refl, sym, ap, subst, arith}
-use Rattle.std.specs.Prelude.{Some}
+use Rattle.std.proofs.Common.{◌≡◌, ◌∙◌, ℕ, ◌<◌, ◌≤◌, Bool, false, List, All, get_or, length, map, refl, sym, ap, subst, arith}
 use Rattle.std.proofs.lemmas.List.{get_or-map, length-map}
 use Rattle.std.proofs.lemmas.Option.{slice_get-get_or}
 use Rattle.disp_model.specs.declared.entry.Entry.{Entry}

@@ -1,6 +1,5 @@
 -- The passes of a run that are joined.
-use Rattle.std.proofs.Common.{◌≡◌, ◌∙◌, ℕ, ◌+◌, ◌≤◌, inl, inr, List, [], ◌∷◌, ◌++◌, All, Contains, Option, Result, Ok, Err, drop, length, map, refl, sym, ap, subst, append_assoc}
-use Rattle.std.proofs.lemmas.List.{map-append}
+use Rattle.std.proofs.Common.{◌≡◌, ◌∙◌, ℕ, inl, List, [], ◌∷◌, ◌++◌, All, Contains, map, refl, sym, ap, subst, append_assoc}
 use Rattle.disp_model.specs.declared.entry.Entry.{Entry}
 use Rattle.turn_lock.specs.Known.{Known, IsLast, StartsWith, joined_known}
 use Rattle.turn_lock.specs.Section.{OwnsPlaces}

@@ -6,3 +6,4 @@ pub mod Shifting
 pub mod Beginning
 pub mod Joining
 pub mod Whose
+pub mod Whole

@@ -6,9 +6,9 @@ use Rattle.disp_model.specs.declared.entry.Entry.{Entry}
 use Rattle.text_puts.specs.Outside.{Counts, Outside}
 use Rattle.journal_printer.specs.declared.no.PrintNo.{PrintNo}
 use Rattle.journal_printer.specs.declared.no.PrintNo.TheVariants.{Unput, Unwritten, Memory}
-use Rattle.journal_printer.specs.Printing.{PrintsAll, MissesTree, MissesLine, RunsOut, StopsPrinting, Prints}
+use Rattle.journal_printer.specs.Printing.{PrintsAll, StopsPrinting, Prints}
 use Rattle.rolling_driver.specs.Ended.{PrintsBehind, PrintsRest}
-use Rattle.rolling_driver.specs.Printed.{PrintsFront, PrintsJournal}
+use Rattle.rolling_driver.specs.Printed.{PrintsJournal}
 
 -- the outside with other counts of readings
 abbrev pub with_readings : Outside → Counts → Outside

@@ -1,8 +1,8 @@
 -- What a run leaves: whose the entries of its journal are.
-use Rattle.std.proofs.Common.{◌≡◌, ◌≢◌, ◌∙◌, ℕ, zero, suc, ◌+◌, ◌-◌, ◌<◌, ◌≤◌, ◌⊎◌, inl, inr, ⊎_elim, Bool, true, false, List, [], ◌∷◌, ◌++◌, All, AllPairs, Contains, Option, get_or, length, map, refl, sym, ap, subst, arith}
+use Rattle.std.proofs.Common.{◌≡◌, ◌≢◌, ◌∙◌, ℕ, zero, suc, ◌+◌, ◌-◌, ◌<◌, ◌≤◌, ◌⊎◌, inl, inr, ⊎_elim, Bool, true, false, List, [], ◌∷◌, ◌++◌, All, Contains, Option, get_or, length, map, refl, sym, ap, subst, arith}
 use Rattle.std.specs.Prelude.{Some, slice_get}
 use Rattle.std.proofs.lemmas.Bool.{cases_lt}
-use Rattle.std.proofs.lemmas.List.{get_or_append_left, get_or-append-add, length-append, length-map}
+use Rattle.std.proofs.lemmas.List.{get_or_append_left, get_or-append-add, get_or-map, length-append, length-map}
 use Rattle.std.proofs.lemmas.List.Elements.{All-append, All-contains, Contains-append_cases, Contains-append_left, Contains-append_right}
 use Rattle.std.proofs.lemmas.Option.{none-some, slice_get-get_or}
 use Rattle.plain_values.proofs.Lists.{contains_none_where, contains_one}
@@ -14,7 +14,7 @@ use Rattle.turn_lock.specs.Section.{OwnsPlaces}
 use Rattle.turn_lock.proofs.Beginnings.{either_bool, starts_back}
 use Rattle.shared_board.specs.declared.pass.Pass.{Pass}
 use Rattle.shared_board.specs.declared.terms.Terms.{Terms}
-use Rattle.shared_board.specs.Board.{board_of, own_board, known, lines}
+use Rattle.shared_board.specs.Board.{known}
 use Rattle.shared_board.specs.Callers.{caller_of, is_line_of, lines_of, searcher_caller}
 use Rattle.shared_board.specs.Onward.{entries_by}
 use Rattle.shared_board.proofs.LineCounts.{named_line}
@@ -24,7 +24,7 @@ use Rattle.crew_runs.specs.declared.searcher.Searcher.{Searcher}
 use Rattle.crew_runs.specs.Seats.{HaveRun, searchers_to, with_searchers}
 use Rattle.crew_runs.proofs.Ended.{all_back, board_at, caller_is, none_back, owns_at, quiet_at}
 use Rattle.feed_runs.specs.declared.reader.Reader.{Reader}
-use Rattle.feed_runs.specs.Readers.{AreReaders, HasRead, HaveRead, IsReader, feeds_to}
+use Rattle.feed_runs.specs.Readers.{HasRead, HaveRead, IsReader, feeds_to}
 use Rattle.rolling_driver.specs.Ended.{MayEnd, known_of, reader_passes, searcher_passes}
 use Rattle.rolling_driver.specs.Opened.{IsOpened, opening, terms_for, with_feeds}
 use Rattle.rolling_driver.specs.Printed.{Watches}
@@ -90,6 +90,15 @@ module _ {F : Type 0} (name : F → List ℕ) (told : F → Option (List (List �
   pub read_at : (place : ℕ) (d : Reader F) → place < length feeds → HasRead told faults name (get_or run.readers.items place d) (get_or readers place d)
   read_at place d within = read.each place d (omega (arith, within, many_readers))
 
+  -- the names of the feeds stay known
+  pub names_known : (knows later : List ℕ → Type 0) → ((one : List ℕ) → knows one → later one) → All (λ feed. knows (name feed)) feeds → All (λ (r : Reader F). later (name r.feed)) readers
+  names_known knows later stay all place r within =
+      let inside : place < length feeds = omega (arith, within, read.as_many, many_readers) in
+      let feed_is : get_or feeds place r.feed ≡ (get_or run.readers.items place r).feed =
+      subst (λ (l : List F). get_or l place r.feed ≡ (get_or run.readers.items place r).feed) opened.feeds_are
+      (get_or-map (λ (x : Reader F). x.feed) run.readers.items place r r.feed (omega (arith, inside, many_readers))) in
+      stay (name (get_or readers place r).feed) (subst knows (ap name feed_is ∙ sym (read_at place r inside).name_is) (all place r.feed inside))
+
   pub caller_of_feed : (place : ℕ) (d : Reader F) → place < length feeds → (known (get_or readers place d).pass).caller ≡ place
   caller_of_feed place d within = (read_at place d within).goes.role.caller ∙ ap (λ (k : Known Entry Terms). k.caller) (reader_at place d within).knows
 
@@ -146,7 +155,7 @@ module _ {F : Type 0} (name : F → List ℕ) (told : F → Option (List (List �
     long_back = length-map (searcher_passes searchers) known ∙ length-map searchers (λ (s : Searcher). s.pass)
 
     -- the caller at a place: a feed's number, or a searcher's
-    IsNumbered : ℕ → ℕ → Type 0
+    abbrev IsNumbered : ℕ → ℕ → Type 0
     IsNumbered place caller = ((place < length feeds) × (caller ≡ place)) ⊎ ((length feeds ≤ place) × (caller ≡ searcher_caller (place - length feeds)))
 
     numbered : (place : ℕ) (d : Known Entry Terms) → place < length all → IsNumbered place (get_or all place d).caller
@@ -154,8 +163,11 @@ module _ {F : Type 0} (name : F → List ℕ) (told : F → Option (List (List �
         (λ (early : place < length feeds).
         let inside : place < length readers = omega (arith, early, read.as_many, many_readers) in
         let at = known_at (λ (r : Reader F). r.pass) readers place d inside in
-        inl (early, ap (λ (k : Known Entry Terms). k.caller) (get_or_append_left (map known (reader_passes readers)) (map known (searcher_passes searchers)) d place (omega (arith, early, long_front)) ∙ at.1)
-            ∙ caller_of_feed place at.0 early))
+        inl (
+          early,
+          ap (λ (k : Known Entry Terms). k.caller) (get_or_append_left (map known (reader_passes readers)) (map known (searcher_passes searchers)) d place (omega (arith, early, long_front)) ∙ at.1)
+              ∙ caller_of_feed place at.0 early,
+        ))
         (λ (late : length feeds ≤ place). later place d within late)
         (cases_lt place (length feeds))
       where
@@ -166,9 +178,12 @@ module _ {F : Type 0} (name : F → List ℕ) (told : F → Option (List (List �
             let inside : rest < length searchers = omega (arith, within, late, sum, long_front, long_back) in
             let at = known_at (λ (s : Searcher). s.pass) searchers rest d inside in
             let here : length (map known (reader_passes readers)) + rest ≡ place = omega (arith, late, long_front) in
-            inr (late, ap (λ (n : ℕ). (get_or all n d).caller) (sym here)
-                ∙ (ap (λ (k : Known Entry Terms). k.caller) (get_or-append-add (map known (reader_passes readers)) (map known (searcher_passes searchers)) rest d ∙ at.1)
-                ∙ caller_is run.board (with_feeds terms) run.searchers.items searchers opened.searchers ran rest at.0 (inside_ran rest inside)))
+            inr (
+              late,
+              ap (λ (n : ℕ). (get_or all n d).caller) (sym here)
+                  ∙ (ap (λ (k : Known Entry Terms). k.caller) (get_or-append-add (map known (reader_passes readers)) (map known (searcher_passes searchers)) rest d ∙ at.1)
+                  ∙ caller_is run.board (with_feeds terms) run.searchers.items searchers opened.searchers ran rest at.0 (inside_ran rest inside)),
+            )
 
     differ : (i j one other : ℕ) → i < j → IsNumbered i one → IsNumbered j other → one ≢ other
     differ i j one other below (inl a) (inl b) same = absurd (omega (arith, below, a.1, b.1, same))
@@ -209,7 +224,7 @@ module _ {F : Type 0} (name : F → List ℕ) (told : F → Option (List (List �
         known_here (x ∷ xs) (suc place) d within = known_here xs place d (omega (arith, within))
 
     -- nobody else has a line
-    IsFeedOrQuiet : Known Entry Terms → Type 0
+    abbrev IsFeedOrQuiet : Known Entry Terms → Type 0
     IsFeedOrQuiet w = (w.caller < length feeds) ⊎ (lines_of w.caller w.seen ≡ 0)
 
     pub no_other_lines : (other : ℕ) → length feeds ≤ other → entries_by other history ≡ []
@@ -217,8 +232,8 @@ module _ {F : Type 0} (name : F → List ℕ) (told : F → Option (List (List �
         let found = owner (known first) all history joined place e other there (named_line other e line) in
         let seen = starts_back history found.0.seen (begins (known first) all history joined found.0 found.1) place e found.3 there in
         let kind = All-contains IsFeedOrQuiet all found.0
-            (both IsFeedOrQuiet (λ k d within. inl (let own = caller_of_feed k d within in omega (arith, own, within)))
-            (λ k d within. inr (quiet_at run.board (with_feeds terms) run.searchers.items searchers opened.searchers ran k d within))) found.1 in
+        (both IsFeedOrQuiet (λ k d within. inl (let own = caller_of_feed k d within in omega (arith, own, within)))
+        (λ k d within. inr (quiet_at run.board (with_feeds terms) run.searchers.items searchers opened.searchers ran k d within))) found.1 in
         ⊎_elim
         (λ (feed : found.0.caller < length feeds). let own = found.2 in omega (arith, feed, own, late))
         (λ (quiet : lines_of found.0.caller found.0.seen ≡ 0). no_line found.0.caller found.0.seen place e quiet seen (subst (λ (n : ℕ). is_line_of n e ≡ true) (sym found.2) line))

@@ -1,4 +1,4 @@
-ghost use Rattle.std.specs.Prelude.{◌≡◌, ◌≤◌, All, IfOk, length, option_map};
+ghost use Rattle.std.specs.Prelude.{◌≡◌, ◌≤◌, All, IfOk, OnErr, length, option_map};
 ghost use Rattle.disp_model.specs.declared.limits.TheConstants.{MOST_CALLERS};
 ghost use Rattle.text_puts.specs.Outside.{outside};
 ghost use Rattle.rolling_driver.specs.Opened.{AreNew};
@@ -52,6 +52,11 @@ pub fn roll<R: Threads + Wait + Sync, S: Shelf, O: Sink, G: Gate>(
         (O.faults out.old) (O.written out.old))
         (outside (S.holds shelf.new) (S.reading_faults shelf.new) (S.putting_faults shelf.new)
         (O.faults out.new) (O.written out.new)) rolled.journal.items rolled.status) }
+    ensures refused { OnErr result (
+        outside (S.holds shelf.new) (S.reading_faults shelf.new) (S.putting_faults shelf.new)
+        (O.faults out.new) (O.written out.new)
+        ≡ outside (S.holds shelf.old) (S.reading_faults shelf.old) (S.putting_faults shelf.old)
+        (O.faults out.old) (O.written out.old)) }
 {
     let Run {
         board,
@@ -75,7 +80,7 @@ pub fn roll<R: Threads + Wait + Sync, S: Shelf, O: Sink, G: Gate>(
         trees,
     );
     let ended = ended_of(readers.as_slice());
-    let (mut core, printed) = end_run(
+    let (core, printed) = end_run(
         rt, alloc, board, first, readers, searchers, printed, shelf, out, trees,
     );
     let mark = core.standing().mark;

@@ -1,12 +1,12 @@
-use Rattle.std.proofs.Common.{◌≡◌, ◌∙◌, ℕ, List, All, Contains, drop, length, map, option_map, sym, ap, subst}
+use Rattle.std.proofs.Common.{◌≡◌, ◌∙◌, ℕ, List, All, Contains, drop, length, map, option_map, sym, subst}
 use Rattle.disp_model.specs.declared.entry.Entry.{Entry}
 use Rattle.text_puts.specs.Outside.{Counts, outside}
-use Rattle.turn_lock.specs.Known.{Known, StartsWith}
+use Rattle.turn_lock.specs.Known.{StartsWith}
 use Rattle.shared_board.specs.declared.pass.Pass.{Pass}
 use Rattle.shared_board.specs.Board.{known, fetched}
 use Rattle.feed_runs.specs.Readers.{CountsFeeds}
 use Rattle.rolling_driver.specs.Ended.{PrintsBehind, PrintsRest, reader_passes, searcher_passes}
-use Rattle.rolling_driver.proofs.Joining.{last_board, last_mine, last_one, last_owns, last_readers, last_searchers, last_starts, last_terms}
+use Rattle.rolling_driver.proofs.Joining.{last_mine, last_one, last_owns, last_readers, last_searchers, last_starts, last_terms}
 use Rattle.rolling_driver.proofs.Shifting.{rest_behind, rest_shifted, with_readings}
 use Rattle.rolling_driver.proofs.ending.end_run.Goals as goal
 
