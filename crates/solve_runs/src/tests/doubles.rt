@@ -3,11 +3,16 @@ use disp_outside::{FeedNo, FetchNo, OpenGate, PutNo, Shelf};
 use dispatch_cli::dispatch;
 use outside_in_memory::{SteadyFeed, SteadyShelf, SteadySink};
 use std::alloc::Global;
+use std::sync::Wait;
 use std::test::Fail;
+use std::thread::Threads;
 use word_lists::words_of;
 
 // The status of `solve p` where p holds these bytes, and what was written.
-pub(crate) fn solve(rt: &HostRuntime, bytes: &[u8]) -> Result<(u8, Vec<u8>), Fail> {
+pub(crate) fn solve(
+    rt: &(impl Threads + Wait + Sync + AllocGlobal),
+    bytes: &[u8],
+) -> Result<(u8, Vec<u8>), Fail> {
     let alloc = rt.alloc();
     let words = words_of(alloc, &["solve", "p"])?;
     let mut shelf = SteadyShelf::new(alloc);

@@ -3,7 +3,9 @@ use super::doubles::ClosedShelf;
 use disp_outside::{OpenGate, Shelf};
 use dispatch_cli::{Done, dispatch};
 use outside_in_memory::{BrokenWrite, MemShelf, MemSink, SteadySink};
+use std::sync::Wait;
 use std::test::Fail;
+use std::thread::Threads;
 use word_lists::words_of;
 
 const PROBLEM: &str =
@@ -13,7 +15,10 @@ const PLAN: &str =
     "{\"events\":[{\"operation\":0,\"time\":0,\"train\":0},{\"operation\":1,\"time\":5,\"train\":0}],\"objective_value\":5}\n";
 
 // The status of `solve p` on the shelf, and what was written.
-fn run<S: Shelf>(rt: &HostRuntime, shelf: &mut S) -> Result<(Done, Vec<u8>), Fail> {
+fn run<S: Shelf>(
+    rt: &(impl Threads + Wait + Sync + AllocGlobal),
+    shelf: &mut S,
+) -> Result<(Done, Vec<u8>), Fail> {
     let alloc = rt.alloc();
     let words = words_of(alloc, &["solve", "p"])?;
     let mut out = SteadySink::new(alloc);

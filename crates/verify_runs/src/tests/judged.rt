@@ -50,7 +50,11 @@ fn solution(alloc: Global, events: &[(u64, u32, u32)], stated: &str) -> Result<S
 }
 
 // The status of `verify p s` for these files, and what was written.
-fn verify<R: AllocGlobal>(rt: &R, problem: &str, solution: &str) -> Result<(u8, String), Fail> {
+fn verify(
+    rt: &(impl Threads + Wait + Sync + AllocGlobal),
+    problem: &str,
+    solution: &str,
+) -> Result<(u8, String), Fail> {
     let alloc = rt.alloc();
     let words = words_of(alloc, &["verify", "p", "s"])?;
     let mut shelf = SteadyShelf::new(alloc);
