@@ -5,7 +5,7 @@ use Rattle.std.proofs.lemmas.List.Elements.{All-append}
 use Rattle.disp_outside.specs.Lines.{HasLinesOf}
 use Rattle.text_puts.specs.Outside.{Holdings, Counts}
 use Rattle.text_puts.proofs.Counting.{one_more, same_all}
-use Rattle.rolling_driver.specs.Rolled.{AreNew}
+use Rattle.rolling_driver.specs.Opened.{AreNew}
 use Rattle.dispatch_cli.specs.declared.roll_no.RollNo.{RollNo}
 use Rattle.dispatch_cli.specs.declared.roll_no.RollNo.TheVariants.{TooManyFeeds, Problem, FeedFailed, Memory}
 use Rattle.dispatch_cli.specs.Feeds.{AreOpened, OpensOne, StopsFeed, StopsFeeds}

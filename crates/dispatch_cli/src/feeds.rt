@@ -1,5 +1,5 @@
 ghost use Rattle.std.specs.Prelude.{◌≡◌, ◌≢◌, ◌≤◌, All, List, ℕ, [], OnOk, OnErr, IfOk, IfErr};
-ghost use Rattle.rolling_driver.specs.Rolled.{AreNew};
+ghost use Rattle.rolling_driver.specs.Opened.{AreNew};
 ghost use Rattle.dispatch_cli.specs.Feeds.{AreOpened, OpensOne, StopsFeed, StopsFeeds};
 
 use crate::roll_no::RollNo;
