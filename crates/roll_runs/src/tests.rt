@@ -1,4 +1,0 @@
-mod answers;
-mod faults;
-mod rolled;
-mod trees;
