@@ -43,7 +43,11 @@ impl Core {
                 Ok(CoreReply::Noted)
             }
             CoreEvent::Next => Ok(self.next()),
-            CoreEvent::Take { edition, want, .. } => match self.take(alloc, edition, want) {
+            CoreEvent::Take {
+                searcher,
+                edition,
+                want,
+            } => match self.take(alloc, searcher, edition, want) {
                 Ok(told) => Ok(told),
                 Err(_) => Err(StepNo::Memory(event)),
             },

@@ -21,6 +21,7 @@ impl Core {
     pub(crate) fn take(
         &mut self,
         alloc: Global,
+        searcher: u32,
         edition: u32,
         want: u32,
     ) -> Result<CoreReply, Memory>
@@ -31,7 +32,10 @@ impl Core {
             return Ok(told);
         }
         let (free, seen) = (self.free(), self.history.len() as u64);
-        match self.nodes.take(alloc, self.best, free, want, seen)? {
+        match self
+            .nodes
+            .take(alloc, self.best, free, want, seen, searcher)?
+        {
             Take::Ripe => Ok(CoreReply::Ripe),
             Take::Taken(work) => Ok(CoreReply::Taken(work)),
             Take::AllOut(count) => Ok(CoreReply::AllOut(count as u64)),

@@ -166,12 +166,13 @@ impl Nodes {
         free: u32,
         want: u32,
         seen: u64,
+        taker: u32,
     ) -> Result<Take, Memory>
         requires room { free + allowed_of self.old ≤ 4294967295 }
         ensures ok { IfOk result (λ take. Takes self.old best free want seen take self.new) }
         ensures err { OnErr result (self.new ≡ self.old) }
     {
-        match self.find(best, free, want) {
+        match self.find(best, free, want, taker) {
             Some(number) => {
                 let work = self.send(alloc, number, best, seen, want.min(free))?;
                 Ok(Take::Taken(work))
@@ -181,14 +182,20 @@ impl Nodes {
     }
 
     /// The number of a leaf that may be taken.
-    fn find(&mut self, best: Option<u64>, free: u32, want: u32) -> Option<usize>
+    fn find(
+        &mut self,
+        best: Option<u64>,
+        free: u32,
+        want: u32,
+        taker: u32,
+    ) -> Option<usize>
         ensures same { self.new ≡ self.old }
         ensures found { MatchOption result (NoneTakeable self.old.edition best free self.old.places)
             (λ n. MayBeTaken self.old best free n) }
     {
         let number = self
             .ready
-            .pop_takeable(&self.places, self.edition, best, free, want);
+            .pop_takeable(&self.places, self.edition, best, free, want, taker);
         match number {
             Some(number) => Some(number),
             None => first_takeable(&self.places, self.edition, best, free),

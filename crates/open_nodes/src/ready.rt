@@ -4,7 +4,7 @@ ghost use Rattle.open_nodes.specs.States.{IsTakeable};
 
 use crate::place::{Errand, Kind, Place};
 use crate::search::is_takeable;
-use disp_model::Memory;
+use disp_model::{MOST_CALLERS, Memory};
 use std::alloc::Global;
 use std::cmp::Reverse;
 use std::collections::{BinaryHeap, VecDeque};
@@ -15,11 +15,13 @@ const FEW: u32 = 64;
 /// Leaves that may be taken. It is advice: a leaf may be missing, or be no more such a leaf.
 #[derive(Drop)]
 pub(crate) struct Ready {
-    /// In depth: the last one is taken first. Those that grew where many branches were wanted
-    /// stand behind the others, the last one grown last.
-    deep: VecDeque<usize>,
+    /// For each searcher, in depth, the leaves that came of its works: the last one is taken first.
+    /// Those that grew where few branches were wanted stand in front of the others.
+    deep: Vec<VecDeque<usize>>,
     /// By their kept bounds: of the least ones the last one grown is taken first.
     cheap: BinaryHeap<(Reverse<u64>, usize)>,
+    /// The leaves that are out, each with the searcher that took it.
+    takers: Vec<(usize, u32)>,
 }
 
 /// Whether a leaf was given out for few branches.
@@ -30,18 +32,69 @@ fn was_for_few(out: Option<Errand>) -> bool {
     }
 }
 
+/// The last leaf of a stack that may be taken.
+fn pop_last(
+    stack: &mut VecDeque<usize>,
+    places: &[Place],
+    edition: u32,
+    best: Option<u64>,
+    free: u32,
+) -> Option<usize>
+    ensures { IfSome result (λ n. (p : Place) × (slice_get places.now n ≡ Some p)
+        × IsTakeable edition best free p) }
+{
+    for _ in 0..stack.len() {
+        let number = stack.pop_back()?;
+        if let Some(place) = places.get(number) {
+            if is_takeable(place, edition, best, free) {
+                return Some(number);
+            }
+        }
+    }
+    None
+}
+
+/// The first leaf of a stack that may be taken.
+fn pop_first(
+    stack: &mut VecDeque<usize>,
+    places: &[Place],
+    edition: u32,
+    best: Option<u64>,
+    free: u32,
+) -> Option<usize>
+    ensures { IfSome result (λ n. (p : Place) × (slice_get places.now n ≡ Some p)
+        × IsTakeable edition best free p) }
+{
+    for _ in 0..stack.len() {
+        let number = stack.pop_front()?;
+        if let Some(place) = places.get(number) {
+            if is_takeable(place, edition, best, free) {
+                return Some(number);
+            }
+        }
+    }
+    None
+}
+
 impl Ready {
     /// The first leaf, with the bound 0.
     pub(crate) fn new(alloc: Global) -> Result<Ready, Memory> {
-        let mut deep = VecDeque::new(alloc);
-        deep.push_back(0)?;
+        let mut deep = Vec::with_capacity(alloc, MOST_CALLERS as usize)?;
+        for _ in 0..MOST_CALLERS {
+            deep.push(VecDeque::new(alloc))?;
+        }
         let mut cheap = BinaryHeap::new(alloc);
         cheap.push((Reverse(0), 0))?;
-        Ok(Ready { deep, cheap })
+        Ok(Ready {
+            deep,
+            cheap,
+            takers: Vec::new(alloc),
+        })
     }
 
     /// A leaf that may be taken: where few branches are wanted one of the least kept bound, else
-    /// the last one grown. It and those that come before it are taken off.
+    /// the last one that came of the taker's works, or else the first of another's. It and those
+    /// that come before it are taken off.
     pub(crate) fn pop_takeable(
         &mut self,
         places: &[Place],
@@ -49,6 +102,25 @@ impl Ready {
         best: Option<u64>,
         free: u32,
         want: u32,
+        taker: u32,
+    ) -> Option<usize>
+        ensures { IfSome result (λ n. (p : Place) × (slice_get places.now n ≡ Some p)
+            × IsTakeable edition best free p) }
+    {
+        let number = self.find(places, edition, best, free, want, taker)?;
+        self.takers.push((number, taker)).is_ok();
+        Some(number)
+    }
+
+    /// The leaf that is taken.
+    fn find(
+        &mut self,
+        places: &[Place],
+        edition: u32,
+        best: Option<u64>,
+        free: u32,
+        want: u32,
+        taker: u32,
     ) -> Option<usize>
         ensures { IfSome result (λ n. (p : Place) × (slice_get places.now n ≡ Some p)
             × IsTakeable edition best free p) }
@@ -58,27 +130,32 @@ impl Ready {
                 return Some(number);
             }
         }
-        match self.pop_deep(places, edition, best, free) {
-            Some(number) => Some(number),
-            None => self.pop_cheap(places, edition, best, free),
+        if let Some(number) = self.pop_deep(places, edition, best, free, taker) {
+            return Some(number);
         }
+        self.pop_cheap(places, edition, best, free)
     }
 
-    /// The last leaf in depth that may be taken.
+    /// The last leaf of a searcher, in depth, that may be taken, or else the first of another.
     fn pop_deep(
         &mut self,
         places: &[Place],
         edition: u32,
         best: Option<u64>,
         free: u32,
+        taker: u32,
     ) -> Option<usize>
         ensures { IfSome result (λ n. (p : Place) × (slice_get places.now n ≡ Some p)
             × IsTakeable edition best free p) }
     {
-        for _ in 0..self.deep.len() {
-            let number = self.deep.pop_back()?;
-            if let Some(place) = places.get(number) {
-                if is_takeable(place, edition, best, free) {
+        if let Some(stack) = self.deep.get_mut(taker as usize) {
+            if let Some(number) = pop_last(stack, places, edition, best, free) {
+                return Some(number);
+            }
+        }
+        for other in 0..self.deep.len() {
+            if let Some(stack) = self.deep.get_mut(other) {
+                if let Some(number) = pop_first(stack, places, edition, best, free) {
                     return Some(number);
                 }
             }
@@ -108,10 +185,26 @@ impl Ready {
         None
     }
 
+    /// Who took a leaf, which is in again; the first searcher where that is not known.
+    fn untake(&mut self, number: usize) -> usize {
+        for place in 0..self.takers.len() {
+            if let Some((taken, taker)) = self.takers.get(place).copied() {
+                if taken == number {
+                    self.takers.swap_remove(place);
+                    return taker as usize;
+                }
+            }
+        }
+        0
+    }
+
     /// Keeps a leaf that is in again, where there is room.
     pub(crate) fn keep_back(&mut self, number: usize, place: Place) {
-        if self.deep.len() < self.deep.capacity() {
-            self.deep.push_back(number).is_ok();
+        let taker = self.untake(number);
+        if let Some(stack) = self.deep.get_mut(taker) {
+            if stack.len() < stack.capacity() {
+                stack.push_back(number).is_ok();
+            }
         }
         if self.cheap.len() < self.cheap.capacity() {
             self.cheap.push((Reverse(place.bound), number)).is_ok();
@@ -128,24 +221,27 @@ impl Ready {
         out: Option<Errand>,
     ) {
         let for_few = was_for_few(out);
-        self.keep(places, number, for_few);
+        let taker = self.untake(number);
+        self.keep(places, number, for_few, taker);
         for leaf in first..places.len() {
-            self.keep(places, leaf, for_few);
+            self.keep(places, leaf, for_few, taker);
         }
     }
 
     /// Keeps the place of a number, if it is a leaf that is not known dead.
-    fn keep(&mut self, places: &[Place], number: usize, for_few: bool) {
+    fn keep(&mut self, places: &[Place], number: usize, for_few: bool, taker: usize) {
         let Some(place) = places.get(number) else {
             return;
         };
         if place.kind != Kind::Open {
             return;
         }
-        if for_few {
-            self.deep.push_front(number).is_ok();
-        } else {
-            self.deep.push_back(number).is_ok();
+        if let Some(stack) = self.deep.get_mut(taker) {
+            if for_few {
+                stack.push_front(number).is_ok();
+            } else {
+                stack.push_back(number).is_ok();
+            }
         }
         self.cheap.push((Reverse(place.bound), number)).is_ok();
     }

@@ -6,7 +6,7 @@ use crew_runs::{Searcher, seats_of};
 use disp_model::{Memory, Problem, Settings};
 use disp_outside::Feed;
 use feed_runs::{Reader, readers_of};
-use search_crew::{Crew, crew_of};
+use search_crew::{Crew, Pace, crew_of};
 use shared_board::{Board, Pass};
 use std::alloc::Global;
 
@@ -36,7 +36,7 @@ pub(crate) fn open_run<F: Feed + Drop>(
 {
     let count = feeds.len() as u32;
     let (board, mut first) = Board::new(alloc, problem, settings, count, workers)?;
-    let (crew, hands) = crew_of(alloc, workers)?;
+    let (crew, hands) = crew_of(alloc, workers, settings.budget, Pace::Prompt)?;
     let readers = readers_of(alloc, &board, &mut first, feeds)?;
     let searchers = seats_of(alloc, &board, &mut first, hands)?;
     Ok(Run {

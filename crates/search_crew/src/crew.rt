@@ -12,9 +12,15 @@ use std::alloc::Global;
 /// How many works a searcher has room for.
 const ROOM: usize = 8;
 
-/// How many branches a searcher asks for at a time to find a plan where others share the tree: the
-/// fewest for which the core goes on in depth.
-pub(crate) const SHARED_FOR_PLAN: u32 = 65;
+/// How many branches a searcher asks for at a time to find a plan where others share the tree, at
+/// least: the fewest for which the core goes on in depth.
+const SHARED_FOR_PLAN: u32 = 65;
+
+/// How many it asks for where changes may come, at most.
+const PROMPT_FOR_PLAN: u32 = 1024;
+
+/// How many times a searcher asks for branches before its part of the budget is spent, at least.
+const SHARES: u32 = 8;
 
 /// What the searchers of a board share: whence they steal works, and the least cost that was
 /// published.
@@ -31,20 +37,44 @@ pub struct Hand {
     pub(crate) place: u32,
     pub(crate) cell: CellPass,
     pub(crate) effort: Effort,
+    /// The order of trains of its last target.
+    pub(crate) order: Vec<u32>,
     works: Worker<Work>,
 }
 
-/// How many branches a searcher of so many asks for at a time to find a plan.
-fn for_plan(count: u32) -> u32 {
-    if count > 1 { SHARED_FOR_PLAN } else { FOR_PLAN }
+/// Whether changes may come while a crew searches.
+#[derive(Clone, Copy, Debug, PartialEq, Eq)]
+pub enum Pace {
+    /// The problem stays as it is.
+    Steady,
+    /// Changes may come at any time, so no searcher is away for long.
+    Prompt,
 }
 
-/// A crew of so many searchers, with a hand for each.
+/// How many branches a searcher of so many asks for at a time to find a plan, of a budget.
+fn for_plan(count: u32, budget: u32, pace: Pace) -> u32 {
+    let most = match pace {
+        Pace::Steady => FOR_PLAN,
+        Pace::Prompt => PROMPT_FOR_PLAN,
+    };
+    if count > 1 {
+        (budget / count / SHARES).max(SHARED_FOR_PLAN).min(most)
+    } else {
+        most
+    }
+}
+
+/// A crew of so many searchers that share a budget, with a hand for each.
 ///
 /// # Errors
 ///
 /// `Memory` where memory runs out.
-pub fn crew_of(alloc: Global, count: u32) -> Result<(Crew, Vec<Hand>), Memory>
+pub fn crew_of(
+    alloc: Global,
+    count: u32,
+    budget: u32,
+    pace: Pace,
+) -> Result<(Crew, Vec<Hand>), Memory>
     ensures count { IfOk result (λ made. length made.1.items ≡ count) }
     ensures hands { IfOk result (λ made. All (IsHandOf made.0) made.1.items) }
 {
@@ -55,11 +85,12 @@ pub fn crew_of(alloc: Global, count: u32) -> Result<(Crew, Vec<Hand>), Memory>
         let works = Worker::new_fifo(alloc, ROOM)?;
         stealers.push(works.stealer()?)?;
         let cell = least.split(&mut first);
-        let effort = Effort::new(for_plan(count));
+        let effort = Effort::new(for_plan(count, budget, pace));
         hands.push(Hand {
             place,
             cell,
             effort,
+            order: Vec::new(alloc),
             works,
         })?;
     }

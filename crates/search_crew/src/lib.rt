@@ -14,5 +14,5 @@ mod round;
 mod searching;
 mod turn;
 
-pub use crew::{Crew, Hand, crew_of};
+pub use crew::{Crew, Hand, Pace, crew_of};
 pub use searching::search;

@@ -19,6 +19,7 @@ use disp_outside::{Gate, Point};
 use node_leaves::Reckoning;
 use open_nodes::Work;
 use shared_board::{Board, Pass, SEARCHERS_FROM};
+use search_workers::FOR_BOUND;
 use std::alloc::Global;
 use std::sync::Wait;
 
@@ -100,7 +101,9 @@ fn find_turn<W: Wait>(
     let want = hand.effort.want();
     match next_turn(rt, alloc, board, pass, edition, want)? {
         Turn::Work(work) => {
-            keep_another(rt, alloc, board, pass, crew, hand, edition);
+            if want <= FOR_BOUND {
+                keep_another(rt, alloc, board, pass, crew, hand, edition);
+            }
             Ok(Turn::Work(work))
         }
         turn => Ok(turn),

@@ -6,14 +6,18 @@ ghost use Rattle.search_crew.specs.Turns.{IsTurn};
 ghost use Rattle.search_crew.specs.Working.{KeepsOn};
 
 use crate::answered::answered;
-use crate::crew::{Crew, Hand, SHARED_FOR_PLAN};
+use crate::crew::{Crew, Hand};
 use disp_model::{Answer, Memory, Unfinished};
 use dispatch_core::CoreReply;
 use open_nodes::Work;
+use search_workers::FOR_BOUND;
 use shared_board::{Board, Pass};
 use std::alloc::Global;
 use std::sync::Wait;
 use std::thread::yield_now;
+
+/// How often a searcher gives way where there is nothing to do, before it asks again.
+const PAUSE: u32 = 64;
 
 /// What there is for a searcher to do.
 #[derive(Drop)]
@@ -67,6 +71,13 @@ fn stop<W: Wait>(
     Ok(Turn::On)
 }
 
+/// Lets others go first.
+fn give_way() {
+    for _time in 0..PAUSE {
+        yield_now();
+    }
+}
+
 /// Takes a leaf of an edition from the board, to grow so many branches. Where none is wanted, settles it; where none may be
 /// taken and none is out, stops it.
 pub(crate) fn next_turn<W: Wait>(
@@ -91,7 +102,7 @@ pub(crate) fn next_turn<W: Wait>(
         CoreReply::Ripe => settle(rt, alloc, board, pass, edition),
         CoreReply::Dry(_) => stop(rt, alloc, board, pass, edition),
         _ => {
-            yield_now();
+            give_way();
             Ok(Turn::On)
         }
     }
@@ -115,7 +126,7 @@ pub(crate) fn keep_another<W: Wait>(
     if !crew.shares() {
         return;
     }
-    if let Ok(CoreReply::Taken(work)) = board.take(rt, alloc, pass, edition, SHARED_FOR_PLAN) {
+    if let Ok(CoreReply::Taken(work)) = board.take(rt, alloc, pass, edition, FOR_BOUND) {
         if let Err(work) = hand.keep(work) {
             give_back(rt, alloc, board, pass, work);
         }

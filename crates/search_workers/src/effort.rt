@@ -7,7 +7,7 @@ pub const FOR_PLAN: u32 = 65_536;
 
 /// How many it asks for at a time to raise the bound: so few that the core gives out a leaf of the
 /// least bound.
-const FOR_BOUND: u32 = 16;
+pub const FOR_BOUND: u32 = 16;
 
 /// For each node that is grown to raise the bound so many are grown to find a plan.
 const PLAN_NODES: u64 = 3;

@@ -11,7 +11,7 @@ mod search;
 mod turn;
 mod walk;
 
-pub use effort::{Effort, FOR_PLAN};
+pub use effort::{Effort, FOR_BOUND, FOR_PLAN};
 pub use growth::{Growth, grow, leaf_alone, target_after};
 pub use search::search_alone;
 pub use walk::refused_leaf;

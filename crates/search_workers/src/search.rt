@@ -139,7 +139,8 @@ fn reckon(alloc: Global, problem: &Problem, rule: Rule) -> Result<Reckoning, Mem
 
 /// A guide along the target of a problem under fixings.
 fn guide_to(alloc: Global, problem: &Problem, fixings: &[Fixing]) -> Result<Guide, Memory> {
-    let target = target(alloc, problem, fixings, INSERTIONS)?;
+    let mut order = Vec::new(alloc);
+    let target = target(alloc, problem, fixings, INSERTIONS, &mut order)?;
     Guide::new(alloc, problem, target)
 }
 

@@ -8,7 +8,7 @@ use disp_model::{Change, Memory, Problem, Settings};
 use disp_outside::Gate;
 use dispatch_core::Core;
 use joined_passes::close_run;
-use search_crew::crew_of;
+use search_crew::{Pace, crew_of};
 use shared_board::Board;
 use std::alloc::Global;
 use std::sync::Wait;
@@ -38,7 +38,7 @@ pub fn solve<R: Threads + Wait + Sync, G: Gate>(
 {
     let (board, mut first) = Board::new(alloc, problem, settings, 0, searchers)?;
     enter(rt, alloc, &board, &mut first, asked)?;
-    let (crew, hands) = crew_of(alloc, searchers)?;
+    let (crew, hands) = crew_of(alloc, searchers, settings.budget, Pace::Steady)?;
     let mut seats = seats_of(alloc, &board, &mut first, hands)?;
     run_searchers(
         rt,

@@ -2,11 +2,11 @@ use crate::advice::Start;
 use crate::holds::Holds;
 use crate::line::Line;
 use crate::stage::Stage;
-use crate::windows::{Window, windows_of};
+use crate::windows::{Window, Windows, windows_of};
 use disp_model::{Memory, Operation};
 use std::alloc::Global;
 
-/// A window of an operation.
+/// A window of an operation, by its place.
 #[derive(Clone, Copy)]
 pub(crate) struct Spot {
     pub op: u32,
@@ -58,8 +58,12 @@ fn enter(window: &mut Window, stage: &Stage, min: u64, step: Step) {
 }
 
 /// Enters an operation in each of its windows.
-fn enter_each(windows: &mut Vec<Window>, stage: &Stage, min: u64, step: Step) {
-    for window in windows.as_mut_slice() {
+fn enter_each(windows: &mut Windows, op: u32, stage: &Stage, min: u64, step: Step) {
+    let (begin, end) = windows.range(op);
+    for place in begin..end {
+        let Some(window) = windows.get_mut(place) else {
+            break;
+        };
         if window.from >= step.limit {
             break;
         }
@@ -72,7 +76,7 @@ fn enter_each(windows: &mut Vec<Window>, stage: &Stage, min: u64, step: Step) {
 struct Search<'a> {
     train: &'a [Operation],
     line: &'a Line,
-    windows: Vec<Vec<Window>>,
+    windows: Windows,
 }
 
 /// Enters an operation from a step.
@@ -83,19 +87,13 @@ fn enter_op(search: &mut Search<'_>, op: u32, step: Step) {
     let Some(stage) = search.line.stage(op) else {
         return;
     };
-    if let Some(windows) = search.windows.get_mut(op as usize) {
-        enter_each(windows, stage, u64::from(operation.min), step);
-    }
-}
-
-/// What is known of a spot.
-fn window_at(windows: &[Vec<Window>], spot: Spot) -> Option<Window> {
-    windows.get(spot.op as usize)?.get(spot.window).copied()
+    let min = u64::from(operation.min);
+    enter_each(&mut search.windows, op, stage, min, step);
 }
 
 /// Goes on from a spot to what may come next.
 fn go_on(search: &mut Search<'_>, operation: &Operation, spot: Spot) {
-    let Some(window) = window_at(search.windows.as_slice(), spot) else {
+    let Some(window) = search.windows.get(spot.window) else {
         return;
     };
     let Some(label) = window.label else {
@@ -114,34 +112,28 @@ fn go_on(search: &mut Search<'_>, operation: &Operation, spot: Spot) {
     }
 }
 
-/// How many windows an operation has.
-fn count_of(windows: &[Vec<Window>], op: u32) -> usize {
-    match windows.get(op as usize) {
-        Some(row) => row.len(),
-        None => 0,
-    }
-}
-
 /// Goes on from each window of an operation.
 fn go_on_each(search: &mut Search<'_>, op: u32) {
     let train = search.train;
     let Some(operation) = train.get(op as usize) else {
         return;
     };
-    for window in 0..count_of(search.windows.as_slice(), op) {
+    let (begin, end) = search.windows.range(op);
+    for window in begin..end {
         go_on(search, operation, Spot { op, window });
     }
 }
 
 /// The window of an operation with the way that costs least, the earliest of several.
-fn best_spot(windows: &[Vec<Window>], op: u32) -> Option<Spot> {
+fn best_spot(windows: &Windows, op: u32) -> Option<Spot> {
     let mut best = None;
     let mut least = u64::MAX;
-    for (place, window) in windows.get(op as usize)?.iter().enumerate() {
-        if let Some(label) = window.label {
+    let (begin, end) = windows.range(op);
+    for window in begin..end {
+        if let Some(label) = windows.get(window)?.label {
             if best.is_none() || label.cost < least {
                 least = label.cost;
-                best = Some(Spot { op, window: place });
+                best = Some(Spot { op, window });
             }
         }
     }
@@ -151,7 +143,7 @@ fn best_spot(windows: &[Vec<Window>], op: u32) -> Option<Spot> {
 /// The way to a spot, of at most so many operations.
 fn run_to(
     alloc: Global,
-    windows: &[Vec<Window>],
+    windows: &Windows,
     last: Option<Spot>,
     most: usize,
 ) -> Result<Vec<Start>, Memory> {
@@ -161,7 +153,7 @@ fn run_to(
         let Some(spot) = here else {
             break;
         };
-        let Some(label) = window_at(windows, spot).and_then(|window| window.label) else {
+        let Some(label) = windows.get(spot.window).and_then(|window| window.label) else {
             break;
         };
         run.push(Start {
@@ -205,7 +197,7 @@ pub(crate) fn best_run(
         windows: windows_of(alloc, holds, train)?,
     };
     go_through(&mut search);
-    let windows = search.windows.as_slice();
+    let windows = &search.windows;
     match line.order.last() {
         Some(exit) => run_to(alloc, windows, best_spot(windows, *exit), line.order.len()),
         None => Ok(Vec::new(alloc)),

@@ -47,10 +47,18 @@ impl Table {
         })
     }
 
-    /// The runs of the trains.
-    pub(crate) fn into_runs(self) -> Vec<List<Start>> {
-        let Table { runs, .. } = self;
-        runs
+    /// Copies of the runs of the trains.
+    pub(crate) fn copy_runs(&self, alloc: Global) -> Result<Vec<List<Start>>, Memory> {
+        let mut runs = Vec::with_capacity(alloc, self.runs.len())?;
+        for run in self.runs.as_slice() {
+            runs.push(List::from_vec(Vec::from_slice(alloc, run.as_slice())?))?;
+        }
+        Ok(runs)
+    }
+
+    /// What a train costs.
+    pub(crate) fn cost(&self, line: &Line, train: u32) -> u64 {
+        cost_of(line, self.run(train))
     }
 
     /// What a train runs.

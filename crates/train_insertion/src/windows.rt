@@ -30,21 +30,21 @@ fn add_closed(closed: &mut Vec<Hold>, holds: &Holds, listing: &Listing) -> Resul
     Ok(())
 }
 
-/// The times during which an operation may not have all that it lists, by their beginnings.
-fn closed_of(alloc: Global, holds: &Holds, listings: &[Listing]) -> Result<Vec<Hold>, Memory> {
-    let mut closed = Vec::new(alloc);
+/// The times during which an operation may not have all that it lists, by their beginnings, in a list
+/// whose elements are dropped.
+fn find_closed(closed: &mut Vec<Hold>, holds: &Holds, listings: &[Listing]) -> Result<(), Memory> {
+    closed.clear();
     for listing in listings {
-        add_closed(&mut closed, holds, listing)?;
+        add_closed(closed, holds, listing)?;
     }
     if listings.len() > 1 {
         closed.sort_unstable();
     }
-    Ok(closed)
+    Ok(())
 }
 
-/// The times between these.
-fn between(alloc: Global, closed: &[Hold]) -> Result<Vec<Window>, Memory> {
-    let mut windows = Vec::with_capacity(alloc, closed.len().saturating_add(1))?;
+/// Adds the times between these.
+fn add_between(windows: &mut Vec<Window>, closed: &[Hold]) -> Result<(), Memory> {
     let mut from = 0;
     for hold in closed {
         if from < hold.from {
@@ -61,19 +61,50 @@ fn between(alloc: Global, closed: &[Hold]) -> Result<Vec<Window>, Memory> {
         until: u64::MAX,
         label: None,
     })?;
-    Ok(windows)
+    Ok(())
 }
 
-/// The times in which all that each operation of a train lists is free, by operations.
+/// The windows of the operations of a train, one operation behind the other.
+#[derive(Drop)]
+pub(crate) struct Windows {
+    all: Vec<Window>,
+    /// For each operation where its windows begin, and where the last ones end.
+    begins: Vec<usize>,
+}
+
+impl Windows {
+    /// Where the windows of an operation stand.
+    pub(crate) fn range(&self, op: u32) -> (usize, usize) {
+        let begin = self.begins.get(op as usize).copied().unwrap_or(0);
+        let end = self.begins.get((op as usize).saturating_add(1)).copied();
+        (begin, end.unwrap_or(begin))
+    }
+
+    /// The window at a place.
+    pub(crate) fn get(&self, place: usize) -> Option<Window> {
+        self.all.get(place).copied()
+    }
+
+    /// The window at a place, to change it.
+    pub(crate) fn get_mut(&mut self, place: usize) -> Option<&mut Window> {
+        self.all.get_mut(place)
+    }
+}
+
+/// The times in which all that each operation of a train lists is free.
 pub(crate) fn windows_of(
     alloc: Global,
     holds: &Holds,
     train: &[Operation],
-) -> Result<Vec<Vec<Window>>, Memory> {
-    let mut windows = Vec::with_capacity(alloc, train.len())?;
+) -> Result<Windows, Memory> {
+    let mut all = Vec::new(alloc);
+    let mut begins = Vec::with_capacity(alloc, train.len().saturating_add(1))?;
+    let mut closed = Vec::new(alloc);
     for operation in train {
-        let closed = closed_of(alloc, holds, operation.listings.as_slice())?;
-        windows.push(between(alloc, closed.as_slice())?)?;
+        begins.push(all.len())?;
+        find_closed(&mut closed, holds, operation.listings.as_slice())?;
+        add_between(&mut all, closed.as_slice())?;
     }
-    Ok(windows)
+    begins.push(all.len())?;
+    Ok(Windows { all, begins })
 }

@@ -16,8 +16,9 @@ pub struct Guide {
     pub(crate) target: Target,
     pub(crate) adviser: Adviser,
     pub(crate) strategy: Strategy,
-    /// How many dives the strategy has had.
+    /// How many dives the strategy has had, and whether it gives way to the other one.
     dives: u32,
+    takes_turns: bool,
 }
 
 impl Guide {
@@ -28,12 +29,19 @@ impl Guide {
             adviser: Adviser::new(alloc, problem)?,
             strategy: Strategy::Toll,
             dives: 0,
+            takes_turns: true,
         })
     }
 
     /// Makes this the target.
     pub fn aim_at(&mut self, target: Target) {
         self.target = target;
+    }
+
+    /// Takes choices by one strategy from now on.
+    pub fn stay_with(&mut self, strategy: Strategy) {
+        self.strategy = strategy;
+        self.takes_turns = false;
     }
 
     /// Counts a dive. Each of the two strategies gives way to the other after a number of dives.
@@ -43,7 +51,7 @@ impl Guide {
             Strategy::Toll => (TOLL_DIVES, Strategy::Time),
             Strategy::Time => (TIME_DIVES, Strategy::Toll),
         };
-        if self.dives >= turn {
+        if self.takes_turns && self.dives >= turn {
             self.dives = 0;
             self.strategy = other;
         }

@@ -4,7 +4,7 @@ ghost use Rattle.search_crew.specs.Working.{IsAtWork};
 
 use disp_model::{Answer, Problem, Rule, Settings, Unfinished};
 use disp_outside::OpenGate;
-use search_crew::{crew_of, search};
+use search_crew::{Pace, crew_of, search};
 use shared_board::{Board, Pass, SEARCHERS_FROM};
 use std::alloc::Global;
 use std::process::Abort;
@@ -32,7 +32,7 @@ fn answer_alone<R: Wait>(
 ) -> Result<Answer, Fail>
     requires { IsAtWork board.now rule 0 pass.old }
 {
-    let (crew, mut hands) = crew_of(alloc, 1)?;
+    let (crew, mut hands) = crew_of(alloc, 1, 1, Pace::Steady)?;
     let Some(mut hand) = hands.pop() else {
         unreachable!()
     };
