@@ -1,0 +1,3 @@
+mod beside_feeds;
+mod holds;
+mod two_searchers;
