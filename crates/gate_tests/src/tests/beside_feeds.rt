@@ -9,17 +9,17 @@ use std::thread::Threads;
 use word_lists::words_of;
 
 /// The first feed and the first searcher, as callers.
-const FEED: u32 = 0;
+pub(crate) const FEED: u32 = 0;
 
-const SEARCHER: u32 = 256;
+pub(crate) const SEARCHER: u32 = 256;
 
 /// Two trains on one block, for 10 and for 4.
-const ONE_BLOCK: &str =
+pub(crate) const ONE_BLOCK: &str =
     r#"{"trains":[[{"min_duration":10,"resources":[{"resource":"r"}],"successors":[1]},{}],[{"min_duration":4,"resources":[{"resource":"r"}],"successors":[1]},{}]],"objective":[{"type":"op_delay","train":0,"operation":1,"coeff":1},{"type":"op_delay","train":1,"operation":1,"coeff":1}]}"#;
 
-/// What is printed where the train of 10 has started first.
-const JOURNAL: &str =
-    "feed 0 line 1 started 0 0 0 accepted 1\nplan 1 24 {\"events\":[{\"operation\":0,\"time\":0,\"train\":0},{\"operation\":1,\"time\":10,\"train\":0},{\"operation\":0,\"time\":10,\"train\":1},{\"operation\":1,\"time\":14,\"train\":1}],\"objective_value\":24}\nsettled 1 optimal 24\n";
+/// What is printed for the searcher where the train of 10 has started first.
+pub(crate) const STARTED_FIRST: &str =
+    "plan 1 24 {\"events\":[{\"operation\":0,\"time\":0,\"train\":0},{\"operation\":1,\"time\":10,\"train\":0},{\"operation\":0,\"time\":10,\"train\":1},{\"operation\":1,\"time\":14,\"train\":1}],\"objective_value\":24}\nsettled 1 optimal 24\n";
 
 /// Holds the feed before its line until the searcher has a work, and the searcher with that work
 /// until the line is answered.
@@ -67,7 +67,10 @@ fn a_line_is_answered_while_a_searcher_has_a_work(rt: HostRuntime) -> Result<(),
     let (done, written) = run(&rt, &gate)?;
     assert!(rt; gate.has_work.was_seen(), "the feed gave up");
     assert!(rt; gate.is_answered.was_seen(), "the searcher gave up");
-    assert_eq!(rt; written.as_slice(), JOURNAL.as_bytes());
+    let journal = format!(in rt.alloc();
+        "feed 0 line 1 started 0 0 0 accepted 1\n{STARTED_FIRST}"
+    )?;
+    assert_eq!(rt; written.as_slice(), journal.as_bytes());
     assert_eq!(rt; done.status, 0);
     Ok(())
 }
