@@ -1,0 +1,4 @@
+mod beside_feeds;
+mod feed_lines;
+mod holds;
+mod two_searchers;
