@@ -12,17 +12,17 @@ use std::test::Fail;
 fn one_leaf_is_taken_and_given_back(rt: HostRuntime) -> Result<(), Fail> {
     let mut nodes = Nodes::new(rt.alloc())?;
     assert_eq!(rt; nodes.bound(), Some(0));
-    let taken = nodes.take(rt.alloc(), None, 5, 3, 7)?;
+    let taken = nodes.take(rt.alloc(), None, 5, 3, 7, 0)?;
     let Take::Taken(work) = taken else {
         panic!(rt; "no leaf is taken");
     };
     assert_eq!(rt; work.node, 0);
     assert_eq!(rt; work.allowance, 3);
     assert_eq!(rt; nodes.allowed(), 3);
-    let again = nodes.take(rt.alloc(), None, 2, 3, 7)?;
+    let again = nodes.take(rt.alloc(), None, 2, 3, 7, 0)?;
     assert!(rt; matches!(again, Take::AllOut(1)));
     assert_eq!(rt; nodes.give_back(work, true), GiveBack::Back);
-    let dry = nodes.take(rt.alloc(), None, 0, 3, 7)?;
+    let dry = nodes.take(rt.alloc(), None, 0, 3, 7, 0)?;
     assert!(rt; matches!(dry, Take::Dry));
     Ok(())
 }
@@ -63,7 +63,7 @@ fn take_one(alloc: Global, nodes: &mut Nodes, best: Option<u64>) -> Result<Take,
     if nodes.allowed() > 100 {
         return Ok(Take::Dry);
     }
-    nodes.take(alloc, best, 5, 3, 7)
+    nodes.take(alloc, best, 5, 3, 7, 0)
 }
 
 /// Whether a taken leaf has grown by one split.

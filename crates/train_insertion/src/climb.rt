@@ -177,13 +177,10 @@ fn put(
 
 /// What each train costs at least: its best run where it is alone.
 fn floors_of(alloc: Global, task: &Task<'_>) -> Result<Vec<u64>, Memory> {
+    let none = no_table(alloc, task)?;
     let mut floors = Vec::with_capacity(alloc, task.trains.len())?;
-    for train in 0..task.trains.len() {
-        let mut alone = no_table(alloc, task)?;
-        if let Ok(train) = u32::try_from(train) {
-            put(alloc, task, &mut alone, None, train)?;
-        }
-        floors.push(alone.worth.cost)?;
+    for (train, line) in task.trains.iter().zip(task.lines) {
+        floors.push(none.best_cost(alloc, train.as_slice(), line)?)?;
     }
     Ok(floors)
 }

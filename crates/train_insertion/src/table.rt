@@ -92,6 +92,17 @@ impl Table {
         Ok(())
     }
 
+    /// What a train costs along its best route into the times that are free, 0 where it finds none.
+    pub(crate) fn best_cost(
+        &self,
+        alloc: Global,
+        operations: &[Operation],
+        line: &Line,
+    ) -> Result<u64, Memory> {
+        let run = best_run(alloc, &self.holds, operations, line)?;
+        Ok(cost_of(line, run.as_slice()))
+    }
+
     /// Puts a train in, along its best route into the times that are free.
     pub(crate) fn insert(
         &mut self,
