@@ -1,0 +1,9 @@
+mod Data
+mod Texts
+mod Readings
+mod Rules
+mod Back
+mod Graphs
+mod Whole
+mod Made
+mod InOrder
