@@ -1,9 +1,9 @@
 -- The names of a problem that is read stand in the order of their first listing.
 use Rattle.std.proofs.Common.{◌≡◌, ℕ, suc, ◌+◌, ◌<◌, List, [], ◌∷◌, ◌++◌, length, get_or, map, not, Bool, true, false, cond, Option, Some, None, option_map, refl, sym, ap, ◌∙◌, subst, arith}
-use Rattle.std.specs.Prelude.{codes, All}
+use Rattle.std.specs.Prelude.{codes}
 use Rattle.std.specs.Option.{option_map_or}
 use Rattle.std.specs.List.{AllByRecursion, flat_map, filter_map, position_or_len, cons_option}
-use Rattle.std.specs.Str.{IsUtf8, bytes_eq}
+use Rattle.std.specs.Str.{bytes_eq}
 use Rattle.std.proofs.lemmas.Option.{same_Some}
 use Rattle.std.proofs.lemmas.List.Elements.{recursion_from_All}
 use Rattle.std.proofs.lemmas.Slice.Eq.{bytes_eq-Decides}
@@ -21,8 +21,9 @@ use Rattle.displib_reader.specs.ProblemOf as read
 use Rattle.displib_reader.proofs.Parts.{IsGoodOperation}
 use Rattle.displib_reader.proofs.Trains.{IsGoodTrain, trains_each, good_trains}
 use Rattle.problem_text.specs.Texts.{problem_text}
+use Rattle.text_laws.specs.Listed.{name_of, names_of_operation, names_of_train, names_listed, HasNamesInOrder}
+use Rattle.text_laws.proofs.TextNames.{read_texts}
 use Rattle.text_laws.proofs.Whole.{read_again}
-use Rattle.text_laws.specs.Listed.{name_of, names_of_operation, names_of_train, names_listed}
 
 -- ---- lists
 
@@ -108,8 +109,8 @@ train_named names d train good e =
     flat_each (operation_read names) (names_of_operation names) read.names_of_operation (IsListed names) (operation_named names) p.0 train (all_listed names (length train) train good) p.2
     ∙ ap (flat_map read.names_of_operation) (sym (members_of (as_array d) p.0 p.1))
 
-pub read_in_order : (bytes : List ℕ) (problem : Problem) → IsReadAs bytes problem → once bytes_eq (names_listed problem.names problem.trains) ≡ problem.names
-read_in_order bytes problem r =
+listed_in_order : (bytes : List ℕ) (problem : Problem) → IsReadAs bytes problem → once bytes_eq (names_listed problem.names problem.trains) ≡ problem.names
+listed_in_order bytes problem r =
     let d = r.value in
     let linked = r.keeps.has_trains.linked in
     let good = good_trains d linked problem.trains r.problem_is.trains in
@@ -119,5 +120,8 @@ read_in_order bytes problem r =
     in
     subst (λ names. once bytes_eq (names_listed names problem.trains) ≡ names) r.problem_is.names (ap (once bytes_eq) listed)
 
-pub read_twice : (bytes : List ℕ) (problem : Problem) → IsReadAs bytes problem → All IsUtf8 problem.names → IsReadAs (problem_text problem) problem
-read_twice bytes problem r texts = read_again problem (record { texts = texts; order = read_in_order bytes problem r })
+pub read_in_order : (bytes : List ℕ) (problem : Problem) → IsReadAs bytes problem → HasNamesInOrder problem
+read_in_order bytes problem r = record { texts = read_texts bytes problem r; order = listed_in_order bytes problem r }
+
+pub read_twice : (bytes : List ℕ) (problem : Problem) → IsReadAs bytes problem → IsReadAs (problem_text problem) problem
+read_twice bytes problem r = read_again problem (read_in_order bytes problem r)

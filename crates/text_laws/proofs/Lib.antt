@@ -7,3 +7,5 @@ mod Graphs
 mod Whole
 mod Made
 mod InOrder
+mod Strings
+mod TextNames

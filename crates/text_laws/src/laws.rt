@@ -1,11 +1,9 @@
-ghost use Rattle.std.specs.Prelude.{◌≡◌, ℕ, List, All};
-ghost use Rattle.std.specs.Str.{IsUtf8, bytes_eq};
+ghost use Rattle.std.specs.Prelude.{ℕ, List};
 ghost use Rattle.disp_model.specs.declared.problem.Problem.{Problem};
 ghost use Rattle.displib_reader.specs.Outcome.{IsReadAs};
-ghost use Rattle.displib_reader.specs.ProblemOf.{once};
 ghost use Rattle.instance_maker.specs.Made.{IsMade};
 ghost use Rattle.problem_text.specs.Texts.{problem_text};
-ghost use Rattle.text_laws.specs.Listed.{names_listed, HasNamesInOrder};
+ghost use Rattle.text_laws.specs.Listed.{HasNamesInOrder};
 
 /// What is written of a problem is read again as the same: its trains, its components and its
 /// names, where each name is that of a resource that is listed, and the names stand in the order of
@@ -21,11 +19,11 @@ pub fn made_is_read()
         → IsReadAs (problem_text problem) problem }
 {}
 
-/// The names of a problem that is read stand in the order of their first listing. So, as names are
-/// texts, what is written of it is read again as the same.
+/// The names of a problem that is read are texts, and stand in the order of their first listing. So
+/// what is written of it is read again as the same.
 pub fn read_is_in_order()
     ensures order { (bytes : List ℕ) (problem : Problem) → IsReadAs bytes problem
-        → once bytes_eq (names_listed problem.names problem.trains) ≡ problem.names }
+        → HasNamesInOrder problem }
     ensures again { (bytes : List ℕ) (problem : Problem) → IsReadAs bytes problem
-        → All IsUtf8 problem.names → IsReadAs (problem_text problem) problem }
+        → IsReadAs (problem_text problem) problem }
 {}
