@@ -9,3 +9,4 @@ mod Made
 mod InOrder
 mod Strings
 mod TextNames
+mod Lines

@@ -1,5 +1,5 @@
 -- The names of a problem that is made stand in the order of their first listing.
-use Rattle.std.proofs.Common.{◌≡◌, ℕ, zero, suc, ◌+◌, ◌/◌, ◌%◌, ◌^◌, ◌<◌, ◌≤◌, ◌||◌, List, [], ◌∷◌, ◌++◌, length, get_or, Bool, true, false, cond, Some, refl, sym, ap, ◌∙◌, subst, arith, inl, inr, length-append, decimal, append_assoc, append-nil}
+use Rattle.std.proofs.Common.{◌≡◌, ℕ, zero, suc, ◌/◌, ◌%◌, ◌^◌, ◌<◌, ◌≤◌, ◌||◌, List, [], ◌∷◌, ◌++◌, length, get_or, Bool, true, false, refl, sym, ap, ◌∙◌, arith, inl, inr, length-append, decimal, append_assoc, append-nil}
 use Rattle.std.specs.Prelude.{◌==◌, ◌⊎◌, codes, All, slice_index_or, if◌then◌else◌}
 use Rattle.std.specs.List.{flat_map, list_any}
 use Rattle.std.specs.Str.{IsUtf8, bytes_eq}
@@ -12,7 +12,6 @@ use Rattle.std.proofs.lemmas.List.Folds.{list_any-append}
 use Rattle.std.proofs.lemmas.Slice.Eq.{bytes_eq-Decides}
 use Rattle.std.proofs.lemmas.Str.{IsUtf8-append, IsUtf8-from_ascii}
 use Rattle.json.proofs.Printed.Utf8.{IsUtf8-are_ascii}
-use Rattle.disp_model.specs.declared.limits.TheConstants.{MOST_TRAINS}
 use Rattle.disp_model.specs.declared.problem.Problem.{Problem}
 use Rattle.disp_model.specs.declared.train.Operation.{Operation}
 use Rattle.displib_reader.specs.ProblemOf.{once}
@@ -24,7 +23,7 @@ use Rattle.instance_maker.specs.Made.{first_train, second_train, train_at, train
 use Rattle.problem_text.specs.Texts.{problem_text}
 use Rattle.text_laws.specs.Listed.{names_of_train, names_listed, HasNamesInOrder}
 use Rattle.text_laws.proofs.Graphs.{not_true}
-use Rattle.text_laws.proofs.Whole.{read_again}
+use Rattle.text_laws.proofs.Whole.{read_again, line_again}
 
 -- the name of the resource of this number
 abbrev label : ℕ → List ℕ
@@ -147,3 +146,6 @@ made_in_order number n problem made =
 
 pub made_again : (number n : ℕ) (problem : Problem) → IsMade number n problem → IsReadAs (problem_text problem) problem
 made_again number n problem made = read_again problem (made_in_order number n problem made)
+
+pub made_line : (number n : ℕ) (problem : Problem) → IsMade number n problem → IsReadAs (problem_text problem ++ codes "\n") problem
+made_line number n problem made = line_again problem (made_in_order number n problem made)

@@ -1,10 +1,10 @@
 -- The text of the value that a problem is written as is read as that value.
-use Rattle.std.proofs.Common.{◌≡◌, ℕ, suc, ◌+◌, ◌^◌, ◌<◌, ◌≤◌, List, [], ◌∷◌, ◌++◌, Bool, true, false, Option, Some, None, refl, sym, ap, ◌∙◌, subst, arith, append-nil, decimal}
+use Rattle.std.proofs.Common.{◌≡◌, ℕ, suc, ◌^◌, ◌<◌, ◌≤◌, List, [], ◌∷◌, ◌++◌, true, false, Option, Some, None, refl, sym, ap, ◌∙◌, subst, arith, append-nil, decimal}
 use Rattle.std.specs.Prelude.{codes, option_and_then}
 use Rattle.std.specs.Option.{ForSome}
 use Rattle.std.specs.List.{AllByRecursion}
 use Rattle.std.specs.Str.{IsUtf8}
-use Rattle.std.proofs.lemmas.Str.{IsUtf8-nil, IsUtf8-append, IsUtf8-from_ascii}
+use Rattle.std.proofs.lemmas.Str.{IsUtf8-append, IsUtf8-from_ascii}
 use Rattle.std.proofs.lemmas.Fmt.{IsAscii-decimal}
 use Rattle.json.specs.Lex.{tokens}
 use Rattle.json.specs.Json as json
@@ -23,6 +23,7 @@ use Rattle.disp_model.specs.declared.train.Listing.{Listing}
 use Rattle.disp_model.specs.declared.train.Component.{Component}
 use Rattle.problem_text.specs.Texts.{upper_text}
 use Rattle.text_laws.specs.Listed.{name_of}
+use Rattle.text_laws.proofs.Lines.{tokens_line}
 use Rattle.text_laws.proofs.Data.{number_data, items_data, list_data, listing_data, operation_parts, component_data, train_data, problem_data}
 use Rattle.text_laws.proofs.Texts.{listing_spelled, operation_spelled, component_spelled, problem_spelled}
 
@@ -33,17 +34,29 @@ pub record IsRead (d : Data) (levels : ℕ) : Type 0 where
   pub flat : tree.depth (outline d) ≤ levels
   pub utf8 : IsUtf8 (compact_text d)
 
-text_back : (d : Data) (levels : ℕ) → IsRead d levels → levels ≤ max_depth → read (compact_text d) ≡ Some d
-text_back d levels r few =
+from_tokens : (d : Data) (levels : ℕ) (text : List ℕ) → IsRead d levels → levels ≤ max_depth → tokens text ≡ tree.json_tokens (outline d) → read text ≡ Some d
+from_tokens d levels text r few lexed =
     let j = outline d in
-    let printed = ap tokens (print-outline d) in
-    let lexed = sym printed ∙ tokens-print (tree.json_tokens j) (ArePrintable-json_tokens j r.numbers) in
     ap (λ ts. option_and_then of_json (option_and_then (λ p. json.if_last p.0 p.1) (json.value max_depth ts))) (lexed ∙ sym (append-nil (tree.json_tokens j)))
     ∙ ap (λ p. option_and_then of_json (option_and_then (λ q. json.if_last q.0 q.1) p)) (value-json_tokens j max_depth [] (omega (arith, r.flat)))
     ∙ r.back
 
+text_back : (d : Data) (levels : ℕ) → IsRead d levels → levels ≤ max_depth → read (compact_text d) ≡ Some d
+text_back d levels r few =
+    let ts = tree.json_tokens (outline d) in
+    from_tokens d levels (compact_text d) r few (ap tokens (sym (print-outline d)) ∙ tokens-print ts (ArePrintable-json_tokens (outline d) r.numbers))
+
+-- with one LF behind it
+line_back : (d : Data) (levels : ℕ) → IsRead d levels → levels ≤ max_depth → read (compact_text d ++ codes "\n") ≡ Some d
+line_back d levels r few =
+    let ts = tree.json_tokens (outline d) in
+    from_tokens d levels (compact_text d ++ codes "\n") r few (ap (λ text. tokens (text ++ codes "\n")) (sym (print-outline d)) ∙ tokens_line ts (ArePrintable-json_tokens (outline d) r.numbers))
+
 pub text_is_json : (d : Data) (levels : ℕ) → IsRead d levels → levels ≤ max_depth → IsJson (compact_text d) d
 text_is_json d levels r few = record { utf8 = r.utf8; value = text_back d levels r few }
+
+pub line_is_json : (d : Data) (levels : ℕ) → IsRead d levels → levels ≤ max_depth → IsJson (compact_text d ++ codes "\n") d
+line_is_json d levels r few = record { utf8 = IsUtf8-append (compact_text d) (codes "\n") r.utf8 (IsUtf8-are_ascii (codes "\n") refl); value = line_back d levels r few }
 
 -- ---- numbers, texts and lists
 

@@ -1,6 +1,6 @@
 -- The value that a problem is written as breaks no rule on single places.
-use Rattle.std.proofs.Common.{◌≡◌, ℕ, suc, ◌+◌, ◌<◌, ◌≤◌, List, [], ◌∷◌, ◌++◌, length, Bool, true, false, cond, Option, Some, None, option_map, refl, sym, ap, subst, arith, le-ltb}
-use Rattle.std.specs.Prelude.{codes, find, slice_get}
+use Rattle.std.proofs.Common.{◌≡◌, ℕ, suc, ◌+◌, ◌<◌, ◌≤◌, List, [], ◌∷◌, ◌++◌, length, Bool, true, false, cond, Option, Some, None, option_map, refl, sym, ap, subst, le-ltb}
+use Rattle.std.specs.Prelude.{find}
 use Rattle.std.specs.Option.{ForSome}
 use Rattle.std.specs.List.{AllByRecursion}
 use Rattle.std.proofs.lemmas.Bool.{lt-leb}
@@ -20,8 +20,8 @@ use Rattle.displib_reader.specs.declared.place.Place.TheVariants as place
 use Rattle.displib_reader.specs.declared.place.OperationKey.TheVariants.{StartLb, StartUb, MinDuration, Resources, Successors}
 use Rattle.displib_reader.specs.declared.place.ListingKey.TheVariants.{Resource, ReleaseTime}
 use Rattle.displib_reader.specs.declared.place.ComponentKey.TheVariants as key
-use Rattle.displib_reader.specs.Claims.{listing_claims, successor_claims, operation_claims, train_claims, count_at, cost_claims, component_claims, problem_claims}
-use Rattle.text_laws.proofs.Data.{number_data, items_data, list_data, listing_data, operation_parts, operation_data, train_data, component_data, problem_data}
+use Rattle.displib_reader.specs.Claims.{listing_claims, successor_claims, operation_claims, train_claims, count_at, component_claims, problem_claims}
+use Rattle.text_laws.proofs.Data.{number_data, items_data, listing_data, operation_parts, operation_data, train_data, component_data, problem_data}
 
 -- the claim breaks no rule
 record IsUnbroken (c : Claim Place) : Type 0 where

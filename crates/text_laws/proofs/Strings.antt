@@ -1,11 +1,10 @@
 -- The texts of strings that are read of UTF-8 are UTF-8.
-use Rattle.std.proofs.Common.{◌≡◌, ℕ, zero, suc, ◌+◌, ◌-◌, ◌*◌, ◌<◌, ◌≤◌, ◌&&◌, ◌||◌, List, [], ◌∷◌, ◌++◌, length, get_or, take, drop, Bool, true, false, cond, Option, Some, None, option_map, refl, sym, ap, ◌∙◌, subst, arith, append_assoc, inl, inr, ltb-true}
+use Rattle.std.proofs.Common.{◌≡◌, ℕ, zero, suc, ◌+◌, ◌*◌, ◌<◌, ◌≤◌, ◌&&◌, ◌||◌, List, [], ◌∷◌, ◌++◌, length, get_or, Bool, true, false, cond, Option, Some, None, option_map, refl, sym, subst, arith, append_assoc, inl, inr, ltb-true}
 use Rattle.std.specs.Prelude.{◌==◌, ◌⊎◌, slice_index, nat_lt, nat_le, option_and_then}
 use Rattle.std.specs.Char.{digit_value, is_digit, encode_utf8, IsScalar}
-use Rattle.std.specs.Str.{IsUtf8, IsCharBoundary}
+use Rattle.std.specs.Str.{IsUtf8}
 use Rattle.std.proofs.Math.Seq.{take-append_seam, drop-append-add, get_or-append_seam}
-use Rattle.std.proofs.Math.Utf8.{scalar}
-use Rattle.std.proofs.lemmas.Bool.{cases_lt, and_parts, eqb-true, le-ltb, lt-ltb, le-leb, ltb-false, leb-false}
+use Rattle.std.proofs.lemmas.Bool.{cases_lt, and_parts, eqb-true, le-ltb, lt-ltb, le-leb, ltb-false}
 use Rattle.std.proofs.lemmas.List.{length-append}
 use Rattle.std.proofs.lemmas.Str.{IsUtf8-nil, IsUtf8-append, IsUtf8-encode, IsUtf8-from_ascii, IsUtf8-take, IsUtf8-drop, IsCharBoundary-before_ascii, IsCharBoundary-after_ascii}
 use Rattle.json.specs.Text.{code_unit, short_escape, is_high_surrogate, is_low_surrogate, surrogate_pair, plain, after_backslash, after_u, after_high, prepend, content}
@@ -171,9 +170,9 @@ mutual
   plain_utf8 p (x ∷ xs) u =
       either (Holds (λ s. IsUtf8 (p ++ s))) (x == 34) (Some []) _ (λ e. let same : x ≡ 34 = eqb-true x 34 e in IsUtf8-append p [] (front p x xs u (omega (arith, same))) IsUtf8-nil)
       (λ _. either (Holds (λ s. IsUtf8 (p ++ s))) (x == 92) (content after_backslash xs) _
-          (λ e. let same : x ≡ 92 = eqb-true x 92 e in kept p (content after_backslash xs) (front p x xs u (omega (arith, same))) (backslash_utf8 xs (behind p x xs u (omega (arith, same)))))
+      (λ e. let same : x ≡ 92 = eqb-true x 92 e in kept p (content after_backslash xs) (front p x xs u (omega (arith, same))) (backslash_utf8 xs (behind p x xs u (omega (arith, same)))))
       (λ _. either (Holds (λ s. IsUtf8 (p ++ s))) (nat_lt x 32) None (prepend (x ∷ []) (content plain xs)) (λ _. tt)
-          (λ _. mapped (λ s. IsUtf8 ((p ++ x ∷ []) ++ s)) (λ s. IsUtf8 (p ++ s)) (λ s. (x ∷ []) ++ s) (content plain xs) (λ s is. subst IsUtf8 (append_assoc p (x ∷ []) s) is) (plain_utf8 (p ++ x ∷ []) xs (one_more p x xs u)))))
+      (λ _. mapped (λ s. IsUtf8 ((p ++ x ∷ []) ++ s)) (λ s. IsUtf8 (p ++ s)) (λ s. (x ∷ []) ++ s) (content plain xs) (λ s is. subst IsUtf8 (append_assoc p (x ∷ []) s) is) (plain_utf8 (p ++ x ∷ []) xs (one_more p x xs u)))))
 
   backslash_utf8 : (xs : List ℕ) → IsUtf8 xs → Holds IsUtf8 (content after_backslash xs)
   backslash_utf8 [] u = tt

@@ -1,5 +1,5 @@
 -- The names of a problem that is read are UTF-8.
-use Rattle.std.proofs.Common.{◌≡◌, ℕ, zero, suc, List, [], ◌∷◌, ◌++◌, length, Ordering, Less, Equal, Greater, Bool, true, false, Option, Some, None, option_map, refl, sym, subst}
+use Rattle.std.proofs.Common.{ℕ, zero, suc, List, [], ◌∷◌, ◌++◌, length, Ordering, Less, Equal, Greater, Bool, true, false, Option, Some, None, option_map, subst}
 use Rattle.std.specs.Prelude.{All, codes, option_and_then, is_some, if◌then◌else◌}
 use Rattle.std.specs.Option.{option_map_or}
 use Rattle.std.specs.Ordering.{nat_cmp, match_ordering}
@@ -14,12 +14,11 @@ use Rattle.serde_json.specs.Data.{Num, Data, null, boolean, number, string, arra
 use Rattle.serde_json.specs.Find.{get_member, get, as_null, as_str, as_array}
 use Rattle.serde_json.specs.Read.{number_of, of_json, of_items, of_members, read, max_depth}
 use Rattle.json_claims.specs.Field.{present, field, values_of, members_in, members_at, text_at}
-use Rattle.json_claims.specs.Json.{IsJson}
 use Rattle.disp_model.specs.declared.problem.Problem.{Problem}
 use Rattle.displib_reader.specs.Outcome.{IsReadAs}
-use Rattle.displib_reader.specs.ProblemOf.{once, names_of_operation, names_of_train, names_in}
+use Rattle.displib_reader.specs.ProblemOf.{names_of_operation, names_of_train, names_in}
 use Rattle.displib_reader.proofs.Distinct.{once_all}
-use Rattle.text_laws.proofs.Strings.{Holds, either, chained, mapped, held, AreTextTokens, tokens_are}
+use Rattle.text_laws.proofs.Strings.{Holds, chained, mapped, held, AreTextTokens, tokens_are}
 
 -- ---- the grammar
 

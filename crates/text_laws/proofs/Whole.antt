@@ -1,5 +1,5 @@
 -- The text of a problem whose names stand in the order of their first listing is read as the problem.
-use Rattle.std.proofs.Common.{◌≡◌, ◌≢◌, ℕ, zero, suc, ◌+◌, ◌^◌, ◌<◌, ◌≤◌, List, [], ◌∷◌, length, get_or, filter, not, cond, Bool, true, false, Option, Some, None, refl, sym, ap, ◌∙◌, subst, arith, le-ltb}
+use Rattle.std.proofs.Common.{◌≡◌, ◌≢◌, ℕ, zero, suc, ◌+◌, ◌^◌, ◌<◌, ◌≤◌, List, [], ◌∷◌, ◌++◌, length, get_or, filter, not, cond, Bool, true, false, Some, None, refl, sym, ap, ◌∙◌, subst, arith, le-ltb}
 use Rattle.std.specs.Prelude.{codes, nat_eq, nat_lt, All, slice_get, sum_by}
 use Rattle.std.specs.List.{AllByRecursion, position_or_len}
 use Rattle.std.specs.Str.{IsUtf8, bytes_eq}
@@ -17,21 +17,21 @@ use Rattle.disp_model.specs.declared.train.Listing.{Listing}
 use Rattle.disp_model.specs.declared.train.Operation.{Operation}
 use Rattle.disp_model.specs.declared.train.Component.{Component}
 use Rattle.disp_model.specs.WellFormed.{HasFitNumbers, RefersInside, IsAcyclic, IsComponent, operation_count}
-use Rattle.displib_reader.specs.Claims.{count_at}
+use Rattle.displib_reader.specs.Claims.{count_at, problem_claims}
 use Rattle.displib_reader.specs.Counts.{trains_given, operations_given, components_given, too_many}
 use Rattle.displib_reader.specs.Types.{first_unknown}
-use Rattle.displib_reader.specs.ProblemOf.{once, trains_of, trains_with}
-use Rattle.displib_reader.specs.Outcome.{KeepsRules, IsLinked, IsReadAs}
+use Rattle.displib_reader.specs.ProblemOf.{once, trains_with, IsProblemOf}
+use Rattle.displib_reader.specs.Outcome.{IsLinked, IsReadAs}
 use Rattle.displib_reader.proofs.Distinct.{at_all}
 use Rattle.displib_reader.proofs.Parts.{IsGoodOperation}
 use Rattle.displib_reader.proofs.Trains.{IsGoodTrain, all_weaker}
 use Rattle.problem_text.specs.Texts.{problem_text}
 use Rattle.json_claims.specs.Json.{IsJson}
-use Rattle.text_laws.specs.Listed.{name_of, names_listed, HasNamesInOrder}
-use Rattle.text_laws.proofs.Data.{number_data, items_data, listing_data, operation_data, train_data, component_data, problem_data}
+use Rattle.text_laws.specs.Listed.{name_of, HasNamesInOrder}
+use Rattle.text_laws.proofs.Data.{items_data, listing_data, operation_data, train_data, component_data, problem_data}
 use Rattle.text_laws.proofs.Texts.{problem_written}
-use Rattle.text_laws.proofs.Readings.{IsRead, IsShort, listing_read, operation_read, list_read, component_read, problem_read, text_is_json}
-use Rattle.text_laws.proofs.Rules.{IsPlace, HasPlaces, HasPlace, as_many, problem_unbroken}
+use Rattle.text_laws.proofs.Readings.{IsRead, IsShort, listing_read, operation_read, list_read, component_read, problem_read, text_is_json, line_is_json}
+use Rattle.text_laws.proofs.Rules.{AreUnbroken, IsPlace, HasPlaces, HasPlace, as_many, problem_unbroken}
 use Rattle.text_laws.proofs.Back.{IsKnown, IsReadable, IsSmall, trains_back, components_back, names_are}
 use Rattle.text_laws.proofs.Graphs.{IsSound, not_true, have_graphs}
 
@@ -210,54 +210,85 @@ few_parts names trains components trains-fit operations-fit components-fit =
 
 -- ---- problems
 
-pub read_again : (problem : Problem) → HasNamesInOrder problem → IsReadAs (problem_text problem) problem
-read_again problem ordered =
-    let names = problem.names in
-    let trains = problem.trains in
-    let components = problem.components in
+abbrev data_of : Problem → Data
+data_of problem = problem_data problem.names problem.trains problem.components
+
+abbrev IsPlaced : Problem → Component → Type 0
+IsPlaced problem c = HasPlace (values_of (items_data (train_data problem.names) problem.trains)) c × IsSmall c × IsShort c
+
+short_trains : (problem : Problem) → AllByRecursion (λ t. length t ≤ MOST_OPERATIONS) problem.trains
+short_trains problem = all_short problem.trains problem.well_formed.operations_fit
+
+whole_trains : (problem : Problem) → AllByRecursion (IsWhole (length problem.names)) problem.trains
+whole_trains problem =
+    let resources = length problem.names in
     let formed = problem.well_formed in
-    let d = problem_data names trains components in
-    let short = all_short trains formed.operations_fit in
-    let whole =
-    wholes (length names) trains (recursion_from_All (λ (t : List Operation). All HasFitNumbers t) trains formed.numbers)
-    (recursion_from_All (λ (t : List Operation). All (RefersInside (length t) (length names)) t) trains formed.references) short (recursion_from_All IsAcyclic trains formed.acyclic)
-    in
-    let placed =
-    all_weaker (IsComponent trains) (λ c. HasPlace (values_of (items_data (train_data names) trains)) c × IsSmall c × IsShort c) (λ c is. component_place names trains c formed.trains_fit short is) components
-    (recursion_from_All (IsComponent trains) components formed.named)
-    in
-    let unbroken =
-    problem_unbroken names trains components (all_weaker (IsWhole (length names)) (λ t. AllByRecursion (HasPlaces (length t)) t) (train_places (length names)) trains whole)
-    (all_weaker (λ c. HasPlace (values_of (items_data (train_data names) trains)) c × IsSmall c × IsShort c) (HasPlace (values_of (items_data (train_data names) trains))) (λ c p. p.0) components placed)
-    in
-    let named = names_are names trains components ∙ ordered.order in
-    let trains-are : trains_of d ≡ Some trains =
-    subst (λ ns. trains_with ns d ≡ Some trains) (sym named)
-    (trains_back names trains components (all_weaker (IsWhole (length names)) (AllByRecursion (IsReadable names)) (λ t w. train_readable names t formed.distinct w) trains whole))
-    in
-    let components-are =
-    components_back names trains components
-    (all_weaker (λ c. HasPlace (values_of (items_data (train_data names) trains)) c × IsSmall c × IsShort c) IsSmall (λ c p. p.1) components placed)
-    in
+    wholes resources problem.trains (recursion_from_All (λ (t : List Operation). All HasFitNumbers t) problem.trains formed.numbers)
+    (recursion_from_All (λ (t : List Operation). All (RefersInside (length t) resources) t) problem.trains formed.references)
+    (short_trains problem) (recursion_from_All IsAcyclic problem.trains formed.acyclic)
+
+placed_components : (problem : Problem) → AllByRecursion (IsPlaced problem) problem.components
+placed_components problem =
+    all_weaker (IsComponent problem.trains) (IsPlaced problem) (λ c is. component_place problem.names problem.trains c problem.well_formed.trains_fit (short_trains problem) is)
+    problem.components (recursion_from_All (IsComponent problem.trains) problem.components problem.well_formed.named)
+
+rules_kept : (problem : Problem) → AreUnbroken (problem_claims (data_of problem))
+rules_kept problem =
+    problem_unbroken problem.names problem.trains problem.components
+    (all_weaker (IsWhole (length problem.names)) (λ t. AllByRecursion (HasPlaces (length t)) t) (train_places (length problem.names)) problem.trains (whole_trains problem))
+    (all_weaker (IsPlaced problem) (HasPlace (values_of (items_data (train_data problem.names) problem.trains))) (λ c is. is.0) problem.components (placed_components problem))
+
+linked : (problem : Problem) → IsLinked (data_of problem)
+linked problem =
+    let kept = rules_kept problem in
+    let formed = problem.well_formed in
+    record {
+      plain = record { shape = kept.each rule.Shape; whole = kept.each rule.Whole; limit = kept.each rule.Limit };
+      few = few_parts problem.names problem.trains problem.components formed.trains_fit formed.operations_fit formed.components_fit;
+      index = kept.each rule.Index;
+    }
+
+data_read : (problem : Problem) → HasNamesInOrder problem → IsRead (data_of problem) 6
+data_read problem ordered =
+    problem_read problem.names problem.trains problem.components
+    (all_weaker (IsWhole (length problem.names)) (λ t. IsRead (train_data problem.names t) 4) (λ t whole. train_reads problem.names t ordered.texts whole) problem.trains (whole_trains problem))
+    (all_weaker (IsPlaced problem) (λ c. IsRead (component_data c) 1) (λ c is. component_read c is.2) problem.components (placed_components problem))
+
+problem_is : (problem : Problem) → HasNamesInOrder problem → IsProblemOf (data_of problem) problem
+problem_is problem ordered =
+    let named = names_are problem.names problem.trains problem.components ∙ ordered.order in
     let read =
-    problem_read names trains components (all_weaker (IsWhole (length names)) (λ t. IsRead (train_data names t) 4) (λ t w. train_reads names t ordered.texts w) trains whole)
-    (all_weaker (λ c. HasPlace (values_of (items_data (train_data names) trains)) c × IsSmall c × IsShort c) (λ c. IsRead (component_data c) 1) (λ c p. component_read c p.2) components placed)
+    trains_back problem.names problem.trains problem.components
+    (all_weaker (IsWhole (length problem.names)) (AllByRecursion (IsReadable problem.names)) (λ t whole. train_readable problem.names t problem.well_formed.distinct whole) problem.trains (whole_trains problem))
     in
     record {
-      value = d;
-      json = subst (λ t. IsJson t d) (problem_written problem) (text_is_json d 6 read (omega arith));
-      keeps = record {
-        has_trains = record {
-          linked = record {
-            plain = record { shape = unbroken.each rule.Shape; whole = unbroken.each rule.Whole; limit = unbroken.each rule.Limit };
-            few = few_parts names trains components formed.trains_fit formed.operations_fit formed.components_fit;
-            index = unbroken.each rule.Index;
-          };
-          trains_are = trains-are;
-        };
-        graphs = have_graphs (length names) trains (all_weaker (IsWhole (length names)) (IsSound (length names)) (sound (length names)) trains whole);
-        has_components = record { types = all_known_types 0 components; components_are = components-are };
-        cheap = formed.costs_fit;
-      };
-      problem_is = record { trains = trains-are; components = components-are; names = named };
+      trains = subst (λ names. trains_with names (data_of problem) ≡ Some problem.trains) (sym named) read;
+      components = components_back problem.names problem.trains problem.components (all_weaker (IsPlaced problem) IsSmall (λ c is. is.1) problem.components (placed_components problem));
+      names = named;
     }
+
+-- the problem is read of whatever text has its value
+read_of : (problem : Problem) → HasNamesInOrder problem → (bytes : List ℕ) → IsJson bytes (data_of problem) → IsReadAs bytes problem
+read_of problem ordered bytes is-json =
+    let is = problem_is problem ordered in
+    let resources = length problem.names in
+    record {
+      value = data_of problem;
+      json = is-json;
+      keeps = record {
+        has_trains = record { linked = linked problem; trains_are = is.trains };
+        graphs = have_graphs resources problem.trains (all_weaker (IsWhole resources) (IsSound resources) (sound resources) problem.trains (whole_trains problem));
+        has_components = record { types = all_known_types 0 problem.components; components_are = is.components };
+        cheap = problem.well_formed.costs_fit;
+      };
+      problem_is = is;
+    }
+
+pub read_again : (problem : Problem) → HasNamesInOrder problem → IsReadAs (problem_text problem) problem
+read_again problem ordered =
+    read_of problem ordered (problem_text problem) (subst (λ text. IsJson text (data_of problem)) (problem_written problem) (text_is_json (data_of problem) 6 (data_read problem ordered) (omega arith)))
+
+pub line_again : (problem : Problem) → HasNamesInOrder problem → IsReadAs (problem_text problem ++ codes "\n") problem
+line_again problem ordered =
+    read_of problem ordered (problem_text problem ++ codes "\n")
+    (subst (λ text. IsJson (text ++ codes "\n") (data_of problem)) (problem_written problem) (line_is_json (data_of problem) 6 (data_read problem ordered) (omega arith)))

@@ -1,4 +1,4 @@
-ghost use Rattle.std.specs.Prelude.{ℕ, List};
+ghost use Rattle.std.specs.Prelude.{◌++◌, ℕ, List, codes};
 ghost use Rattle.disp_model.specs.declared.problem.Problem.{Problem};
 ghost use Rattle.displib_reader.specs.Outcome.{IsReadAs};
 ghost use Rattle.instance_maker.specs.Made.{IsMade};
@@ -7,16 +7,20 @@ ghost use Rattle.text_laws.specs.Listed.{HasNamesInOrder};
 
 /// What is written of a problem is read again as the same: its trains, its components and its
 /// names, where each name is that of a resource that is listed, and the names stand in the order of
-/// their first listing, as the reader numbers them.
+/// their first listing, as the reader numbers them. One LF behind the text changes nothing.
 pub fn written_is_read()
-    ensures { (problem : Problem) → HasNamesInOrder problem
+    ensures text { (problem : Problem) → HasNamesInOrder problem
         → IsReadAs (problem_text problem) problem }
+    ensures line { (problem : Problem) → HasNamesInOrder problem
+        → IsReadAs (problem_text problem ++ codes "\n") problem }
 {}
 
-/// What is written of a problem that is made of a number is read again as the same.
+/// What is stored of a problem that is made of a number is read again as the same.
 pub fn made_is_read()
-    ensures { (number trains : ℕ) (problem : Problem) → IsMade number trains problem
+    ensures text { (number trains : ℕ) (problem : Problem) → IsMade number trains problem
         → IsReadAs (problem_text problem) problem }
+    ensures line { (number trains : ℕ) (problem : Problem) → IsMade number trains problem
+        → IsReadAs (problem_text problem ++ codes "\n") problem }
 {}
 
 /// The names of a problem that is read are texts, and stand in the order of their first listing. So
