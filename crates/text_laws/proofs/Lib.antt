@@ -10,3 +10,4 @@ mod InOrder
 mod Strings
 mod TextNames
 mod Lines
+mod Solutions

@@ -66,7 +66,7 @@ decimal_utf8 n fits = IsUtf8-from_ascii (decimal n) (IsAscii-decimal n fits)
 pub number_read : (n : ℕ) → n < 2 ^ 64 → IsRead (number_data n) 0
 number_read n fits = record { back = rw (number_of-decimal n fits) refl; numbers = IsNumber-decimal n fits; flat = omega arith; utf8 = decimal_utf8 n fits }
 
-items_back : {X : Type 0} (form : X → Data) (levels : ℕ) (xs : List X) → AllByRecursion (λ x. IsRead (form x) levels) xs → of_items (items_outline (items_data form xs)) ≡ Some (items_data form xs)
+pub items_back : {X : Type 0} (form : X → Data) (levels : ℕ) (xs : List X) → AllByRecursion (λ x. IsRead (form x) levels) xs → of_items (items_outline (items_data form xs)) ≡ Some (items_data form xs)
 items_back form levels [] all = refl
 items_back form levels (x ∷ xs) all = rw (all.0.back, items_back form levels xs all.1) refl
 
@@ -102,10 +102,10 @@ all_numbers (n ∷ ns) all = (number_read n all.0, all_numbers ns all.1)
 -- ---- listings and operations
 
 -- a word, a text, and what follows
-piece : (word text rest : List ℕ) → IsUtf8 word → IsUtf8 text → IsUtf8 rest → IsUtf8 (word ++ (text ++ rest))
+pub piece : (word text rest : List ℕ) → IsUtf8 word → IsUtf8 text → IsUtf8 rest → IsUtf8 (word ++ (text ++ rest))
 piece word text rest word-is text-is rest-is = IsUtf8-append word (text ++ rest) word-is (IsUtf8-append text rest text-is rest-is)
 
-closed : IsUtf8 (codes "}")
+pub closed : IsUtf8 (codes "}")
 closed = IsUtf8-are_ascii (codes "}") refl
 
 pub listing_read : (names : List (List ℕ)) (l : Listing) → l.release < 2 ^ 64 → IsUtf8 (name_of names l) → IsRead (listing_data names l) 1

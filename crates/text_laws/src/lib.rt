@@ -1,7 +1,7 @@
-//! Laws on texts of problems, each the contract of a function without a body: what `problem_text`
-//! writes is what `displib_reader` reads as the same problem.
+//! Laws on texts that are stored, each the contract of a function without a body: what
+//! `problem_text` writes of a problem, and `solution_text` of a plan, is read again as the same.
 #![tactic(auto)]
 
 mod laws;
 
-pub use laws::{made_is_read, read_is_in_order, written_is_read};
+pub use laws::{made_is_read, read_is_in_order, stored_solution_is_read, written_is_read};
