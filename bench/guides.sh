@@ -6,8 +6,9 @@
 # prints then, within a minute. There `..` stands for anything: in a line of its own for any lines, in a line for any text.
 # Build first: (cd crates/dispatch && rt run -- solve ../../examples/delay.json)
 set -eu
-cd "$(dirname "$0")/.."
-program=$(realpath "${1:-crates/dispatch/out/dispatch}")
+top=$(cd "$(dirname "$0")/.." && pwd)
+program=$(realpath -m "${1:-$top/crates/dispatch/out/dispatch}")
+cd "$top"
 [ -x "$program" ] || { echo "no $program: build it first"; exit 1; }
 python3 - "$program" docs/guides/*.md <<'PYTHON'
 import os, queue, re, shutil, subprocess, sys, tempfile, threading, time

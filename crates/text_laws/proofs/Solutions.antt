@@ -19,7 +19,7 @@ use Rattle.solution_text.specs.Texts.{event_text, next_event_text, events_text, 
 use Rattle.solution_text.proofs.ReadBack.{read_again}
 use Rattle.problem_text.specs.Texts.{listed}
 use Rattle.text_laws.proofs.Data.{number_data, list_data}
-use Rattle.text_laws.proofs.Texts.{list_written}
+use Rattle.text_laws.proofs.Texts.{four_to_the_right, list_written}
 use Rattle.text_laws.proofs.Readings.{IsRead, number_read, list_read, items_back, piece, closed, text_is_json, line_is_json}
 
 abbrev event_data : Event → Data
@@ -42,9 +42,6 @@ seven_to_the_right a b c d e f g = simp append_assoc
 
 event_written : (e : Event) → compact_text (event_data e) ≡ event_text e
 event_written e = event_spelled e ∙ sym (seven_to_the_right (codes "{\"operation\":") (decimal e.operation) (codes ",\"time\":") (decimal e.time) (codes ",\"train\":") (decimal e.train) (codes "}"))
-
-four_to_the_right : (a b c d : List ℕ) → a ++ b ++ c ++ d ≡ a ++ (b ++ (c ++ d))
-four_to_the_right a b c d = simp append_assoc
 
 three_to_the_right : (a b c d : List ℕ) → a ++ ((b ++ c) ++ d) ≡ a ++ (b ++ (c ++ d))
 three_to_the_right a b c d = simp append_assoc

@@ -22,7 +22,7 @@ items_written form text same (x ∷ xs) =
     ∙ ap (λ t. behind_comma text x ++ t) (items_written form text same xs)
     ∙ sym (append_assoc (behind_comma text x) (flat_map (behind_comma text) xs) (codes "]"))
 
-four_to_the_right : (a b c d : List ℕ) → a ++ b ++ c ++ d ≡ a ++ (b ++ (c ++ d))
+pub four_to_the_right : (a b c d : List ℕ) → a ++ b ++ c ++ d ≡ a ++ (b ++ (c ++ d))
 four_to_the_right a b c d = simp append_assoc
 
 pub list_written : {X : Type 0} (form : X → Data) (text : X → List ℕ) → ((x : X) → compact_text (form x) ≡ text x) → (xs : List X) → compact_text (list_data form xs) ≡ listed text xs
