@@ -1,0 +1,13 @@
+mod Data
+mod Texts
+mod Readings
+mod Rules
+mod Back
+mod Graphs
+mod Whole
+mod Made
+mod InOrder
+mod Strings
+mod TextNames
+mod Lines
+mod Solutions
