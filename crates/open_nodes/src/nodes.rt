@@ -182,13 +182,7 @@ impl Nodes {
     }
 
     /// The number of a leaf that may be taken.
-    fn find(
-        &mut self,
-        best: Option<u64>,
-        free: u32,
-        want: u32,
-        taker: u32,
-    ) -> Option<usize>
+    fn find(&mut self, best: Option<u64>, free: u32, want: u32, taker: u32) -> Option<usize>
         ensures same { self.new ≡ self.old }
         ensures found { MatchOption result (NoneTakeable self.old.edition best free self.old.places)
             (λ n. MayBeTaken self.old best free n) }

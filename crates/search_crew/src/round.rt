@@ -18,8 +18,8 @@ use disp_model::{Answer, Memory};
 use disp_outside::{Gate, Point};
 use node_leaves::Reckoning;
 use open_nodes::Work;
-use shared_board::{Board, Pass, SEARCHERS_FROM};
 use search_workers::FOR_BOUND;
+use shared_board::{Board, Pass, SEARCHERS_FROM};
 use std::alloc::Global;
 use std::sync::Wait;
 

@@ -278,7 +278,9 @@ fn trial_cost(inserted: u32, kept: usize) -> u32 {
 /// spent.
 fn least_worth(best: Worth, spent: u32, insertions: u32) -> Worth {
     let left = u64::from(insertions.saturating_sub(spent));
-    let slack = (best.cost / 1000).saturating_mul(SLACK).saturating_mul(left);
+    let slack = (best.cost / 1000)
+        .saturating_mul(SLACK)
+        .saturating_mul(left);
     let more = slack.checked_div(u64::from(insertions)).unwrap_or(0);
     Worth {
         missing: best.missing,

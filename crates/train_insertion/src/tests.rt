@@ -75,7 +75,14 @@ fn targeted(
     let trains = trains.as_slice();
     let components = [delay(0, exit), delay(1, exit)];
     let lines = lines_of(alloc, trains, components.as_slice(), fixings)?;
-    target_of(alloc, 1, trains, lines.as_slice(), insertions, &mut Vec::new(alloc))
+    target_of(
+        alloc,
+        1,
+        trains,
+        lines.as_slice(),
+        insertions,
+        &mut Vec::new(alloc),
+    )
 }
 
 /// When a train starts an operation.
