@@ -8,7 +8,6 @@ ghost use Rattle.search_crew.specs.Grounds.{IsGround, IsNoMore};
 
 use disp_model::{Copied, Fixing, Leaf, Memory, Problem};
 use event_graph::Graph;
-use free_choices::Strategy;
 use node_leaves::Reckoning;
 use open_nodes::Work;
 use search_workers::{Growth, grow, leaf_alone, refused_leaf, target_after};
@@ -18,9 +17,6 @@ use tree_dives::Guide;
 
 /// How many trains are put in for a target where an order of trains is known from the last one.
 const INSERTIONS_AGAIN: u32 = 4000;
-
-/// The searcher that chooses by time alone: a deadlock is often seen so.
-const BY_TIME: u32 = 1;
 
 /// A graph of an edition, which is moved from work to work, and what guides the dives.
 #[derive(Drop)]
@@ -47,37 +43,30 @@ fn insertions_for(order: &[u32]) -> u32 {
     }
 }
 
-/// A guide along a target of a problem under fixings, for the searcher of a place: the second chooses
-/// by time alone. The target begins with the order of trains of the last one, and leaves its own.
+/// A guide along a target of a problem under fixings. The target begins with the order of trains of
+/// the last one, and leaves its own.
 fn guide_to(
     alloc: Global,
     problem: &Problem,
     fixings: &[Fixing],
-    place: u32,
     order: &mut Vec<u32>,
 ) -> Result<Guide, Memory> {
     let insertions = insertions_for(order.as_slice());
     let target = target(alloc, problem, fixings, insertions, order)?;
-    let mut guide = Guide::new(alloc, problem, target)?;
-    if place == BY_TIME {
-        guide.stay_with(Strategy::Time);
-    }
-    Ok(guide)
+    Guide::new(alloc, problem, target)
 }
 
-/// The ground of an edition with these fixings, for the searcher of a place, which keeps an order of
-/// trains from edition to edition.
+/// The ground of an edition with these fixings. The order of trains is kept from edition to edition.
 pub(crate) fn ground_of<'p>(
     alloc: Global,
     problem: &'p Problem,
     fixings: &[Fixing],
-    place: u32,
     order: &mut Vec<u32>,
 ) -> Result<Ground<'p>, Memory>
     requires { IsOfEdition (node_at problem.now fixings.now []) }
     ensures { IfOk result (IsGround problem.now fixings.now) }
 {
-    let guide = guide_to(alloc, problem, fixings, place, order)?;
+    let guide = guide_to(alloc, problem, fixings, order)?;
     match Graph::new(alloc, problem, fixings) {
         Ok(graph) => Ok(Ground::Alive(Alive { graph, guide })),
         Err(no) => Ok(Ground::Dead(refused_leaf(no)?)),

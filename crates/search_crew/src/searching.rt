@@ -77,13 +77,7 @@ fn search_newest<W: Wait, G: Gate>(
         return Ok(Answer::Unfinished(Unfinished::Newer(number)));
     }
     let reckoning = Reckoning::new(alloc, board.problem(), rule)?;
-    let mut ground = ground_of(
-        alloc,
-        board.problem(),
-        fixings.as_slice(),
-        hand.place,
-        &mut hand.order,
-    )?;
+    let mut ground = ground_of(alloc, board.problem(), fixings.as_slice(), &mut hand.order)?;
     tell(crew, hand, edition, GREATEST_COST);
     rounds(
         rt,

@@ -16,9 +16,8 @@ pub struct Guide {
     pub(crate) target: Target,
     pub(crate) adviser: Adviser,
     pub(crate) strategy: Strategy,
-    /// How many dives the strategy has had, and whether it gives way to the other one.
+    /// How many dives the strategy has had.
     dives: u32,
-    takes_turns: bool,
 }
 
 impl Guide {
@@ -29,19 +28,12 @@ impl Guide {
             adviser: Adviser::new(alloc, problem)?,
             strategy: Strategy::Toll,
             dives: 0,
-            takes_turns: true,
         })
     }
 
     /// Makes this the target.
     pub fn aim_at(&mut self, target: Target) {
         self.target = target;
-    }
-
-    /// Takes choices by one strategy from now on.
-    pub fn stay_with(&mut self, strategy: Strategy) {
-        self.strategy = strategy;
-        self.takes_turns = false;
     }
 
     /// Notes that the graph may have been moved to any node.
@@ -56,7 +48,7 @@ impl Guide {
             Strategy::Toll | Strategy::Any => (TOLL_DIVES, Strategy::Time),
             Strategy::Time => (TIME_DIVES, Strategy::Toll),
         };
-        if self.takes_turns && self.dives >= turn {
+        if self.dives >= turn {
             self.dives = 0;
             self.strategy = other;
         }
