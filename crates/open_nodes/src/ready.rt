@@ -54,28 +54,6 @@ fn pop_last(
     None
 }
 
-/// The first leaf of a stack that may be taken.
-fn pop_first(
-    stack: &mut VecDeque<usize>,
-    places: &[Place],
-    edition: u32,
-    best: Option<u64>,
-    free: u32,
-) -> Option<usize>
-    ensures { IfSome result (λ n. (p : Place) × (slice_get places.now n ≡ Some p)
-        × IsTakeable edition best free p) }
-{
-    for _ in 0..stack.len() {
-        let number = stack.pop_front()?;
-        if let Some(place) = places.get(number) {
-            if is_takeable(place, edition, best, free) {
-                return Some(number);
-            }
-        }
-    }
-    None
-}
-
 impl Ready {
     /// The first leaf, with the bound 0.
     pub(crate) fn new(alloc: Global) -> Result<Ready, Memory> {
@@ -93,7 +71,7 @@ impl Ready {
     }
 
     /// A leaf that may be taken: where few branches are wanted one of the least kept bound, else
-    /// the last one that came of the taker's works, or else the first of another's. It and those
+    /// the last one that came of the taker's works, or else of another's. It and those
     /// that come before it are taken off.
     pub(crate) fn pop_takeable(
         &mut self,
@@ -136,7 +114,7 @@ impl Ready {
         self.pop_cheap(places, edition, best, free)
     }
 
-    /// The last leaf of a searcher, in depth, that may be taken, or else the first of another.
+    /// The last leaf of a searcher, in depth, that may be taken, or else the last of another.
     fn pop_deep(
         &mut self,
         places: &[Place],
@@ -155,7 +133,7 @@ impl Ready {
         }
         for other in 0..self.deep.len() {
             if let Some(stack) = self.deep.get_mut(other) {
-                if let Some(number) = pop_first(stack, places, edition, best, free) {
+                if let Some(number) = pop_last(stack, places, edition, best, free) {
                     return Some(number);
                 }
             }
