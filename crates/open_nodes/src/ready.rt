@@ -10,7 +10,7 @@ use std::cmp::Reverse;
 use std::collections::{BinaryHeap, VecDeque};
 
 /// Who wants no more branches than this for a leaf works on the bound, who wants more on a plan.
-const FEW: u32 = 64;
+const FEW: u32 = 31;
 
 /// Leaves that may be taken. It is advice: a leaf may be missing, or be no more such a leaf.
 #[derive(Drop)]

@@ -14,7 +14,7 @@ const ROOM: usize = 8;
 
 /// How many branches a searcher asks for at a time to find a plan where others share the tree, at
 /// least: the fewest for which the core goes on in depth.
-const SHARED_FOR_PLAN: u32 = 65;
+const SHARED_FOR_PLAN: u32 = 32;
 
 /// How many it asks for where changes may come, at most.
 const PROMPT_FOR_PLAN: u32 = 1024;

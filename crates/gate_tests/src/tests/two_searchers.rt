@@ -61,8 +61,8 @@ impl Gate for Sharing {
     }
 }
 
-/// `solve` with two searchers and a budget of 500 on the problem of 0 for 200 trains, of which a plan
-/// needs 100 decisions.
+/// `solve` with two searchers and a budget of 500 on the problem of 0 for 200 trains, of which a
+/// plan needs 100 decisions.
 fn run(rt: &(impl Threads + Wait + Sync + AllocGlobal), gate: &Sharing) -> Result<Done, Fail> {
     let alloc = rt.alloc();
     let words = words_of(alloc, &["solve", "p", "--workers", "2", "--budget", "500"])?;

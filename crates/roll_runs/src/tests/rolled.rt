@@ -58,18 +58,23 @@ pub(crate) fn has_lines(
     Ok(())
 }
 
-/// The last line that settles an edition is this one.
+/// Whether the last line that settles or stops an edition is this one.
+fn ends_with(text: &str, wanted: &str) -> bool {
+    let mut found = false;
+    for line in text.split('\n') {
+        if line.starts_with("settled ") || line.starts_with("stopped ") {
+            found = line == wanted;
+        }
+    }
+    found
+}
+
+/// The last line that settles or stops an edition is this one.
 pub(crate) fn settles(
     rt: &(impl Abort + AllocGlobal),
     text: &str,
     wanted: &str,
 ) -> Result<(), Fail> {
-    let mut is_wanted = false;
-    for line in text.split('\n') {
-        if line.starts_with("settled ") || line.starts_with("stopped ") {
-            is_wanted = line == wanted;
-        }
-    }
-    assert!(rt; is_wanted, "{text}");
+    assert!(rt; ends_with(text, wanted), "{text}");
     Ok(())
 }

@@ -40,8 +40,8 @@ fn a_tree_that_is_not_put_ends_the_printing(rt: HostRuntime) -> Result<(), Fail>
         let rolled = run(&rt, &mut shelf, &words)?;
         assert_eq!(rt; rolled.status, 4, "{}", rolled.text);
         has_lines(&rt, rolled.text.as_str(), "settled ", &[])?;
-        let (before, after) = (shelf.put_faults("t0"), shelf.put_faults("t1"));
-        assert!(rt; (before == 1 && after == 0) || (before == 0 && after == 1));
+        let faults = (shelf.put_faults("t0"), shelf.put_faults("t1"));
+        assert!(rt; faults == (1, 0) || faults == (0, 1), "{faults:?}");
     }
     Ok(())
 }
