@@ -1,10 +1,15 @@
 ghost use Rattle.std.specs.Prelude.{◌≡◌};
 
+use crate::changes::Changes;
 use crate::clashes::{By, Clash, first_clash};
+use crate::course::Course;
 use crate::facts::Facts;
-use crate::forks::{Fork, first_fork};
+use crate::forks::{Fork, Forks};
 use crate::holders::Holders;
-use crate::layers::first_crossing;
+use crate::layers::{first_crossing, has_layers};
+use crate::links::Links;
+use crate::open_order::listings_of;
+use crate::seeker::Seeker;
 use crate::spots::Spots;
 use crate::view::View;
 use crate::ways::Ways;
@@ -20,6 +25,9 @@ pub enum Strategy {
     Toll,
     /// A fork of which one way is left; then the order that is asked for earliest; then a fork.
     Time,
+    /// Whatever is open: the route of the first train whose routes part, else what comes first by
+    /// tolls.
+    Any,
 }
 
 /// A choice that an adviser names, and of two operations a resource that both hold at a time.
@@ -41,13 +49,35 @@ pub(crate) enum Advice {
     Run(Op),
 }
 
-/// What an adviser keeps of a problem, and room for what it finds at a node.
+/// What an adviser keeps of a problem, and of the node at which it was asked last.
 #[derive(Drop)]
 pub struct Adviser {
     facts: Facts,
+    course: Course,
+    links: Links,
+    changes: Changes,
     spots: Spots,
     holders: Holders,
+    /// Whether forks stand behind each other in a train.
+    layered: Vec<bool>,
+    found: Found,
+}
+
+/// What an adviser has found of forks, and room for looks at ways.
+#[derive(Drop)]
+struct Found {
+    forks: Forks,
     ways: Ways,
+    seeker: Seeker,
+}
+
+impl Found {
+    /// The fork that comes first.
+    fn first_fork(&mut self, view: View) -> Option<Fork>
+        requires { view.graph.now.problem ≡ view.problem.now }
+    {
+        self.forks.first(view, &mut self.seeker, &mut self.ways)
+    }
 }
 
 /// The order of two that clash, where the routes part at a fork.
@@ -72,32 +102,32 @@ fn route_of(facts: &Facts, fork: Fork) -> Advice {
 }
 
 /// What comes first by tolls.
-fn by_toll(view: View, ways: &mut Ways) -> Option<Advice>
+fn by_toll(view: View, found: &mut Found, layered: &[bool]) -> Option<Advice>
     requires { view.graph.now.problem ≡ view.problem.now }
 {
     let fork = view.spots.fork();
-    if let Some(clash) = first_clash(view, By::Toll, fork.is_some()) {
+    if let Some(clash) = first_clash(view, &mut found.seeker, By::Toll, fork.is_some()) {
         return order_of(view.facts, clash, fork);
     }
-    if let Some(crossing) = first_crossing(view) {
+    if let Some(crossing) = first_crossing(view, layered) {
         return Some(Advice::Run(view.facts.op(crossing.number)));
     }
-    let fork = first_fork(view, ways)?;
+    let fork = found.first_fork(view)?;
     Some(route_of(view.facts, fork))
 }
 
 /// What comes first by time.
-fn by_time(view: View, ways: &mut Ways) -> Option<Advice>
+fn by_time(view: View, found: &mut Found) -> Option<Advice>
     requires { view.graph.now.problem ≡ view.problem.now }
 {
-    let fork = first_fork(view, ways);
+    let fork = found.first_fork(view);
     if let Some(fork) = fork {
         if fork.live < 2 {
             return Some(route_of(view.facts, fork));
         }
     }
     let number = view.spots.fork();
-    if let Some(clash) = first_clash(view, By::Time, number.is_some()) {
+    if let Some(clash) = first_clash(view, &mut found.seeker, By::Time, number.is_some()) {
         return order_of(view.facts, clash, number);
     }
     Some(route_of(view.facts, fork?))
@@ -111,37 +141,140 @@ impl Adviser {
     /// `Memory` where memory runs out.
     pub fn new(alloc: Global, problem: &Problem) -> Result<Adviser, Memory> {
         let facts = Facts::of(alloc, problem)?;
-        let spots = Spots::new(alloc, facts.count())?;
-        let ways = Ways::new(alloc, facts.count())?;
+        let count = facts.count();
+        let trains = problem.trains.len();
+        let mut layered = Vec::with_capacity(alloc, trains)?;
+        for _ in 0..trains {
+            layered.push(false)?;
+        }
         Ok(Adviser {
             facts,
-            spots,
+            course: Course::new(alloc),
+            links: Links::new(alloc, count)?,
+            changes: Changes::new(alloc, count, trains)?,
+            spots: Spots::new(alloc, count, trains)?,
             holders: Holders::of(alloc, problem)?,
-            ways,
+            layered,
+            found: Found {
+                forks: Forks::new(alloc, trains)?,
+                ways: Ways::new(alloc, count)?,
+                seeker: Seeker::new(alloc, count)?,
+            },
         })
     }
 
+    /// Notes that the graph of which it is asked next may be at any node.
+    pub fn lose(&mut self) {
+        self.course.lose();
+    }
+
+    /// Follows a graph to its node: notes the trains that are to be looked at again.
+    fn follow(&mut self, graph: &Graph) -> Result<(), Memory> {
+        let decisions = graph.decisions();
+        let arcs = graph.paths().arcs();
+        let shared = self.course.shared_with(decisions);
+        self.changes.note_decided(self.course.behind(shared))?;
+        let left = self.course.go_back(shared);
+        let more = match decisions.get(shared..) {
+            Some(more) => more,
+            None => &[],
+        };
+        self.changes.note_decided(more)?;
+        self.changes.unlink(&mut self.links, left)?;
+        self.changes.link(&mut self.links, arcs)?;
+        self.course.go_down(more, arcs.len())?;
+        self.changes.spread(&self.facts, &self.links, graph.paths())
+    }
+
+    /// Notes the resources that a train's operations hold otherwise than before.
+    fn note_moved(&mut self, problem: &Problem, order: &[u32], train: u32) -> Result<(), Memory> {
+        let first = self.facts.first(train);
+        for (place, op) in order.iter().enumerate() {
+            let number = first.saturating_add(*op);
+            if !self.spots.has_moved(place, number) {
+                continue;
+            }
+            let spot = self.spots.at(number);
+            for listing in listings_of(problem, Op { train, op: *op }) {
+                self.holders.move_to(listing.resource, number, spot)?;
+            }
+        }
+        Ok(())
+    }
+
+    /// Looks at a train again.
+    fn look_at(&mut self, problem: &Problem, graph: &Graph, train: u32) -> Result<(), Memory>
+        requires { graph.now.problem ≡ problem.now }
+    {
+        if train as usize >= problem.trains.len() {
+            return Ok(());
+        }
+        let routes = graph.routes(train);
+        self.spots
+            .look_at(&self.facts, routes, graph.paths(), train)?;
+        self.found.forks.forget(train);
+        let layers = has_layers(&self.spots, routes, self.facts.first(train));
+        if let Some(layered) = self.layered.get_mut(train as usize) {
+            *layered = layers;
+        }
+        self.note_moved(problem, routes.order(), train)
+    }
+
+    /// Looks again at the resources of which a holder has moved, and notes the trains whose forks
+    /// are then to be looked at.
+    fn look_at_holders(&mut self) -> Result<(), Memory> {
+        for _ in 0..u64::MAX {
+            let Some(holders) = self.holders.look_at_next()? else {
+                return Ok(());
+            };
+            for holder in holders {
+                if !holder.forced {
+                    self.found.forks.forget(holder.train);
+                }
+            }
+        }
+        Ok(())
+    }
+
+    /// Looks at what has changed since the last node.
+    fn look(&mut self, problem: &Problem, graph: &Graph) -> Result<(), Memory>
+        requires { graph.now.problem ≡ problem.now }
+    {
+        self.follow(graph)?;
+        for _ in problem.trains.as_slice() {
+            let Some(train) = self.changes.next_train() else {
+                return self.look_at_holders();
+            };
+            self.look_at(problem, graph, train)?;
+        }
+        self.look_at_holders()
+    }
+
     /// The choice to take at the node of a graph, where the adviser knows one.
+    ///
+    /// # Errors
+    ///
+    /// `Memory` where memory runs out.
     pub(crate) fn advise(
         &mut self,
         problem: &Problem,
         graph: &Graph,
         strategy: Strategy,
-    ) -> Option<Advice>
+    ) -> Result<Option<Advice>, Memory>
         requires { graph.now.problem ≡ problem.now }
     {
-        self.spots.look(problem, &self.facts, graph);
-        self.holders.look(&self.spots);
+        self.look(problem, graph)?;
         let view = View {
             problem,
             graph,
             facts: &self.facts,
             spots: &self.spots,
             holders: &self.holders,
+            links: &self.links,
         };
-        match strategy {
-            Strategy::Toll => by_toll(view, &mut self.ways),
-            Strategy::Time => by_time(view, &mut self.ways),
-        }
+        Ok(match strategy {
+            Strategy::Toll | Strategy::Any => by_toll(view, &mut self.found, &self.layered),
+            Strategy::Time => by_time(view, &mut self.found),
+        })
     }
 }

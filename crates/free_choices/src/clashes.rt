@@ -1,4 +1,5 @@
-use crate::holders::Holder;
+use crate::meetings::Meeting;
+use crate::seeker::Seeker;
 use crate::tolls::toll;
 use crate::view::View;
 
@@ -41,15 +42,15 @@ pub(crate) struct Looking {
 }
 
 impl Clash {
-    /// The clash of two holders.
-    fn of(one: &Holder, other: &Holder, toll: u64, touches: bool) -> Clash {
+    /// The clash of two that meet.
+    fn of(meeting: &Meeting, toll: u64) -> Clash {
         Clash {
             toll,
-            later: one.start.max(other.start),
-            first: one.number.min(other.number),
-            second: one.number.max(other.number),
-            resource: one.resource,
-            touches,
+            later: meeting.one_start.max(meeting.other_start),
+            first: meeting.one.min(meeting.other),
+            second: meeting.one.max(meeting.other),
+            resource: meeting.resource,
+            touches: meeting.touches,
         }
     }
 
@@ -76,16 +77,28 @@ fn first_of(known: Option<Clash>, clash: Clash) -> Option<Clash> {
     }
 }
 
-/// Whether the order of one holder before another would close a cycle.
-fn closes(view: View, one: &Holder, other: &Holder) -> bool {
-    let behind = view.spots.at(one.number).behind;
-    view.leads(other.number, behind)
+/// Whether the order of one operation before another would close a cycle.
+fn closes(view: View, seeker: &mut Seeker, one: u32, other: u32) -> bool {
+    let behind = view.spots.at(one).behind;
+    view.leads(seeker, other, behind)
 }
 
-/// Whether arcs ask for the order of one holder before another.
-fn is_asked(view: View, one: &Holder, other: &Holder) -> bool {
-    let behind = view.spots.at(one.number).behind;
-    view.leads(behind, other.number)
+/// Whether arcs ask for the order of one operation before another.
+fn is_asked(view: View, seeker: &mut Seeker, one: u32, other: u32) -> bool {
+    let behind = view.spots.at(one).behind;
+    view.leads(seeker, behind, other)
+}
+
+/// What it costs more that an operation starts only at a time; none where that is less than what is
+/// known.
+fn toll_above(view: View, known: u64, number: u32, start: u64, time: u64) -> Option<u64> {
+    let late = time.saturating_sub(start);
+    let train = view.facts.op(number).train;
+    if view.facts.most(train, late) < known {
+        return None;
+    }
+    let toll = toll(view.facts, view.spots, number, time);
+    if toll < known { None } else { Some(toll) }
 }
 
 impl Looking {
@@ -100,80 +113,87 @@ impl Looking {
         }
     }
 
-    /// What an order of two holders costs at least.
-    fn toll(&self, view: View, one: &Holder, other: &Holder) -> u64 {
+    /// What an order of two that meet costs at least; none where that is less than the known one.
+    fn toll(&self, view: View, meeting: &Meeting) -> Option<u64> {
         if self.by == By::Time {
-            return 0;
+            return Some(0);
         }
         let known = match self.found {
             Some(clash) => clash.toll,
             None => 0,
         };
-        let there = toll(view.facts, view.spots, other.number, one.until());
-        if there < known {
-            return there;
-        }
-        there.min(toll(view.facts, view.spots, one.number, other.until()))
+        let Meeting {
+            one,
+            one_start,
+            one_until,
+            other,
+            other_start,
+            other_until,
+            ..
+        } = *meeting;
+        let there = toll_above(view, known, other, other_start, one_until)?;
+        let back = toll_above(view, known, one, one_start, other_until)?;
+        Some(there.min(back))
     }
 
-    /// Looks at two holders.
-    fn take(&mut self, view: View, one: &Holder, other: &Holder, touches: bool) {
-        let clash = Clash::of(one, other, self.toll(view, one, other), touches);
-        if self.by == By::Toll && self.asked < MOST_ASKED {
-            self.asked = self.asked.saturating_add(1);
-            if closes(view, one, other) || closes(view, other, one) {
-                self.closes = true;
-                self.found = Some(clash);
-                return;
-            }
+    /// Whether it is asked of two that meet if one order of theirs closes a cycle.
+    fn asks(&mut self) -> bool {
+        if self.by == By::Time || self.asked >= MOST_ASKED {
+            return false;
         }
-        let known = self.found;
-        self.found = first_of(known, clash);
+        self.asked = self.asked.saturating_add(1);
+        true
     }
 
-    /// Looks at two holders of which the second starts no earlier.
-    fn meet(&mut self, view: View, one: &Holder, other: &Holder) {
-        if one.start < other.until() && other.start < one.until() {
-            self.take(view, one, other, false);
-        } else if self.touching
-            && other.start == one.end
-            && !is_asked(view, one, other)
-            && !is_asked(view, other, one)
+    /// Looks at two that meet.
+    fn take(&mut self, view: View, seeker: &mut Seeker, meeting: &Meeting) {
+        let toll = self.toll(view, meeting);
+        let (one, other) = (meeting.one, meeting.other);
+        if self.asks() && (closes(view, seeker, one, other) || closes(view, seeker, other, one)) {
+            self.closes = true;
+            self.found = Some(Clash::of(meeting, toll.unwrap_or(0)));
+            return;
+        }
+        if let Some(toll) = toll {
+            let known = self.found;
+            self.found = first_of(known, Clash::of(meeting, toll));
+        }
+    }
+
+    /// Looks at two that meet, where they count.
+    fn meet(&mut self, view: View, seeker: &mut Seeker, meeting: &Meeting) {
+        let (one, other) = (meeting.one, meeting.other);
+        if meeting.touches
+            && (!self.touching
+                || is_asked(view, seeker, one, other)
+                || is_asked(view, seeker, other, one))
         {
-            self.take(view, one, other, true);
+            return;
         }
+        self.take(view, seeker, meeting);
     }
 
-    /// Looks at the holder at a place with later ones.
-    fn look_from(&mut self, view: View, holders: &[Holder], place: usize) {
-        let Some(one) = holders.get(place) else {
-            return;
-        };
-        if !one.forced {
-            return;
-        }
-        for later in place.saturating_add(1)..holders.len() {
-            let Some(other) = holders.get(later) else {
-                return;
-            };
-            if one.until() < other.start || self.closes {
+    /// Looks at all that meet on a resource.
+    fn look_at(&mut self, view: View, seeker: &mut Seeker, meetings: &[Meeting]) {
+        for meeting in meetings {
+            if self.closes {
                 return;
             }
-            if other.forced && other.train != one.train {
-                self.meet(view, one, other);
-            }
+            self.meet(view, seeker, meeting);
         }
     }
 }
 
 /// The clash that comes first.
-pub(crate) fn first_clash(view: View, by: By, touching: bool) -> Option<Clash> {
+pub(crate) fn first_clash(
+    view: View,
+    seeker: &mut Seeker,
+    by: By,
+    touching: bool,
+) -> Option<Clash> {
     let mut looking = Looking::new(by, touching);
-    for holders in view.holders.each() {
-        let holders = holders.as_slice();
-        for place in 0..holders.len() {
-            looking.look_from(view, holders, place);
-        }
+    for resource in view.holders.each() {
+        looking.look_at(view, seeker, resource.meetings());
     }
     looking.found
 }

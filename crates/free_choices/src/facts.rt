@@ -16,6 +16,25 @@ struct Fact {
 pub(crate) struct Facts {
     each: Vec<Fact>,
     firsts: Vec<u32>,
+    ceilings: Vec<Ceiling>,
+}
+
+/// How much more the components of a train may cost that is late.
+#[derive(Clone, Copy)]
+struct Ceiling {
+    /// Whether some operation may not start at any time from its lower on.
+    closes: bool,
+    coeffs: u64,
+    increments: u64,
+}
+
+impl Ceiling {
+    /// No operation and no component.
+    const NOTHING: Ceiling = Ceiling {
+        closes: false,
+        coeffs: 0,
+        increments: 0,
+    };
 }
 
 /// What the problem says of an operation, but for the costs.
@@ -30,6 +49,19 @@ fn fact_of(alloc: Global, op: Op, operation: &Operation) -> Fact {
         min: u64::from(operation.min),
         components: List::new(alloc),
     }
+}
+
+/// What a train of these operations may cost more, but for the costs.
+fn ceiling_of(operations: &[Operation]) -> Ceiling {
+    for operation in operations {
+        if operation.upper.is_some() {
+            return Ceiling {
+                closes: true,
+                ..Ceiling::NOTHING
+            };
+        }
+    }
+    Ceiling::NOTHING
 }
 
 /// What a component costs where its operation starts at a time.
@@ -48,11 +80,13 @@ impl Facts {
         let mut facts = Facts {
             each: Vec::new(alloc),
             firsts: Vec::new(alloc),
+            ceilings: Vec::new(alloc),
         };
         let mut train = 0u32;
         let mut number = 0u32;
         for operations in problem.trains.as_slice() {
             facts.firsts.push(number)?;
+            facts.ceilings.push(ceiling_of(operations.as_slice()))?;
             let mut op = 0u32;
             for operation in operations.as_slice() {
                 facts
@@ -69,8 +103,13 @@ impl Facts {
         Ok(facts)
     }
 
-    /// Keeps a component with its operation.
+    /// Keeps a component with its operation and its train.
     fn keep(&mut self, component: Component) -> Result<(), Memory> {
+        if let Some(ceiling) = self.ceilings.get_mut(component.train as usize) {
+            ceiling.coeffs = ceiling.coeffs.saturating_add(u64::from(component.coeff));
+            let increment = u64::from(component.increment);
+            ceiling.increments = ceiling.increments.saturating_add(increment);
+        }
         let number = self
             .first(component.train)
             .saturating_add(component.operation);
@@ -78,6 +117,25 @@ impl Facts {
             fact.components.push(component)?;
         }
         Ok(())
+    }
+
+    /// How much more a train may cost at most that is so much later than before.
+    pub(crate) fn most(&self, train: u32, late: u64) -> u64 {
+        match self.ceilings.get(train as usize) {
+            Some(ceiling) if !ceiling.closes => ceiling
+                .coeffs
+                .saturating_mul(late)
+                .saturating_add(ceiling.increments),
+            _ => u64::MAX,
+        }
+    }
+
+    /// Whether it matters when an operation starts: it costs something, or has an upper.
+    pub(crate) fn matters(&self, number: u32) -> bool {
+        match self.each.get(number as usize) {
+            Some(fact) => fact.upper.is_some() || fact.components.len() > 0,
+            None => false,
+        }
     }
 
     /// How many operations there are.

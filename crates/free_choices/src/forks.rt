@@ -1,9 +1,12 @@
 ghost use Rattle.std.specs.Prelude.{◌≡◌};
 
+use crate::seeker::Seeker;
 use crate::spots::NEVER;
 use crate::view::View;
 use crate::ways::{Parting, Ways};
+use disp_model::Memory;
 use route_sets::Routes;
+use std::alloc::Global;
 
 /// A fork, and what was found of its ways.
 #[derive(Clone, Copy)]
@@ -42,7 +45,13 @@ fn first_of(known: Option<Fork>, fork: Fork) -> Option<Fork> {
 }
 
 /// A fork, by a look at each of its ways.
-fn fork_at(view: View, ways: &mut Ways, routes: &Routes, parting: Parting) -> Fork {
+fn fork_at(
+    view: View,
+    seeker: &mut Seeker,
+    ways: &mut Ways,
+    routes: &Routes,
+    parting: Parting,
+) -> Fork {
     let spot = view.spots.at(parting.fork);
     let mut fork = Fork {
         number: parting.fork,
@@ -56,7 +65,7 @@ fn fork_at(view: View, ways: &mut Ways, routes: &Routes, parting: Parting) -> Fo
     let mut least = NEVER;
     for op in next.as_slice() {
         let over = parting.first.saturating_add(*op);
-        let way = ways.way(view, routes, parting, over);
+        let way = ways.way(view, seeker, routes, parting, over);
         if way.cost == NEVER {
             continue;
         }
@@ -72,15 +81,15 @@ fn fork_at(view: View, ways: &mut Ways, routes: &Routes, parting: Parting) -> Fo
     fork
 }
 
-/// The first of a fork that may be known and those of a train.
+/// The first fork of a train.
 fn first_in_train(
     view: View,
+    seeker: &mut Seeker,
     ways: &mut Ways,
     routes: &Routes,
     first: u32,
-    known: Option<Fork>,
 ) -> Option<Fork> {
-    let mut found = known;
+    let mut found = None;
     let Some(entry) = routes.order().last() else {
         return found;
     };
@@ -95,21 +104,80 @@ fn first_in_train(
                 fork: number,
                 join: next,
             };
-            found = first_of(found, fork_at(view, ways, routes, parting));
+            found = first_of(found, fork_at(view, seeker, ways, routes, parting));
         }
         number = next;
     }
     found
 }
 
-/// The fork that comes first.
-pub(crate) fn first_fork(view: View, ways: &mut Ways) -> Option<Fork>
-    requires { view.graph.now.problem ≡ view.problem.now }
-{
-    let mut found = None;
-    for train in 0..view.problem.trains.len() as u32 {
-        let first = view.facts.first(train);
-        found = first_in_train(view, ways, view.graph.routes(train), first, found);
+/// What is known of a train's forks.
+#[derive(Clone, Copy)]
+enum Known {
+    /// They are to be looked at.
+    Stale,
+    /// The one that comes first, if there is one.
+    First(Option<Fork>),
+}
+
+/// The first forks of the trains, as far as they are known.
+#[derive(Drop)]
+pub(crate) struct Forks {
+    each: Vec<Known>,
+}
+
+impl Forks {
+    /// The forks of so many trains, of which nothing is known.
+    pub(crate) fn new(alloc: Global, trains: usize) -> Result<Forks, Memory> {
+        let mut each = Vec::with_capacity(alloc, trains)?;
+        for _ in 0..trains {
+            each.push(Known::Stale)?;
+        }
+        Ok(Forks { each })
     }
-    found
+
+    /// Notes that a train's forks are to be looked at again.
+    pub(crate) fn forget(&mut self, train: u32) {
+        if let Some(known) = self.each.get_mut(train as usize) {
+            *known = Known::Stale;
+        }
+    }
+
+    /// The first fork of a train, if it is known.
+    fn at(&self, train: u32) -> Known {
+        match self.each.get(train as usize) {
+            Some(known) => *known,
+            None => Known::Stale,
+        }
+    }
+
+    /// Keeps the first fork of a train.
+    fn keep(&mut self, train: u32, fork: Option<Fork>) {
+        if let Some(known) = self.each.get_mut(train as usize) {
+            *known = Known::First(fork);
+        }
+    }
+
+    /// The fork that comes first.
+    pub(crate) fn first(&mut self, view: View, seeker: &mut Seeker, ways: &mut Ways) -> Option<Fork>
+        requires { view.graph.now.problem ≡ view.problem.now }
+    {
+        let mut found = None;
+        for train in 0..view.problem.trains.len() as u32 {
+            let fork = match self.at(train) {
+                Known::First(fork) => fork,
+                Known::Stale => {
+                    let routes = view.graph.routes(train);
+                    let first = view.facts.first(train);
+                    let fork = first_in_train(view, seeker, ways, routes, first);
+                    self.keep(train, fork);
+                    fork
+                }
+            };
+            if let Some(fork) = fork {
+                found = first_of(found, fork);
+            }
+        }
+        found
+    }
 }

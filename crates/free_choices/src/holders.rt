@@ -1,4 +1,5 @@
-use crate::spots::{NEVER, Spots};
+use crate::meetings::Meeting;
+use crate::spots::{NEVER, Spot};
 use disp_model::{Listing, Memory, Problem};
 use std::alloc::Global;
 
@@ -22,10 +23,24 @@ impl Holder {
     }
 }
 
-/// The operations that list each resource. Those of a resource are kept as they start.
+/// How many meetings on a resource are kept at most.
+const MOST_KEPT: usize = 512;
+
+/// The operations that list a resource, as they start, and how they meet.
+#[derive(Drop)]
+pub(crate) struct Resource {
+    holders: Vec<Holder>,
+    meetings: Vec<Meeting>,
+    /// Whether it is to be looked at again.
+    stale: bool,
+}
+
+/// The operations that list each resource. Only resources of which a holder has moved are looked at
+/// again.
 #[derive(Drop)]
 pub(crate) struct Holders {
-    each: Vec<Vec<Holder>>,
+    each: Vec<Resource>,
+    stale: Vec<u32>,
 }
 
 /// Moves the holder at a place to the front of those before it that start later.
@@ -48,16 +63,90 @@ fn sink(holders: &mut [Holder], place: usize) {
     }
 }
 
-/// Looks at the holders of a resource again, and brings them into the order of their starts.
-fn look_at(holders: &mut [Holder], spots: &Spots) {
-    for place in 0..holders.len() {
+/// Moves the holder at a place behind those after it that start earlier.
+fn rise(holders: &mut [Holder], place: usize) {
+    for at in place..holders.len() {
+        let behind = at.saturating_add(1);
+        let (Some(holder), Some(after)) = (holders.get(at), holders.get(behind)) else {
+            return;
+        };
+        let (holder, after) = (*holder, *after);
+        if holder.start <= after.start {
+            return;
+        }
+        if let Some(there) = holders.get_mut(at) {
+            *there = after;
+        }
+        if let Some(there) = holders.get_mut(behind) {
+            *there = holder;
+        }
+    }
+}
+
+/// The place of an operation among holders.
+fn place_of(holders: &[Holder], number: u32) -> Option<usize> {
+    holders.iter().position(|holder| holder.number == number)
+}
+
+impl Resource {
+    /// The operations that list it, as they start.
+    pub(crate) fn holders(&self) -> &[Holder] {
+        self.holders.as_slice()
+    }
+
+    /// How they meet.
+    pub(crate) fn meetings(&self) -> &[Meeting] {
+        self.meetings.as_slice()
+    }
+
+    /// Keeps how the holder at a place meets later ones.
+    fn meet_from(&mut self, place: usize) -> Result<(), Memory> {
+        let Some(one) = self.holders.get(place) else {
+            return Ok(());
+        };
+        if !one.forced {
+            return Ok(());
+        }
+        for later in place.saturating_add(1)..self.holders.len() {
+            let Some(other) = self.holders.get(later) else {
+                return Ok(());
+            };
+            if one.until() < other.start || self.meetings.len() >= MOST_KEPT {
+                return Ok(());
+            }
+            if !other.forced || other.train == one.train {
+                continue;
+            }
+            if let Some(meeting) = Meeting::of(one, other) {
+                self.meetings.push(meeting)?;
+            }
+        }
+        Ok(())
+    }
+
+    /// Has an operation be held as it is now.
+    fn move_to(&mut self, number: u32, spot: Spot) {
+        let holders = self.holders.as_mut_slice();
+        let Some(place) = place_of(holders, number) else {
+            return;
+        };
         if let Some(holder) = holders.get_mut(place) {
-            let spot = spots.at(holder.number);
             holder.forced = spot.forced;
             holder.start = spot.start;
             holder.end = spot.end;
         }
         sink(holders, place);
+        rise(holders, place);
+    }
+
+    /// Looks again at how its holders meet.
+    fn look(&mut self) -> Result<(), Memory> {
+        self.stale = false;
+        self.meetings.clear();
+        for place in 0..self.holders.len() {
+            self.meet_from(place)?;
+        }
+        Ok(())
     }
 }
 
@@ -66,9 +155,14 @@ impl Holders {
     pub(crate) fn of(alloc: Global, problem: &Problem) -> Result<Holders, Memory> {
         let mut each = Vec::new(alloc);
         for _ in problem.names.as_slice() {
-            each.push(Vec::new(alloc))?;
+            each.push(Resource {
+                holders: Vec::new(alloc),
+                meetings: Vec::new(alloc),
+                stale: false,
+            })?;
         }
-        let mut holders = Holders { each };
+        let stale = Vec::with_capacity(alloc, each.len())?;
+        let mut holders = Holders { each, stale };
         let mut train = 0u32;
         let mut number = 0u32;
         for operations in problem.trains.as_slice() {
@@ -85,8 +179,8 @@ impl Holders {
 
     /// Adds an operation of a train.
     fn add(&mut self, listing: Listing, train: u32, number: u32) -> Result<(), Memory> {
-        if let Some(holders) = self.each.get_mut(listing.resource as usize) {
-            holders.push(Holder {
+        if let Some(resource) = self.each.get_mut(listing.resource as usize) {
+            resource.holders.push(Holder {
                 resource: listing.resource,
                 release: u64::from(listing.release),
                 train,
@@ -99,22 +193,40 @@ impl Holders {
         Ok(())
     }
 
-    /// Looks at all holders again.
-    pub(crate) fn look(&mut self, spots: &Spots) {
-        for holders in self.each.iter_mut() {
-            look_at(holders.as_mut_slice(), spots);
+    /// Has an operation that lists a resource be held as it is now.
+    pub(crate) fn move_to(&mut self, resource: u32, number: u32, spot: Spot) -> Result<(), Memory> {
+        let Some(place) = self.each.get_mut(resource as usize) else {
+            return Ok(());
+        };
+        place.move_to(number, spot);
+        if !place.stale {
+            place.stale = true;
+            self.stale.push(resource)?;
         }
+        Ok(())
     }
 
-    /// The holders of each resource.
-    pub(crate) fn each(&self) -> &[Vec<Holder>] {
+    /// Looks again at a resource of which a holder has moved, and gives its holders.
+    pub(crate) fn look_at_next(&mut self) -> Result<Option<&[Holder]>, Memory> {
+        let Some(number) = self.stale.pop() else {
+            return Ok(None);
+        };
+        let Some(resource) = self.each.get_mut(number as usize) else {
+            return Ok(Some(&[]));
+        };
+        resource.look()?;
+        Ok(Some(resource.holders()))
+    }
+
+    /// Each resource.
+    pub(crate) fn each(&self) -> &[Resource] {
         self.each.as_slice()
     }
 
     /// The holders of a resource.
     pub(crate) fn of_resource(&self, resource: u32) -> &[Holder] {
         match self.each.get(resource as usize) {
-            Some(holders) => holders.as_slice(),
+            Some(resource) => resource.holders(),
             None => &[],
         }
     }

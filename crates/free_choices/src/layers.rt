@@ -2,7 +2,7 @@ ghost use Rattle.std.specs.Prelude.{◌≡◌};
 
 use crate::holders::Holder;
 use crate::open_order::listings_of;
-use crate::spots::{NEVER, Spot};
+use crate::spots::{NEVER, Spot, Spots};
 use crate::view::View;
 use route_sets::Routes;
 
@@ -62,9 +62,9 @@ fn crossing_at(view: View, number: u32, spot: Spot) -> Crossing {
 }
 
 /// Whether a fork stands behind another one before the routes of a train meet.
-fn has_layers(view: View, routes: &Routes, first: u32) -> bool {
+pub(crate) fn has_layers(spots: &Spots, routes: &Routes, first: u32) -> bool {
     for (op, next) in routes.order().iter().zip(routes.rows()) {
-        let spot = view.spots.at(first.saturating_add(*op));
+        let spot = spots.at(first.saturating_add(*op));
         if !spot.forced && spot.start != NEVER && next.len() > 1 {
             return true;
         }
@@ -99,15 +99,14 @@ fn first_in_train(
 }
 
 /// The crossing that comes first, of trains whose forks stand in layers.
-pub(crate) fn first_crossing(view: View) -> Option<Crossing>
+pub(crate) fn first_crossing(view: View, layered: &[bool]) -> Option<Crossing>
     requires { view.graph.now.problem ≡ view.problem.now }
 {
     let mut found = None;
     for train in 0..view.problem.trains.len() as u32 {
-        let first = view.facts.first(train);
-        let routes = view.graph.routes(train);
-        if has_layers(view, routes, first) {
-            found = first_in_train(view, routes, first, found);
+        if layered.get(train as usize) == Some(&true) {
+            let first = view.facts.first(train);
+            found = first_in_train(view, view.graph.routes(train), first, found);
         }
     }
     found

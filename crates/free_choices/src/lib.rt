@@ -6,16 +6,21 @@
 #![tactic(auto)]
 
 mod adviser;
+mod changes;
 mod clashes;
+mod course;
 mod facts;
 mod forks;
 mod holders;
 mod layers;
+mod links;
+mod meetings;
 mod open_order;
 mod open_route;
 mod open_run;
 mod open_touch;
 mod pick;
+mod seeker;
 mod span;
 mod spots;
 mod tolls;

@@ -95,6 +95,38 @@ fn tested(problem: &Problem, graph: &mut Graph, advice: Advice) -> Result<Option
     }
 }
 
+/// The route at which those of the first train part that has more than one.
+fn first_route(problem: &Problem, graph: &Graph) -> Option<Choice>
+    requires { graph.now.problem ≡ problem.now }
+    ensures { IfSome result (λ choice. IsPicked graph.now Free (Some choice)) }
+{
+    for train in 0..problem.trains.len() as u32 {
+        if let Some(op) = graph.routes(train).fork() {
+            return tested_route(problem, graph, Op { train, op });
+        }
+    }
+    None
+}
+
+/// The choice that an adviser names by a look at all choices, where there is one, it is open and
+/// something is to be picked. The graph is as before.
+fn thought_out(
+    problem: &Problem,
+    graph: &mut Graph,
+    adviser: &mut Adviser,
+    strategy: Strategy,
+) -> Result<Option<Choice>, Memory>
+    requires { graph.old.problem ≡ problem.now }
+    ensures same { graph.new ≡ graph.old }
+    ensures picked { IfOk result
+        (λ found. IfSome found (λ choice. IsPicked graph.old Free (Some choice))) }
+{
+    match adviser.advise(problem, graph, strategy)? {
+        Some(advice) => tested(problem, graph, advice),
+        None => Ok(None),
+    }
+}
+
 /// The choice that an adviser names, where there is one, it is open and something is to be picked.
 /// The graph is as before.
 fn advised(
@@ -108,10 +140,12 @@ fn advised(
     ensures picked { IfOk result
         (λ found. IfSome found (λ choice. IsPicked graph.old Free (Some choice))) }
 {
-    match adviser.advise(problem, graph, strategy) {
-        Some(advice) => tested(problem, graph, advice),
-        None => Ok(None),
+    if strategy == Strategy::Any {
+        if let Some(choice) = first_route(problem, graph) {
+            return Ok(Some(choice));
+        }
     }
+    thought_out(problem, graph, adviser, strategy)
 }
 
 /// What the fixed rule finds: that serves the free rule too.

@@ -1,8 +1,5 @@
-ghost use Rattle.std.specs.Prelude.{◌≡◌};
-
 use crate::facts::Facts;
-use disp_model::{Memory, Problem};
-use event_graph::Graph;
+use disp_model::Memory;
 use incremental_paths::Paths;
 use route_sets::Routes;
 use std::alloc::Global;
@@ -20,9 +17,12 @@ pub(crate) struct Spot {
     pub end: u64,
     /// The place of its row among those of its train's routes.
     pub row: u32,
-    /// The number of the next operation of its train that is forced, and the least time up to it.
+    /// The number of the next operation of its train that is forced.
     pub next: Option<u32>,
-    pub gap: u64,
+    /// Of a forced one, the least time up to it from the first of its train.
+    pub sum: u64,
+    /// Its train.
+    pub train: u32,
     /// The number of the operation that comes next on each route, or its own where there is none.
     pub behind: u32,
 }
@@ -35,13 +35,25 @@ impl Spot {
         end: NEVER,
         row: 0,
         next: None,
-        gap: 0,
+        sum: 0,
+        train: 0,
         behind: 0,
     };
 }
 
+/// A forced operation of which it matters when it starts.
+#[derive(Clone, Copy)]
+pub(crate) struct Stop {
+    pub number: u32,
+    pub start: u64,
+    /// The least time up to it from the first forced one of its train.
+    pub sum: u64,
+    /// The place of its row.
+    pub row: u32,
+}
+
 /// When a forced operation starts.
-fn length_of(paths: &Paths, number: u32) -> u64 {
+pub(crate) fn length_of(paths: &Paths, number: u32) -> u64 {
     if number as usize >= paths.size() {
         return NEVER;
     }
@@ -52,17 +64,33 @@ fn length_of(paths: &Paths, number: u32) -> u64 {
 #[derive(Drop)]
 pub(crate) struct Spots {
     each: Vec<Spot>,
-    fork: Option<u32>,
+    /// The first operation of each train at which its routes part.
+    forks: Vec<Option<u32>>,
+    /// Of each train, in the order in which they come.
+    stops: Vec<Vec<Stop>>,
+    /// What was known of the operations of the train that was looked at last, in its order.
+    before: Vec<Spot>,
 }
 
 impl Spots {
-    /// So many operations, of which nothing is known.
-    pub(crate) fn new(alloc: Global, count: usize) -> Result<Spots, Memory> {
+    /// So many operations of so many trains, of which nothing is known.
+    pub(crate) fn new(alloc: Global, count: usize, trains: usize) -> Result<Spots, Memory> {
         let mut each = Vec::with_capacity(alloc, count)?;
         for _ in 0..count {
             each.push(Spot::NOWHERE)?;
         }
-        Ok(Spots { each, fork: None })
+        let mut forks = Vec::with_capacity(alloc, trains)?;
+        let mut stops = Vec::with_capacity(alloc, trains)?;
+        for _ in 0..trains {
+            forks.push(None)?;
+            stops.push(Vec::new(alloc))?;
+        }
+        Ok(Spots {
+            each,
+            forks,
+            stops,
+            before: Vec::new(alloc),
+        })
     }
 
     /// What is known of an operation.
@@ -73,9 +101,14 @@ impl Spots {
         }
     }
 
-    /// The first operation at which the routes of a train part.
+    /// The first operation at which the routes of a train part, of the first such train.
     pub(crate) fn fork(&self) -> Option<u32> {
-        self.fork
+        for fork in &self.forks {
+            if fork.is_some() {
+                return *fork;
+            }
+        }
+        None
     }
 
     fn put(&mut self, number: u32, spot: Spot) {
@@ -92,11 +125,36 @@ impl Spots {
     }
 
     /// Has the forced operation that came last go on to the next one.
-    fn go_on(&mut self, number: u32, next: u32, gap: u64) {
+    fn go_on(&mut self, number: u32, next: u32) {
         if let Some(spot) = self.each.get_mut(number as usize) {
             spot.next = Some(next);
-            spot.gap = gap;
         }
+    }
+
+    /// The operations of a train of which it matters when they start, in the order in which they
+    /// come.
+    pub(crate) fn stops(&self, train: u32) -> &[Stop] {
+        match self.stops.get(train as usize) {
+            Some(stops) => stops.as_slice(),
+            None => &[],
+        }
+    }
+
+    /// Keeps a forced operation, if it matters when it starts.
+    fn stop_at(&mut self, facts: &Facts, number: u32, spot: Spot) -> Result<(), Memory> {
+        if !facts.matters(number) {
+            return Ok(());
+        }
+        let stop = Stop {
+            number,
+            start: spot.start,
+            sum: spot.sum,
+            row: spot.row,
+        };
+        if let Some(stops) = self.stops.get_mut(spot.train as usize) {
+            stops.push(stop)?;
+        }
+        Ok(())
     }
 
     /// The spot of a forced operation.
@@ -104,10 +162,11 @@ impl Spots {
         facts: &Facts,
         routes: &Routes,
         paths: &Paths,
-        first: u32,
+        train: u32,
         op: u32,
         row: u32,
     ) -> Spot {
+        let first = facts.first(train);
         let number = first.saturating_add(op);
         let start = length_of(paths, number);
         let (behind, end) = match routes.only_next(op) {
@@ -123,7 +182,8 @@ impl Spots {
             end,
             row,
             next: None,
-            gap: 0,
+            sum: 0,
+            train,
             behind,
         }
     }
@@ -141,30 +201,67 @@ impl Spots {
         }
     }
 
-    /// Looks at a train again.
-    fn look_at(&mut self, facts: &Facts, routes: &Routes, paths: &Paths, first: u32) {
-        let order = routes.order();
+    /// Keeps what is known of a train's operations, as long as they are looked at again.
+    fn set_aside(&mut self, order: &[u32], first: u32) -> Result<(), Memory> {
+        self.before.clear();
         for op in order {
-            self.put(first.saturating_add(*op), Spot::NOWHERE);
+            let number = first.saturating_add(*op);
+            let spot = self.at(number);
+            self.before.push(spot)?;
+            self.put(number, Spot::NOWHERE);
         }
+        Ok(())
+    }
+
+    /// Whether an operation at a place of its train's order is held otherwise than before.
+    pub(crate) fn has_moved(&self, place: usize, number: u32) -> bool {
+        let spot = self.at(number);
+        match self.before.get(place) {
+            Some(before) => {
+                before.start != spot.start || before.end != spot.end || before.forced != spot.forced
+            }
+            None => true,
+        }
+    }
+
+    /// Looks at a train again.
+    pub(crate) fn look_at(
+        &mut self,
+        facts: &Facts,
+        routes: &Routes,
+        paths: &Paths,
+        train: u32,
+    ) -> Result<(), Memory> {
+        let first = facts.first(train);
+        let order = routes.order();
+        self.set_aside(order, first)?;
         let rows = routes.rows();
+        if let Some(stops) = self.stops.get_mut(train as usize) {
+            stops.clear();
+        }
+        let mut fork = None;
         let mut last = None;
+        let mut sum = 0u64;
         let mut row = u32::try_from(order.len()).unwrap_or(u32::MAX);
         for op in order.iter().rev() {
             row = row.saturating_sub(1);
             let number = first.saturating_add(*op);
             if routes.forced(*op) {
-                self.put(number, Spots::forced(facts, routes, paths, first, *op, row));
+                let mut spot = Spots::forced(facts, routes, paths, train, *op, row);
                 if let Some(before) = last {
                     let gap = routes.least_between(before, *op).unwrap_or(0);
-                    self.go_on(first.saturating_add(before), number, gap);
+                    sum = sum.saturating_add(gap);
+                    self.go_on(first.saturating_add(before), number);
                 }
+                spot.sum = sum;
+                self.put(number, spot);
+                self.stop_at(facts, number, spot)?;
                 last = Some(*op);
                 if routes.only_next(*op).is_some() {
                     continue;
                 }
-                if row > 0 && self.fork.is_none() {
-                    self.fork = Some(number);
+                if row > 0 && fork.is_none() {
+                    fork = Some(number);
                 }
             } else if let Some(spot) = self.each.get_mut(number as usize) {
                 spot.end = spot.start.saturating_add(facts.min(number));
@@ -174,16 +271,9 @@ impl Spots {
                 self.reach_from(facts, first, number, next.as_slice());
             }
         }
-    }
-
-    /// Looks at all trains at the node of a graph.
-    pub(crate) fn look(&mut self, problem: &Problem, facts: &Facts, graph: &Graph)
-        requires { graph.now.problem ≡ problem.now }
-    {
-        self.fork = None;
-        for train in 0..problem.trains.len() as u32 {
-            let first = facts.first(train);
-            self.look_at(facts, graph.routes(train), graph.paths(), first);
+        if let Some(place) = self.forks.get_mut(train as usize) {
+            *place = fork;
         }
+        Ok(())
     }
 }

@@ -1,5 +1,7 @@
 use crate::facts::Facts;
 use crate::holders::Holders;
+use crate::links::Links;
+use crate::seeker::Seeker;
 use crate::spots::Spots;
 use disp_model::Problem;
 use event_graph::Graph;
@@ -12,21 +14,12 @@ pub(crate) struct View<'a> {
     pub facts: &'a Facts,
     pub spots: &'a Spots,
     pub holders: &'a Holders,
+    pub links: &'a Links,
 }
 
 impl<'a> View<'a> {
     /// Whether arcs lead from one operation to another.
-    pub(crate) fn leads(&self, from: u32, to: u32) -> bool {
-        let paths = self.graph.paths();
-        if from as usize >= paths.size() || to as usize >= paths.size() {
-            return false;
-        }
-        if paths.place(to) <= paths.place(from) {
-            return false;
-        }
-        match paths.between(from, to) {
-            Ok(Some(_)) => true,
-            _ => false,
-        }
+    pub(crate) fn leads(&self, seeker: &mut Seeker, from: u32, to: u32) -> bool {
+        seeker.leads(self.links, self.graph.paths(), from, to)
     }
 }

@@ -1,6 +1,7 @@
 use crate::facts::Facts;
 use crate::holders::Holder;
 use crate::open_order::listings_of;
+use crate::seeker::Seeker;
 use crate::spots::NEVER;
 use crate::tolls::toll;
 use crate::view::View;
@@ -182,6 +183,7 @@ impl Ways {
     fn is_blocked(
         &self,
         view: View,
+        seeker: &mut Seeker,
         parting: Parting,
         over: u32,
         start: u64,
@@ -191,7 +193,7 @@ impl Ways {
         let end = start.saturating_add(facts.min(over));
         let behind = spots.at(holder.number).behind;
         let before = toll(facts, spots, holder.number, end) != NEVER
-            && !view.leads(parting.join, behind);
+            && !view.leads(seeker, parting.join, behind);
         if before {
             return false;
         }
@@ -199,12 +201,20 @@ impl Ways {
         let late = self.time(parting.join).saturating_add(wait);
         let waits = facts.cost(over, holder.until()).is_some()
             && toll(facts, spots, parting.join, late) != NEVER
-            && !view.leads(holder.number, parting.fork);
+            && !view.leads(seeker, holder.number, parting.fork);
         !waits
     }
 
     /// What the holders of a resource leave of a way whose first operation holds it in a time.
-    fn hold(&self, view: View, parting: Parting, over: u32, start: u64, listing: Listing) -> Hold {
+    fn hold(
+        &self,
+        view: View,
+        seeker: &mut Seeker,
+        parting: Parting,
+        over: u32,
+        start: u64,
+        listing: Listing,
+    ) -> Hold {
         let train = view.facts.op(over).train;
         let end = start.saturating_add(view.facts.min(over));
         let until = end.saturating_add(u64::from(listing.release));
@@ -214,7 +224,7 @@ impl Ways {
                 return found;
             }
             if holder.forced && holder.train != train && start < holder.until() {
-                if self.is_blocked(view, parting, over, start, holder) {
+                if self.is_blocked(view, seeker, parting, over, start, holder) {
                     return Hold::Blocks;
                 }
                 found = Hold::Waits;
@@ -224,7 +234,14 @@ impl Ways {
     }
 
     /// The way from a fork over one operation.
-    pub(crate) fn way(&mut self, view: View, routes: &Routes, parting: Parting, over: u32) -> Way {
+    pub(crate) fn way(
+        &mut self,
+        view: View,
+        seeker: &mut Seeker,
+        routes: &Routes,
+        parting: Parting,
+        over: u32,
+    ) -> Way {
         let fork = view.spots.at(parting.fork);
         let start = fork.start.saturating_add(view.facts.min(parting.fork));
         let start = start.max(view.facts.lower(over));
@@ -233,7 +250,7 @@ impl Ways {
             free: true,
         };
         for listing in listings_of(view.problem, view.facts.op(over)) {
-            match self.hold(view, parting, over, start, *listing) {
+            match self.hold(view, seeker, parting, over, start, *listing) {
                 Hold::Apart => {}
                 Hold::Waits => way.free = false,
                 Hold::Blocks => way.cost = NEVER,

@@ -3,6 +3,7 @@ ghost use Rattle.disp_model.specs.declared.settings.Rule.TheVariants.{Free};
 ghost use Rattle.disp_model.specs.Node.{Node, with_decision};
 ghost use Rattle.disp_model.specs.Nodes.{IsDead};
 ghost use Rattle.share_bound.specs.Free.{IsFreeBound};
+ghost use Rattle.share_bound.specs.Known.{HoldFor};
 ghost use Rattle.node_leaves.specs.Reckoned.{ReckonsFor};
 ghost use Rattle.node_leaves.specs.Shown.{IsLeafOf};
 
@@ -11,7 +12,7 @@ use crate::refused::refused_leaf;
 use cost_bound::{bound, longest_walk};
 use disp_model::{Decision, Leaf, Memory, Problem, Rule};
 use event_graph::Graph;
-use share_bound::FreeBound;
+use share_bound::{FreeBound, KnownShares};
 use share_leaves::short_bound;
 use std::alloc::Global;
 
@@ -53,11 +54,14 @@ fn open_leaf(
     problem: &Problem,
     reckoning: &Reckoning,
     graph: &Graph,
+    known: &mut KnownShares,
 ) -> Result<NodeLeaf, Memory>
     requires node { graph.now.problem ≡ problem.now }
     requires reckons { ReckonsFor problem.now reckoning.now }
     requires alive { IsDead graph.now → ⊥ }
-    ensures { IfOk result (IsLeafOf reckoning.now.rule graph.now) }
+    requires known { HoldFor graph.now known.old }
+    ensures known { HoldFor graph.now known.new }
+    ensures leaf { IfOk result (IsLeafOf reckoning.now.rule graph.now) }
 {
     match reckoning.rule {
         Rule::Fixed => {
@@ -68,7 +72,7 @@ fn open_leaf(
             })
         }
         Rule::Free => {
-            let shown = short_bound(alloc, problem, &reckoning.components, graph)?;
+            let shown = short_bound(alloc, problem, &reckoning.components, graph, known)?;
             Ok(free_leaf(shown))
         }
     }
@@ -81,14 +85,44 @@ pub fn leaf_of(
     problem: &Problem,
     reckoning: &Reckoning,
     graph: &Graph,
+    known: &mut KnownShares,
 ) -> Result<NodeLeaf, Memory>
     requires node { graph.now.problem ≡ problem.now }
     requires reckons { ReckonsFor problem.now reckoning.now }
-    ensures { IfOk result (IsLeafOf reckoning.now.rule graph.now) }
+    requires known { HoldFor graph.now known.old }
+    ensures known { HoldFor graph.now known.new }
+    ensures leaf { IfOk result (IsLeafOf reckoning.now.rule graph.now) }
 {
     match graph.late() {
         Some(op) => Ok(NodeLeaf::Dead(Leaf::Late(longest_walk(alloc, graph, op)?))),
-        None => open_leaf(alloc, problem, reckoning, graph),
+        None => open_leaf(alloc, problem, reckoning, graph, known),
+    }
+}
+
+/// What the node shows by a rule to which a decision leads, where what is known holds for that node.
+fn leaf_below(
+    alloc: Global,
+    problem: &Problem,
+    reckoning: &Reckoning,
+    graph: &mut Graph,
+    known: &mut KnownShares,
+    decision: Decision,
+) -> Result<NodeLeaf, Memory>
+    requires node { graph.old.problem ≡ problem.now }
+    requires reckons { ReckonsFor problem.now reckoning.now }
+    requires known { HoldFor (with_decision graph.old decision) known.old }
+    ensures same { graph.new ≡ graph.old }
+    ensures known { HoldFor (with_decision graph.old decision) known.new }
+    ensures leaf { IfOk result
+        (IsLeafOf reckoning.now.rule (with_decision graph.old decision)) }
+{
+    match graph.extend(decision) {
+        Ok(()) => {
+            let leaf = leaf_of(alloc, problem, reckoning, graph, known);
+            graph.undo();
+            leaf
+        }
+        Err(no) => Ok(NodeLeaf::Dead(refused_leaf(no)?)),
     }
 }
 
@@ -99,20 +133,19 @@ pub fn child_leaf(
     problem: &Problem,
     reckoning: &Reckoning,
     graph: &mut Graph,
+    known: &mut KnownShares,
     decision: Decision,
 ) -> Result<NodeLeaf, Memory>
     requires node { graph.old.problem ≡ problem.now }
     requires reckons { ReckonsFor problem.now reckoning.now }
+    requires known { HoldFor graph.old known.old }
     ensures same { graph.new ≡ graph.old }
+    ensures known { HoldFor graph.old known.new }
     ensures leaf { IfOk result
         (IsLeafOf reckoning.now.rule (with_decision graph.old decision)) }
 {
-    match graph.extend(decision) {
-        Ok(()) => {
-            let leaf = leaf_of(alloc, problem, reckoning, graph);
-            graph.undo();
-            leaf
-        }
-        Err(no) => Ok(NodeLeaf::Dead(refused_leaf(no)?)),
-    }
+    let aside = known.set_aside(decision);
+    let leaf = leaf_below(alloc, problem, reckoning, graph, known, decision);
+    known.put_back(decision, aside);
+    leaf
 }

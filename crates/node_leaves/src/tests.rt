@@ -4,6 +4,7 @@ ghost use Rattle.std.specs.Prelude.{◌≡◌, IfOk};
 use crate::{NodeLeaf, Reckoning, child_leaf, leaf_of};
 use disp_model::{Decision, Leaf, List, Memory, Op, Operation, Problem, Rule};
 use event_graph::Graph;
+use share_bound::KnownShares;
 use std::alloc::Global;
 use std::process::Abort;
 use std::test::Fail;
@@ -63,10 +64,11 @@ fn check(
 ) -> Result<(), Fail> {
     let mut graph = root(alloc, problem)?;
     let reckoning = Reckoning::new(alloc, problem, rule)?;
-    let leaf = leaf_of(alloc, problem, &reckoning, &graph)?;
+    let mut known = KnownShares::new(alloc, problem)?;
+    let leaf = leaf_of(alloc, problem, &reckoning, &graph, &mut known)?;
     assert_eq!(rt; shown(&leaf), (wanted, 0));
     let decision = Decision::Skip(Op { train: 0, op: 0 });
-    let child = child_leaf(alloc, problem, &reckoning, &mut graph, decision)?;
+    let child = child_leaf(alloc, problem, &reckoning, &mut graph, &mut known, decision)?;
     assert_eq!(rt; shown(&child), (skipped, 0));
     assert_eq!(rt; graph.decisions().len(), 0);
     Ok(())

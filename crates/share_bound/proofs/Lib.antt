@@ -11,3 +11,4 @@ pub mod Basing
 pub mod Examples
 pub mod Showing
 pub mod Freeing
+pub mod Knowing

@@ -5,3 +5,4 @@ pub mod Bases
 pub mod Components
 pub mod Shown
 pub mod Free
+pub mod Known

@@ -9,6 +9,7 @@
 mod bases;
 mod components;
 mod free;
+mod known;
 mod least;
 mod prices;
 mod shares;
@@ -18,6 +19,7 @@ mod times;
 pub use bases::{base_of, bases_of};
 pub use components::OwnComponents;
 pub use free::{FreeBound, free_bound};
+pub use known::{KnownShare, KnownShares};
 pub use prices::cost_of;
 pub use shares::{free_cost, share, share_over, train_of};
 pub use shown::{ShownShare, shown_share};

@@ -1,12 +1,13 @@
 ghost use Rattle.std.specs.Prelude.{◌≡◌, IfOk};
 ghost use Rattle.share_bound.specs.Components.{AreOwnOf};
 ghost use Rattle.share_bound.specs.Free.{IsFreeBound};
+ghost use Rattle.share_bound.specs.Known.{HoldFor};
 
 use crate::trains::{Listed, Shares, list_trains};
 use crate::walks::{Walks, walks_beside};
 use disp_model::{Memory, Problem};
 use event_graph::Graph;
-use share_bound::{FreeBound, OwnComponents, free_bound};
+use share_bound::{FreeBound, KnownShares, OwnComponents, free_bound};
 use std::alloc::Global;
 
 /// The bound of a node of the problem under the free rule, with a leaf that shows it: trains whose
@@ -17,12 +18,15 @@ pub fn short_bound(
     problem: &Problem,
     components: &OwnComponents,
     graph: &Graph,
+    known: &mut KnownShares,
 ) -> Result<FreeBound, Memory>
     requires node { graph.now.problem ≡ problem.now }
     requires own { AreOwnOf problem.now components.now }
-    ensures { IfOk result (IsFreeBound graph.now) }
+    requires known { HoldFor graph.now known.old }
+    ensures known { HoldFor graph.now known.new }
+    ensures bound { IfOk result (IsFreeBound graph.now) }
 {
-    let Shares { listed, total } = list_trains(alloc, problem, components, graph)?;
+    let Shares { listed, total } = list_trains(alloc, problem, components, graph, known)?;
     let beside = walks_beside(alloc, problem, graph, listed.trains.as_slice())?;
     if listed.cost.saturating_add(beside.cost) < total {
         return free_bound(alloc, problem, components, graph);

@@ -3,12 +3,13 @@ ghost use Rattle.disp_model.specs.Valid.{train_at};
 ghost use Rattle.share_bound.specs.Bases.{AddUpTo, AreBasesTo, IsShareWithin};
 ghost use Rattle.share_bound.specs.Components.{AreOwnOf};
 ghost use Rattle.share_leaves.specs.Listed.{AreListed};
+ghost use Rattle.share_bound.specs.Known.{HoldFor, IsCurrentShare};
 
 use crate::listed::{ShownBases, shown_bases};
 use crate::needed::starts_later;
 use disp_model::{Component, List, Memory, Problem, TrainWalks};
 use event_graph::Graph;
-use share_bound::{OwnComponents, bases_of, cost_of, share_over, train_of};
+use share_bound::{KnownShare, KnownShares, OwnComponents, cost_of, share_over, train_of};
 use std::alloc::Global;
 
 /// Trains with walks that show their shares, and what these come to at least.
@@ -69,22 +70,23 @@ fn list(
     components: &OwnComponents,
     graph: &Graph,
     train: u32,
+    known: &KnownShare,
     listed: &mut Listed,
 ) -> Result<u64, Memory>
     requires node { graph.now.problem ≡ problem.now }
     requires own { AreOwnOf problem.now components.now }
     requires train { train < length problem.now.trains }
+    requires known { IsCurrentShare graph.now train known.now }
     requires before { AreListed graph.now train listed.old }
     ensures share { IfOk result (IsShareWithin graph.now train) }
     ensures listed { OnOk result (AreListed graph.now (train + 1) listed.new) }
 {
-    let count = train_of(problem, train).len();
-    let lengths = bases_of(alloc, graph, train, count)?;
-    let share = share_over(alloc, problem, components, graph, train, &lengths)?;
-    if share <= forced_cost(graph, components.of_train(train), train, &lengths) {
+    let lengths = known.bases.as_slice();
+    let share = known.share;
+    if share <= forced_cost(graph, components.of_train(train), train, lengths) {
         return Ok(share);
     }
-    show(alloc, problem, components, graph, train, &lengths, listed)?;
+    show(alloc, problem, components, graph, train, lengths, listed)?;
     Ok(share)
 }
 
@@ -102,9 +104,12 @@ pub(crate) fn list_trains(
     problem: &Problem,
     components: &OwnComponents,
     graph: &Graph,
+    known: &mut KnownShares,
 ) -> Result<Shares, Memory>
     requires node { graph.now.problem ≡ problem.now }
     requires own { AreOwnOf problem.now components.now }
+    requires known { HoldFor graph.now known.old }
+    ensures known { HoldFor graph.now known.new }
     ensures listed { IfOk result
         (λ shares. AreListed graph.now (length problem.now.trains) shares.listed) }
     ensures total { IfOk result
@@ -116,7 +121,18 @@ pub(crate) fn list_trains(
     };
     let mut total = 0;
     for train in 0..problem.trains.len() {
-        let share = list(alloc, problem, components, graph, train as u32, &mut listed)?;
+        let train = train as u32;
+        known.renew(alloc, problem, components, graph, train)?;
+        let current = known.of_train(train);
+        let share = list(
+            alloc,
+            problem,
+            components,
+            graph,
+            train,
+            current,
+            &mut listed,
+        )?;
         total += share;
     }
     Ok(Shares { listed, total })

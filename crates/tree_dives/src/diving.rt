@@ -6,6 +6,7 @@ ghost use Rattle.tree_dives.specs.Dives.{IsDive};
 ghost use Rattle.tree_dives.specs.Wholes.{IsWhole, with_leaf};
 ghost use Rattle.tree_dives.specs.Downs.{sides_of};
 ghost use Rattle.tree_dives.specs.Halves.{IsBelowNode};
+ghost use Rattle.share_bound.specs.Known.{HoldFor};
 
 use crate::down::{Halves, go_down};
 use crate::given::Dive;
@@ -15,7 +16,9 @@ use crate::rewinding::rewind;
 use crate::stage::{End, Stage, stage_of};
 use disp_model::{List, Memory, Problem};
 use event_graph::Graph;
+use free_choices::Strategy;
 use node_leaves::{Reckoning, leaf_of};
+use share_bound::KnownShares;
 use std::alloc::Global;
 
 /// The subtree, where no place is left to be filled.
@@ -37,15 +40,17 @@ fn ended(
     problem: &Problem,
     reckoning: &Reckoning,
     graph: &Graph,
+    known: &mut KnownShares,
     mut halves: Halves,
     end: End,
 ) -> Result<Dive, Memory>
     requires node { graph.now.problem ≡ problem.now }
     requires reckons { ReckonsFor problem.now reckoning.now }
+    requires known { HoldFor graph.now known.old }
     ensures { IfOk result (λ dive. (shown : NodeLeafOf) × IsLeafOf reckoning.now.rule graph.now shown
         × IsWhole (with_leaf (sides_of halves) shown) end dive) }
 {
-    let leaf = leaf_of(alloc, problem, reckoning, graph)?;
+    let leaf = leaf_of(alloc, problem, reckoning, graph, known)?;
     push_leaf(&mut halves.before, leaf)?;
     whole(halves, end)
 }
@@ -56,12 +61,14 @@ fn dive_down(
     problem: &Problem,
     reckoning: &Reckoning,
     graph: &mut Graph,
+    known: &mut KnownShares,
     best: Option<u64>,
     allowance: u32,
     guide: &mut Guide,
 ) -> Result<Dive, Memory>
     requires node { graph.old.problem ≡ problem.now }
     requires reckons { ReckonsFor problem.now reckoning.now }
+    requires known { HoldFor graph.old known.old }
     ensures below { IsBelowNode graph.old graph.new }
     ensures dive { IfOk result (IsDive reckoning.now.rule graph.old best allowance) }
 {
@@ -70,13 +77,17 @@ fn dive_down(
         behind: nothing(alloc),
     };
     for _ in 0..allowance {
-        match stage_of(alloc, problem, reckoning, graph, guide, best)? {
+        let strategy = guide.strategy;
+        match stage_of(
+            alloc, problem, reckoning, graph, known, guide, strategy, best,
+        )? {
             Stage::Branch(choice) => {
                 if !go_down(
                     alloc,
                     problem,
                     reckoning,
                     graph,
+                    known,
                     &mut halves,
                     choice,
                     &guide.target,
@@ -84,12 +95,21 @@ fn dive_down(
                     return whole(halves, End::Closed);
                 }
             }
-            Stage::End(end) => return ended(alloc, problem, reckoning, graph, halves, end),
+            Stage::End(end) => return ended(alloc, problem, reckoning, graph, known, halves, end),
         }
     }
-    match stage_of(alloc, problem, reckoning, graph, guide, best)? {
-        Stage::Branch(_) => ended(alloc, problem, reckoning, graph, halves, End::Open),
-        Stage::End(end) => ended(alloc, problem, reckoning, graph, halves, end),
+    match stage_of(
+        alloc,
+        problem,
+        reckoning,
+        graph,
+        known,
+        guide,
+        Strategy::Any,
+        best,
+    )? {
+        Stage::Branch(_) => ended(alloc, problem, reckoning, graph, known, halves, End::Open),
+        Stage::End(end) => ended(alloc, problem, reckoning, graph, known, halves, end),
     }
 }
 
@@ -116,8 +136,12 @@ pub fn dive(
     ensures same { graph.new ≡ graph.old }
     ensures dive { IfOk result (IsDive reckoning.now.rule graph.old best allowance) }
 {
+    guide.begin();
     let depth = graph.decisions().len();
-    let dive = dive_down(alloc, problem, reckoning, graph, best, allowance, guide);
+    let mut known = KnownShares::new(alloc, problem)?;
+    let dive = dive_down(
+        alloc, problem, reckoning, graph, &mut known, best, allowance, guide,
+    );
     rewind(graph, depth);
     dive
 }

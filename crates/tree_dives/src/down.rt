@@ -3,6 +3,7 @@ ghost use Rattle.disp_model.specs.Node.{with_decision};
 ghost use Rattle.node_leaves.specs.Reckoned.{ReckonsFor};
 ghost use Rattle.tree_dives.specs.Halves.{IsBelowNode};
 ghost use Rattle.tree_dives.specs.Downs.{sides_of, GoesDown};
+ghost use Rattle.share_bound.specs.Known.{HoldFor};
 
 use crate::grown::{Grown, append, append_back, push_branch, push_leaf};
 use crate::leaves::leaves_of;
@@ -11,6 +12,7 @@ use branch_rules::children;
 use disp_model::{Choice, Decision, Memory, Problem};
 use event_graph::{ExtendNo, Graph};
 use node_leaves::{Reckoning, child_leaf};
+use share_bound::KnownShares;
 use std::alloc::Global;
 use train_insertion::Target;
 
@@ -23,14 +25,19 @@ pub(crate) struct Halves {
 }
 
 /// Adds a decision, and says whether it is not refused.
-fn follow(graph: &mut Graph, decision: Decision) -> Result<bool, Memory>
+fn follow(graph: &mut Graph, known: &mut KnownShares, decision: Decision) -> Result<bool, Memory>
+    requires known { HoldFor graph.old known.old }
+    ensures known { HoldFor graph.new known.new }
     ensures yes { IfOk result
         (λ is. is ≡ true → graph.new ≡ with_decision graph.old decision) }
     ensures no { IfOk result (λ is. is ≡ false → graph.new ≡ graph.old) }
     ensures err { OnErr result (graph.new ≡ graph.old) }
 {
     match graph.extend(decision) {
-        Ok(()) => Ok(true),
+        Ok(()) => {
+            let _aside = known.set_aside(decision);
+            Ok(true)
+        }
         Err(ExtendNo::Memory) => Err(Memory),
         Err(_) => Ok(false),
     }
@@ -43,13 +50,16 @@ pub(crate) fn go_down(
     problem: &Problem,
     reckoning: &Reckoning,
     graph: &mut Graph,
+    known: &mut KnownShares,
     halves: &mut Halves,
     choice: Choice,
     target: &Target,
 ) -> Result<bool, Memory>
     requires node { graph.old.problem ≡ problem.now }
     requires reckons { ReckonsFor problem.now reckoning.now }
+    requires known { HoldFor graph.old known.old }
     ensures below { IsBelowNode graph.old graph.new }
+    ensures known { HoldFor graph.new known.new }
     ensures down { IfOk result (GoesDown reckoning.now.rule choice graph.old (sides_of halves.old) graph.new
         (sides_of halves.new)) }
 {
@@ -57,17 +67,17 @@ pub(crate) fn go_down(
     push_branch(&mut halves.before, choice, children.len() as u32)?;
     let place = preferred(problem, graph, target, children.as_slice());
     let (first, rest) = children.as_slice().split_at(place);
-    let left = leaves_of(alloc, problem, reckoning, graph, first)?;
+    let left = leaves_of(alloc, problem, reckoning, graph, known, first)?;
     append(&mut halves.before, left)?;
     let Some((followed, last)) = rest.split_first() else {
         return Ok(false);
     };
-    let right = leaves_of(alloc, problem, reckoning, graph, last)?;
-    if follow(graph, *followed)? {
+    let right = leaves_of(alloc, problem, reckoning, graph, known, last)?;
+    if follow(graph, known, *followed)? {
         append_back(&mut halves.behind, right)?;
         return Ok(true);
     }
-    let leaf = child_leaf(alloc, problem, reckoning, graph, *followed)?;
+    let leaf = child_leaf(alloc, problem, reckoning, graph, known, *followed)?;
     push_leaf(&mut halves.before, leaf)?;
     append(&mut halves.before, right)?;
     Ok(false)

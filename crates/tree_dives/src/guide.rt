@@ -36,11 +36,16 @@ impl Guide {
         self.target = target;
     }
 
+    /// Notes that the graph may have been moved to any node.
+    pub(crate) fn begin(&mut self) {
+        self.adviser.lose();
+    }
+
     /// Counts a dive. Each of the two strategies gives way to the other after a number of dives.
     pub fn count_dive(&mut self) {
         self.dives = self.dives.saturating_add(1);
         let (turn, other) = match self.strategy {
-            Strategy::Toll => (TOLL_DIVES, Strategy::Time),
+            Strategy::Toll | Strategy::Any => (TOLL_DIVES, Strategy::Time),
             Strategy::Time => (TIME_DIVES, Strategy::Toll),
         };
         if self.dives >= turn {

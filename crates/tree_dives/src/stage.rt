@@ -4,13 +4,15 @@ ghost use Rattle.free_choices.specs.Picks.{IsPickBy};
 ghost use Rattle.node_leaves.specs.Reckoned.{ReckonsFor};
 ghost use Rattle.open_nodes.specs.States.{IsBelow};
 ghost use Rattle.tree_dives.specs.Stages.{IsStageAt};
+ghost use Rattle.share_bound.specs.Known.{HoldFor};
 
 use crate::guide::Guide;
 use branch_rules::{Pick, pick_fixed};
 use disp_model::{Choice, Memory, Plan, Problem, Rule};
 use event_graph::Graph;
-use free_choices::pick_free;
+use free_choices::{Strategy, pick_free};
 use node_leaves::Reckoning;
+use share_bound::KnownShares;
 use std::alloc::Global;
 
 /// How a dive ended.
@@ -48,6 +50,7 @@ fn pick(
     rule: Rule,
     graph: &mut Graph,
     guide: &mut Guide,
+    strategy: Strategy,
 ) -> Result<Pick, Memory>
     requires node { graph.old.problem ≡ problem.now }
     requires alive { IsDead graph.old → ⊥ }
@@ -56,31 +59,36 @@ fn pick(
 {
     match rule {
         Rule::Fixed => pick_fixed(alloc, problem, graph),
-        Rule::Free => pick_free(alloc, problem, graph, &mut guide.adviser, guide.strategy),
+        Rule::Free => pick_free(alloc, problem, graph, &mut guide.adviser, strategy),
     }
 }
 
-/// What comes next at the node of a graph, by the rule of the reckoning. The graph is as before.
+/// What comes next at the node of a graph, by the rule of the reckoning, and of the open choices by a
+/// strategy. The graph is as before.
 pub(crate) fn stage_of(
     alloc: Global,
     problem: &Problem,
     reckoning: &Reckoning,
     graph: &mut Graph,
+    known: &mut KnownShares,
     guide: &mut Guide,
+    strategy: Strategy,
     best: Option<u64>,
 ) -> Result<Stage, Memory>
     requires node { graph.old.problem ≡ problem.now }
     requires reckons { ReckonsFor problem.now reckoning.now }
+    requires known { HoldFor graph.old known.old }
     ensures same { graph.new ≡ graph.old }
+    ensures known { HoldFor graph.old known.new }
     ensures stage { IfOk result (IsStageAt reckoning.now.rule best graph.old) }
 {
     let None = graph.late() else {
         return Ok(Stage::End(End::Closed));
     };
-    if !is_below(reckoning.cost(alloc, problem, graph)?, best) {
+    if !is_below(reckoning.cost(alloc, problem, graph, known)?, best) {
         return Ok(Stage::End(End::Closed));
     }
-    match pick(alloc, problem, reckoning.rule, graph, guide)? {
+    match pick(alloc, problem, reckoning.rule, graph, guide, strategy)? {
         Pick::Choice(choice) => Ok(Stage::Branch(choice)),
         Pick::Plan(plan) => Ok(Stage::End(End::Plan(plan))),
     }

@@ -1,7 +1,7 @@
 // Short leaves that show the bounds of nodes under the free rule.
 use super::graphs::root;
 use disp_model::{Memory, Problem};
-use share_bound::OwnComponents;
+use share_bound::{KnownShares, OwnComponents};
 use share_leaves::short_bound;
 use std::alloc::Global;
 use std::process::Abort;
@@ -18,7 +18,8 @@ fn check(
 ) -> Result<(), Fail> {
     let graph = root(alloc, problem)?;
     let components = OwnComponents::of(alloc, problem)?;
-    let bound = short_bound(alloc, problem, &components, &graph)?;
+    let mut known = KnownShares::new(alloc, problem)?;
+    let bound = short_bound(alloc, problem, &components, &graph, &mut known)?;
     let mut walks: usize = 0;
     for listed in bound.trains.as_slice() {
         walks = listed.walks.len().saturating_add(walks);

@@ -66,6 +66,7 @@ loop-preserved c =
           (GoesOn rule best root c.go_down.new.graph (sides_of c.go_down.new.halves))
           c.if-not-branch.false (ensures.down.0 best root helps completes);
       count = omega (arith, ensures.down.1, inv.count);
+      known = ensures.known;
       first = λ none. absurd (omega (arith, none));
     }
 

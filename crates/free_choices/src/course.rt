@@ -1,0 +1,86 @@
+use disp_model::{Decision, Memory};
+use std::alloc::Global;
+
+/// How many arcs there were at a depth.
+#[derive(Clone, Copy)]
+struct Stop {
+    depth: usize,
+    arcs: usize,
+}
+
+/// The decisions down to the node that was looked at last, and how many arcs there were on the way.
+#[derive(Drop)]
+pub(crate) struct Course {
+    decisions: Vec<Decision>,
+    stops: Vec<Stop>,
+    /// Whether the graph may have been moved elsewhere than down from that node.
+    moved: bool,
+}
+
+/// How many decisions two lists have in common at their front.
+fn common(one: &[Decision], other: &[Decision]) -> usize {
+    for (place, decision) in one.iter().enumerate() {
+        if other.get(place) != Some(decision) {
+            return place;
+        }
+    }
+    one.len()
+}
+
+impl Course {
+    /// No decisions.
+    pub(crate) fn new(alloc: Global) -> Course {
+        Course {
+            decisions: Vec::new(alloc),
+            stops: Vec::new(alloc),
+            moved: true,
+        }
+    }
+
+    /// Notes that the graph may have been moved to any node.
+    pub(crate) fn lose(&mut self) {
+        self.moved = true;
+    }
+
+    /// How many of its decisions a node has too.
+    pub(crate) fn shared_with(&self, decisions: &[Decision]) -> usize {
+        let depth = self.decisions.len();
+        if !self.moved && depth <= decisions.len() {
+            return depth;
+        }
+        common(&self.decisions, decisions)
+    }
+
+    /// The decisions behind so many.
+    pub(crate) fn behind(&self, depth: usize) -> &[Decision] {
+        match self.decisions.get(depth..) {
+            Some(behind) => behind,
+            None => &[],
+        }
+    }
+
+    /// Goes back to a depth, and says how many arcs are known to be there.
+    pub(crate) fn go_back(&mut self, depth: usize) -> usize {
+        self.decisions.truncate(depth);
+        for _ in 0..self.stops.len() {
+            match self.stops.last() {
+                Some(stop) if stop.depth > depth => {}
+                Some(stop) => return stop.arcs,
+                None => return 0,
+            }
+            self.stops.pop();
+        }
+        0
+    }
+
+    /// Goes down by these decisions, to where there are so many arcs.
+    pub(crate) fn go_down(&mut self, decisions: &[Decision], arcs: usize) -> Result<(), Memory> {
+        self.decisions.extend_from_slice(decisions)?;
+        self.stops.push(Stop {
+            depth: self.decisions.len(),
+            arcs,
+        })?;
+        self.moved = false;
+        Ok(())
+    }
+}

@@ -1,0 +1,76 @@
+use disp_model::Memory;
+use incremental_paths::Arc;
+use std::alloc::Global;
+
+/// An arc, and the one that was kept before it from the same operation.
+#[derive(Clone, Copy)]
+struct Link {
+    from: u32,
+    to: u32,
+    before: Option<u32>,
+}
+
+/// The arcs of a graph in the order in which they were added, by the operations that they lead
+/// from.
+#[derive(Drop)]
+pub(crate) struct Links {
+    last: Vec<Option<u32>>,
+    each: Vec<Link>,
+}
+
+impl Links {
+    /// No arcs yet between so many operations.
+    pub(crate) fn new(alloc: Global, count: usize) -> Result<Links, Memory> {
+        let mut last = Vec::with_capacity(alloc, count)?;
+        for _ in 0..count {
+            last.push(None)?;
+        }
+        Ok(Links {
+            last,
+            each: Vec::new(alloc),
+        })
+    }
+
+    /// How many arcs there are.
+    pub(crate) fn len(&self) -> usize {
+        self.each.len()
+    }
+
+    /// Keeps an arc behind the others.
+    pub(crate) fn push(&mut self, arc: Arc) -> Result<(), Memory> {
+        let place = u32::try_from(self.each.len()).unwrap_or(u32::MAX);
+        if let Some(last) = self.last.get_mut(arc.from as usize) {
+            let before = *last;
+            *last = Some(place);
+            self.each.push(Link {
+                from: arc.from,
+                to: arc.to,
+                before,
+            })?;
+        }
+        Ok(())
+    }
+
+    /// Takes the last arc away, and gives the operation that it led to.
+    pub(crate) fn pop(&mut self) -> Option<u32> {
+        let link = self.each.pop()?;
+        if let Some(last) = self.last.get_mut(link.from as usize) {
+            *last = link.before;
+        }
+        Some(link.to)
+    }
+
+    /// The last arc from an operation.
+    pub(crate) fn last(&self, from: u32) -> Option<u32> {
+        match self.last.get(from as usize) {
+            Some(last) => *last,
+            None => None,
+        }
+    }
+
+    /// Where an arc leads to, and the arc before it from the same operation.
+    pub(crate) fn at(&self, place: u32) -> Option<(u32, Option<u32>)> {
+        let link = self.each.get(place as usize)?;
+        Some((link.to, link.before))
+    }
+}
