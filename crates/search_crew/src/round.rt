@@ -18,7 +18,6 @@ use disp_model::{Answer, Memory};
 use disp_outside::{Gate, Point};
 use node_leaves::Reckoning;
 use open_nodes::Work;
-use search_workers::FOR_BOUND;
 use shared_board::{Board, Pass, SEARCHERS_FROM};
 use std::alloc::Global;
 use std::sync::Wait;
@@ -101,9 +100,7 @@ fn find_turn<W: Wait>(
     let want = hand.effort.want();
     match next_turn(rt, alloc, board, pass, edition, want)? {
         Turn::Work(work) => {
-            if want <= FOR_BOUND {
-                keep_another(rt, alloc, board, pass, crew, hand, edition);
-            }
+            keep_another(rt, alloc, board, pass, crew, hand, edition, want);
             Ok(Turn::Work(work))
         }
         turn => Ok(turn),

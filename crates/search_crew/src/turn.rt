@@ -108,7 +108,8 @@ pub(crate) fn next_turn<W: Wait>(
     }
 }
 
-/// Keeps one work more, if there is one, for others to steal.
+/// Keeps one work more, if there is one, for others to steal, where the searcher asked for few
+/// branches: it works on the bound then, and need not stay where it is.
 pub(crate) fn keep_another<W: Wait>(
     rt: &W,
     alloc: Global,
@@ -117,6 +118,7 @@ pub(crate) fn keep_another<W: Wait>(
     crew: &Crew,
     hand: &mut Hand,
     edition: u32,
+    want: u32,
 )
     requires board { own_board pass.old ≡ board_of board.now }
     requires searcher { IsSearcher (known pass.old) }
@@ -124,6 +126,9 @@ pub(crate) fn keep_another<W: Wait>(
     ensures hand { IsSameHand hand.old hand.new }
 {
     if !crew.shares() {
+        return;
+    }
+    if want > FOR_BOUND {
         return;
     }
     if let Ok(CoreReply::Taken(work)) = board.take(rt, alloc, pass, edition, FOR_BOUND) {

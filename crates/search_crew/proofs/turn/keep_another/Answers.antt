@@ -8,10 +8,10 @@ use Rattle.search_crew.proofs.turn.keep_another.Goals as goal
 pub returns-in-Err-clause-on : goal.returns-in-Err-clause-on
 returns-in-Err-clause-on g c =
     keeps_keeps c.args.pass.now c.take.new.pass c.give_back.new.pass
-    (entered_keeps c.args.pass.now c.take.new.pass c.take.ensures.board c.take.ensures.counts (event.Take (searcher_of (known c.args.pass.now).caller) c.args.edition 65) c.in-Ok-Taken.field-0 c.in-Ok-Taken.ensures.told)
+    (entered_keeps c.args.pass.now c.take.new.pass c.take.ensures.board c.take.ensures.counts (event.Take (searcher_of (known c.args.pass.now).caller) c.args.edition 16) c.in-Ok-Taken.field-0 c.in-Ok-Taken.ensures.told)
     c.give_back.ensures
 
 pub give_back-requires-clause-searcher : goal.give_back-requires-clause-searcher
 give_back-requires-clause-searcher g c =
-    let on = entered_keeps c.args.pass.now c.take.new.pass c.take.ensures.board c.take.ensures.counts (event.Take (searcher_of (known c.args.pass.now).caller) c.args.edition 65) c.in-Ok-Taken.field-0 c.in-Ok-Taken.ensures.told in
+    let on = entered_keeps c.args.pass.now c.take.new.pass c.take.ensures.board c.take.ensures.counts (event.Take (searcher_of (known c.args.pass.now).caller) c.args.edition 16) c.in-Ok-Taken.field-0 c.in-Ok-Taken.ensures.told in
     searcher_on (known c.args.pass.now) (known c.take.new.pass) on.goes.role c.requires.searcher
