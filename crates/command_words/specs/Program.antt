@@ -14,6 +14,14 @@ needed_rule id = record (new_rule id) { required = true; value_names = 1 }
 abbrev pub optional_rule : List ℕ → Rule
 optional_rule id = record (new_rule id) { long = Some id; value_names = 1 }
 
+-- PROBLEM
+abbrev pub problem : Rule
+problem = needed_rule (codes "problem")
+
+-- `--fixings`
+abbrev pub fixings : Rule
+fixings = optional_rule (codes "fixings")
+
 -- `--workers`: how many searchers, at least one and at most 64, and one where it is not given
 abbrev pub workers : Rule
 workers = record (optional_rule (codes "workers")) {
@@ -38,8 +46,8 @@ with_search command = with_rule (with_rule (with_rule command workers) budget) r
 
 -- what `solve` reads: `PROBLEM [--fixings F]`
 abbrev pub solve_inputs : App
-solve_inputs = with_rule (with_rule (new_app (codes "solve")) (needed_rule (codes "problem")))
-    (optional_rule (codes "fixings"))
+solve_inputs = with_rule (with_rule (new_app (codes "solve")) problem)
+    fixings
 
 -- `solve PROBLEM [--fixings F] [--workers N] [--budget B] [--rule RULE] [--plan OUT] [--tree OUT]`
 abbrev pub solve : App
@@ -49,20 +57,20 @@ solve = with_rule (with_rule (with_search solve_inputs) (optional_rule (codes "p
 -- `verify PROBLEM SOLUTION [--fixings F]`
 abbrev pub verify : App
 verify =
-    with_rule (with_rule (with_rule (new_app (codes "verify")) (needed_rule (codes "problem")))
-    (needed_rule (codes "solution"))) (optional_rule (codes "fixings"))
+    with_rule (with_rule (with_rule (new_app (codes "verify")) problem)
+    (needed_rule (codes "solution"))) fixings
 
 -- `check PROBLEM TREE [--fixings F] [--plan P]`
 abbrev pub check : App
 check = with_rule
-    (with_rule (with_rule (with_rule (new_app (codes "check")) (needed_rule (codes "problem")))
-    (needed_rule (codes "tree"))) (optional_rule (codes "fixings"))) (optional_rule (codes "plan"))
+    (with_rule (with_rule (with_rule (new_app (codes "check")) problem)
+    (needed_rule (codes "tree"))) fixings) (optional_rule (codes "plan"))
 
 -- `report PROBLEM SOLUTION [--fixings F]`
 abbrev pub report : App
 report =
-    with_rule (with_rule (with_rule (new_app (codes "report")) (needed_rule (codes "problem")))
-    (needed_rule (codes "solution"))) (optional_rule (codes "fixings"))
+    with_rule (with_rule (with_rule (new_app (codes "report")) problem)
+    (needed_rule (codes "solution"))) fixings
 
 -- NUMBER, of 31 bits
 abbrev pub number : Rule
@@ -86,19 +94,27 @@ feeds = record (needed_rule (codes "feeds")) {
 
 -- what `roll` reads: `PROBLEM FEED...`
 abbrev pub roll_inputs : App
-roll_inputs = with_rule (with_rule (new_app (codes "roll")) (needed_rule (codes "problem"))) feeds
+roll_inputs = with_rule (with_rule (new_app (codes "roll")) problem) feeds
 
 -- `roll PROBLEM FEED... [--workers N] [--budget B] [--rule RULE] [--trees PREFIX]`
 abbrev pub roll : App
 roll = with_rule (with_search roll_inputs) (optional_rule (codes "trees"))
 
--- `solve` or `verify`; the words do not begin with the program's name
-abbrev pub first_commands : App
-first_commands = with_subcommand (with_subcommand (on_top (λ s. record s {
+-- the program's name, which has a version
+abbrev pub named_program : App
+named_program = on_top (λ s. record s { has_version = true }) (new_app (codes "dispatch"))
+
+-- the words do not begin with the program's name, and name a command
+abbrev pub bare_program : App
+bare_program = on_top (λ s. record s {
   no_binary_name = true;
   subcommand_required = true;
   disable_help_subcommand = true;
-}) (new_app (codes "dispatch"))) solve.top) verify.top
+}) named_program
+
+-- `solve` or `verify`
+abbrev pub first_commands : App
+first_commands = with_subcommand (with_subcommand bare_program solve.top) verify.top
 
 -- the same, or `check` or `report`
 abbrev pub more_commands : App

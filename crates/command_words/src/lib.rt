@@ -8,6 +8,7 @@
 mod program;
 mod read;
 mod task;
+mod texts;
 
 pub use read::{WordsNo, read_words};
 pub use task::{JudgeTask, MakeTask, RollTask, SolveTask, Task};

@@ -2,6 +2,7 @@
 use crate::{JudgeTask, Task, WordsNo, read_words};
 use disp_model::{List, Rule, Text};
 use std::alloc::Global;
+use std::process::Abort;
 use std::test::Fail;
 
 fn words(alloc: Global, line: &str) -> Result<Vec<String>, Fail> {
@@ -87,149 +88,151 @@ fn read(alloc: Global, line: &str) -> Result<String, Fail> {
     Ok(text)
 }
 
-fn is_refused(alloc: Global, line: &str, wanted: &str) -> Result<bool, Fail> {
-    let text = read(alloc, line)?;
-    Ok(text.as_str().contains(wanted))
+/// Each line is read as the text behind it says.
+fn are_read(rt: &impl Abort, alloc: Global, rows: &[(&str, &str)]) -> Result<(), Fail> {
+    for (line, wanted) in rows {
+        let text = read(alloc, line)?;
+        assert_eq!(rt; text.as_str(), *wanted);
+    }
+    Ok(())
+}
+
+/// Each line is refused by a text that has the one behind it.
+fn are_refused(rt: &impl Abort, alloc: Global, rows: &[(&str, &str)]) -> Result<(), Fail> {
+    for (line, wanted) in rows {
+        let text = read(alloc, line)?;
+        assert!(rt; text.as_str().contains(wanted), "{line}");
+    }
+    Ok(())
 }
 
 #[test]
 fn words_have_their_values(rt: HostRuntime) -> Result<(), Fail> {
-    let alloc = rt.alloc();
-    assert_eq!(rt;
-        read(alloc, "solve P --budget 7 --plan=OUT")?.as_str(),
-        "solve P none 1 7 free OUT none"
-    );
-    assert_eq!(rt;
-        read(alloc, "solve --plan OUT P --fixings F")?.as_str(),
-        "solve P F 1 1000000 free OUT none"
-    );
-    assert_eq!(rt;
-        read(alloc, "solve P --budget 4294967295")?.as_str(),
-        "solve P none 1 4294967295 free none none"
-    );
-    assert_eq!(rt;
-        read(alloc, "solve P --budget 0 --tree T")?.as_str(),
-        "solve P none 1 0 free none T"
-    );
-    assert_eq!(rt;
-        read(alloc, "solve P --rule fixed")?.as_str(),
-        "solve P none 1 1000000 fixed none none"
-    );
-    assert_eq!(rt; read(alloc, "verify P S")?.as_str(), "verify P S none");
-    assert_eq!(rt;
-        read(alloc, "verify P S --fixings F")?.as_str(),
-        "verify P S F"
-    );
-    Ok(())
-}
-
-#[test]
-fn words_of_searchers_have_their_values(rt: HostRuntime) -> Result<(), Fail> {
-    let alloc = rt.alloc();
-    assert_eq!(rt;
-        read(alloc, "solve P --workers 4")?.as_str(),
-        "solve P none 4 1000000 free none none"
-    );
-    assert_eq!(rt;
-        read(alloc, "solve P --workers 64")?.as_str(),
-        "solve P none 64 1000000 free none none"
-    );
-    assert!(rt; is_refused(alloc, "solve P --workers 0", "0 is not in 1..=64")?);
-    assert!(rt; is_refused(alloc, "solve P --workers 65", "65 is not in 1..=64")?);
-    assert!(rt; is_refused(alloc, "roll P F --workers 0", "0 is not in 1..=64")?);
-    Ok(())
-}
-
-#[test]
-fn words_of_a_run_have_their_values(rt: HostRuntime) -> Result<(), Fail> {
-    let alloc = rt.alloc();
-    assert_eq!(rt;
-        read(alloc, "roll p f g")?.as_str(),
-        "roll p f+g+ 1 1000000 free none"
-    );
-    assert_eq!(rt;
-        read(
-            alloc,
-            "roll p f --trees t --budget 7 --workers 2 --rule fixed"
-        )?
-        .as_str(),
-        "roll p f+ 2 7 fixed t"
-    );
-    assert_eq!(rt;
-        read(alloc, "roll --budget 7 p g --trees t f g")?.as_str(),
-        "roll p g+f+g+ 1 7 free t"
-    );
-    assert!(rt; is_refused(alloc, "roll p", "<FEED>...")?);
-    assert!(rt; is_refused(alloc, "roll p f --rule best", "fixed, free")?);
-    assert!(rt; is_refused(alloc, "roll p f --tree t", "unexpected argument '--tree'")?);
-    Ok(())
-}
-
-#[test]
-fn words_of_a_check_have_their_values(rt: HostRuntime) -> Result<(), Fail> {
-    let alloc = rt.alloc();
-    assert_eq!(rt; read(alloc, "check P T")?.as_str(), "check P T none none");
-    assert_eq!(rt;
-        read(alloc, "check P T --plan S --fixings F")?.as_str(),
-        "check P T F S"
-    );
-    assert!(rt; is_refused(alloc, "check P", "<TREE>")?);
-    assert!(rt;
-        is_refused(
-            alloc,
-            "check P T --budget 1",
-            "unexpected argument '--budget'"
-        )?
-    );
-    Ok(())
-}
-
-#[test]
-fn words_of_a_report_and_a_made_problem(rt: HostRuntime) -> Result<(), Fail> {
-    let alloc = rt.alloc();
-    assert_eq!(rt;
-        read(alloc, "report P S --fixings F")?.as_str(),
-        "report P S F"
-    );
-    assert_eq!(rt; read(alloc, "make 0 2000")?.as_str(), "make 0 2000 none");
-    assert_eq!(rt;
-        read(alloc, "make 2147483647 1 --out P")?.as_str(),
-        "make 2147483647 1 P"
-    );
-    assert!(rt; is_refused(alloc, "make 0 0", "0 is not in 1..=2000")?);
-    assert!(rt; is_refused(alloc, "make 0 2001", "2001 is not in 1..=2000")?);
-    assert!(rt; is_refused(alloc, "make 2147483648 1", "2147483648")?);
-    Ok(())
+    let rows = [
+        (
+            "solve P --budget 7 --plan=OUT",
+            "solve P none 1 7 free OUT none",
+        ),
+        (
+            "solve --plan OUT P --fixings F",
+            "solve P F 1 1000000 free OUT none",
+        ),
+        (
+            "solve P --budget 4294967295",
+            "solve P none 1 4294967295 free none none",
+        ),
+        (
+            "solve P --budget 0 --tree T",
+            "solve P none 1 0 free none T",
+        ),
+        (
+            "solve P --rule fixed",
+            "solve P none 1 1000000 fixed none none",
+        ),
+        (
+            "solve P --workers 4",
+            "solve P none 4 1000000 free none none",
+        ),
+        (
+            "solve P --workers 64",
+            "solve P none 64 1000000 free none none",
+        ),
+        ("verify P S", "verify P S none"),
+        ("verify P S --fixings F", "verify P S F"),
+        ("report P S --fixings F", "report P S F"),
+        ("check P T", "check P T none none"),
+        ("check P T --plan S --fixings F", "check P T F S"),
+        ("make 0 2000", "make 0 2000 none"),
+        ("make 2147483647 1 --out P", "make 2147483647 1 P"),
+        ("roll p f g", "roll p f+g+ 1 1000000 free none"),
+        (
+            "roll p f --trees t --budget 7 --workers 2 --rule fixed",
+            "roll p f+ 2 7 fixed t",
+        ),
+        (
+            "roll --budget 7 p g --trees t f g",
+            "roll p g+f+g+ 1 7 free t",
+        ),
+    ];
+    are_read(&rt, rt.alloc(), &rows)
 }
 
 #[test]
 fn other_words_are_refused(rt: HostRuntime) -> Result<(), Fail> {
-    let alloc = rt.alloc();
-    let none = Vec::new(alloc);
-    assert!(rt; read_words(alloc, &none).is_err());
-    assert!(rt; is_refused(alloc, "solve", "<PROBLEM>")?);
-    assert!(rt; is_refused(alloc, "solve P --rule best", "fixed, free")?);
-    assert!(rt; is_refused(alloc, "solve P Q", "unexpected argument 'Q'")?);
-    assert!(rt; is_refused(alloc, "solve P --budget -1", "unexpected argument '-1'")?);
-    assert!(rt; is_refused(alloc, "solve P --budget x", "invalid value 'x'")?);
-    assert!(rt;
-        is_refused(
-            alloc,
+    let none = Vec::new(rt.alloc());
+    assert!(rt; read_words(rt.alloc(), &none).is_err());
+    let rows = [
+        ("solve", "<PROBLEM>"),
+        ("solve P --rule best", "fixed, free"),
+        ("solve P Q", "unexpected argument 'Q'"),
+        ("solve P --budget -1", "unexpected argument '-1'"),
+        ("solve P --budget x", "invalid value 'x'"),
+        (
             "solve P --budget 4294967296",
-            "4294967296 is not in 0..=4294967295"
-        )?
-    );
-    assert!(rt;
-        is_refused(
-            alloc,
-            "verify P S --workers 2",
-            "unexpected argument '--workers'"
-        )?
-    );
-    assert!(rt; is_refused(alloc, "--help", "Usage: dispatch <COMMAND>")?);
-    assert!(rt; is_refused(alloc, "help", "'help'")?);
-    assert!(rt; is_refused(alloc, "solve --help", "--budget <B>")?);
-    assert!(rt; is_refused(alloc, "fly P", "'fly'")?);
-    assert!(rt; is_refused(alloc, "verify P", "<SOLUTION>")?);
-    Ok(())
+            "4294967296 is not in 0..=4294967295",
+        ),
+        ("solve P --workers 0", "0 is not in 1..=64"),
+        ("solve P --workers 65", "65 is not in 1..=64"),
+        ("verify P", "<SOLUTION>"),
+        ("verify P S --workers 2", "unexpected argument '--workers'"),
+        ("check P", "<TREE>"),
+        ("check P T --budget 1", "unexpected argument '--budget'"),
+        ("make 0 0", "0 is not in 1..=2000"),
+        ("make 0 2001", "2001 is not in 1..=2000"),
+        ("make 2147483648 1", "2147483648"),
+        ("roll p", "<FEED>..."),
+        ("roll P F --workers 0", "0 is not in 1..=64"),
+        ("roll p f --rule best", "fixed, free"),
+        ("roll p f --tree t", "unexpected argument '--tree'"),
+        ("fly P", "'fly'"),
+        ("help", "'help'"),
+    ];
+    are_refused(&rt, rt.alloc(), &rows)
+}
+
+#[test]
+fn help_tells_of_each_argument(rt: HostRuntime) -> Result<(), Fail> {
+    let rows = [
+        ("--version", "dispatch 1.0.0"),
+        ("--help", "Usage: dispatch <COMMAND>"),
+        ("--help", "Example: dispatch solve problem.json"),
+        ("solve --help", "Usage: dispatch solve [OPTIONS] <PROBLEM>"),
+        (
+            "solve --help",
+            "<PROBLEM>  A problem, in the JSON format of DISPLIB 2025",
+        ),
+        (
+            "solve --help",
+            "--fixings <F>  A file with what is fixed already",
+        ),
+        (
+            "solve --help",
+            "--budget <B>   How often the search may branch [default: 1000000]",
+        ),
+        (
+            "solve --help",
+            "--plan <OUT>   Where the best plan is stored",
+        ),
+        ("solve --help", "--tree <OUT>   Where the tree is stored"),
+        ("solve --help", "3 the budget was spent first"),
+        (
+            "verify --help",
+            "Usage: dispatch verify [OPTIONS] <PROBLEM> <SOLUTION>",
+        ),
+        (
+            "report --help",
+            "Example: dispatch report problem.json plan.json",
+        ),
+        ("check --help", "<TREE>     The tree of a verdict"),
+        (
+            "make --help",
+            "<TRAINS>  How many trains it has, up to 2000",
+        ),
+        (
+            "roll --help",
+            "Usage: dispatch roll [OPTIONS] <PROBLEM> <FEED>...",
+        ),
+        ("roll --help", "--trees <PREFIX>"),
+    ];
+    are_refused(&rt, rt.alloc(), &rows)
 }
