@@ -12,10 +12,6 @@ use search_crew::{Crew, Hand, search};
 use shared_board::{Board, Pass};
 use std::alloc::Global;
 use std::sync::Wait;
-use std::thread::yield_now;
-
-/// How often a searcher gives way before it asks again for an edition to search.
-const PAUSE: u32 = 64;
 
 /// One searcher of a run: its pass to the board, and its hand of the crew.
 #[derive(Drop)]
@@ -24,14 +20,8 @@ pub struct Searcher {
     pub hand: Hand,
 }
 
-/// Lets others go first.
-fn give_way() {
-    for _time in 0..PAUSE {
-        yield_now();
-    }
-}
-
-/// Searches edition after edition, as long as there is one to search or a feed may bring one.
+/// Searches edition after edition, as long as there is one to search or a feed may bring one. Where
+/// there is none it rests.
 fn search_on<W: Wait, G: Gate>(
     rt: &W,
     alloc: Global,
@@ -48,6 +38,7 @@ fn search_on<W: Wait, G: Gate>(
     ensures hand { IsSameHand hand.old hand.new }
 {
     for _ in rt.forever() {
+        let moves = board.moves();
         match board.next(rt, alloc, pass) {
             CoreReply::Work(edition) => {
                 let answer = search(rt, alloc, board, pass, crew, hand, rule, edition, gate);
@@ -55,7 +46,7 @@ fn search_on<W: Wait, G: Gate>(
                     return;
                 }
             }
-            CoreReply::FeedsOpen(_) => give_way(),
+            CoreReply::FeedsOpen(_) => board.rest(rt, moves),
             _ => return,
         }
     }

@@ -9,17 +9,11 @@ use journal_printer::{PrintNo, print_entries};
 use shared_board::{Board, Pass};
 use std::alloc::Global;
 use std::sync::Wait;
-use std::thread::yield_now;
 
-/// How often the printer gives way where there is nothing to print.
-const PAUSE: u32 = 64;
-
-/// Lets others go first, where there is nothing to do.
-fn give_way(is_idle: bool) {
+/// Rests until there is another entry, where there is nothing to do.
+fn rest_if<W: Wait>(is_idle: bool, rt: &W, board: &Board, moves: u64) {
     if is_idle {
-        for _time in 0..PAUSE {
-            yield_now();
-        }
+        board.rest(rt, moves);
     }
 }
 
@@ -45,11 +39,12 @@ fn print_new<W: Wait, S: Shelf, O: Sink>(
     ensures fetched { OnOk result (fetched pass.new ≡ length (known pass.new).seen) }
     ensures known { (name : List ℕ) → S.knows shelf.old name → S.knows shelf.new name }
 {
+    let moves = board.moves();
     let Ok(news) = board.news(rt, alloc, pass) else {
         return Err(PrintNo::Memory);
     };
     *over = news.ended;
-    give_way(news.entries.len() == 0);
+    rest_if(news.entries.len() == 0 && !news.ended, rt, board, moves);
     print_entries(alloc, shelf, out, trees, news.entries.as_slice())
 }
 

@@ -14,10 +14,6 @@ use search_workers::FOR_BOUND;
 use shared_board::{Board, Pass};
 use std::alloc::Global;
 use std::sync::Wait;
-use std::thread::yield_now;
-
-/// How often a searcher gives way where there is nothing to do, before it asks again.
-const PAUSE: u32 = 64;
 
 /// What there is for a searcher to do.
 #[derive(Drop)]
@@ -71,15 +67,8 @@ fn stop<W: Wait>(
     Ok(Turn::On)
 }
 
-/// Lets others go first.
-fn give_way() {
-    for _time in 0..PAUSE {
-        yield_now();
-    }
-}
-
-/// Takes a leaf of an edition from the board, to grow so many branches. Where none is wanted, settles it; where none may be
-/// taken and none is out, stops it.
+/// Takes a leaf of an edition from the board, to grow so many branches. Where none is wanted, settles
+/// it; where none may be taken and none is out, stops it; where all that may be taken are out, rests.
 pub(crate) fn next_turn<W: Wait>(
     rt: &W,
     alloc: Global,
@@ -93,6 +82,7 @@ pub(crate) fn next_turn<W: Wait>(
     ensures on { KeepsOn pass.old pass.new }
     ensures turn { IfOk result (IsTurn edition (known pass.new).seen) }
 {
+    let moves = board.moves();
     match board.take(rt, alloc, pass, edition, want)? {
         CoreReply::Taken(work) => Ok(Turn::Work(work)),
         CoreReply::Closed(mark) => Ok(answered(mark)),
@@ -102,7 +92,7 @@ pub(crate) fn next_turn<W: Wait>(
         CoreReply::Ripe => settle(rt, alloc, board, pass, edition),
         CoreReply::Dry(_) => stop(rt, alloc, board, pass, edition),
         _ => {
-            give_way();
+            board.rest(rt, moves);
             Ok(Turn::On)
         }
     }

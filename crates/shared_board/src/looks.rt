@@ -104,6 +104,17 @@ impl Board {
         }
     }
 
+    /// How many entries were added, as `rest` counts them.
+    pub fn moves(&self) -> u64 {
+        self.turns.moves()
+    }
+
+    /// Sleeps until an entry is added, where none was since `moves` gave this number, and for two
+    /// milliseconds at most. It may return at any time.
+    pub fn rest<W: Wait>(&self, rt: &W, moves: u64) {
+        self.turns.rest(rt, moves);
+    }
+
     /// How many entries there are, as one load found it.
     pub fn heard(&self, pass: &mut Pass) -> u64
         requires { own_board pass.old ≡ board_of self.now }

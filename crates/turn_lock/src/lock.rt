@@ -1,6 +1,7 @@
 //! The lock.
 ghost use Rattle.std.specs.Prelude.{◌≡◌};
 
+use crate::bell::Bell;
 use crate::pass::{Pass, View};
 use crate::steps::{COUNT, InOrder, LOCK, Look, Opening, Settle, TakeBack};
 use crate::{Busy, History, Memory};
@@ -21,6 +22,7 @@ pub struct Turn<S: History, A: Allocator = Global> {
     pub(crate) table: Table<Option<S>, View<S::Entry, S::Terms>, Opening<S>, InOrder, A>,
     // How many wait for the turn asleep, or are about to.
     pub(crate) sleepers: AtomicU64,
+    pub(crate) bell: Bell,
     ghost two_words: { table.shared.table_id.words ≡ 2 },
     ghost one_slot: { table.shared.table_id.slots ≡ 1 },
 }
@@ -52,8 +54,12 @@ impl<S: History, A: Allocator> Turn<S, A> {
         let Ok((table, seat)) = Table::new(alloc, &[0, 0], slots, &opening) else {
             return Err(Memory);
         };
-        let sleepers = AtomicU64::new(0);
-        Ok((Turn { table, sleepers }, Pass { seat }))
+        let turn = Turn {
+            table,
+            sleepers: AtomicU64::new(0),
+            bell: Bell::new(),
+        };
+        Ok((turn, Pass { seat }))
     }
 
     /// A pass for another caller, from the first pass. It begins with what this one has seen.
@@ -154,6 +160,17 @@ impl<S: History, A: Allocator> Turn<S, A> {
         ensures rises { (view pass.old).count ≤ result }
     {
         self.table.shared.load::<Look>(&mut pass.seat, COUNT)
+    }
+
+    /// How many entries were added, as `rest` counts them.
+    pub fn moves(&self) -> u64 {
+        self.bell.moves()
+    }
+
+    /// Sleeps until an entry is added, where none was since `moves` gave this number, and for two
+    /// milliseconds at most. It may return at any time.
+    pub fn rest<W: Wait>(&self, rt: &W, moves: u64) {
+        self.bell.rest(rt, moves);
     }
 
     /// Ends the lock, and gives the state. Each other pass was joined.

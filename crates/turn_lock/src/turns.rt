@@ -94,6 +94,7 @@ impl<S: History, A: Allocator> Turn<S, A> {
         self.count_entry(seat, grew);
         self.table.shared.store::<Release>(seat, LOCK, 0);
         self.wake();
+        self.bell.ring(grew);
     }
 
     // Counts the entry that was added, if one was, and sees the whole history.
