@@ -3,4 +3,3 @@ pub mod Summing
 pub mod Ending
 pub mod Walking
 pub mod Bounding
-pub mod Examples

@@ -17,6 +17,3 @@ pub use shown::Bound;
 pub use sum::cost;
 pub use walk::longest_walk;
 pub use walks::bound;
-
-#[cfg(test)]
-mod tests;

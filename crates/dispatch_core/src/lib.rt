@@ -21,6 +21,3 @@ mod work;
 
 pub use event::{CoreEvent, CoreReply, StepNo};
 pub use machine::Core;
-
-#[cfg(test)]
-mod tests;

@@ -7,7 +7,6 @@ pub mod Owning
 pub mod Joining
 pub mod Deciding
 pub mod Offsets
-pub mod Blocks
 pub mod Potentials
 pub mod Extending
 pub mod Inserting

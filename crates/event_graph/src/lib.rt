@@ -24,6 +24,3 @@ mod touched;
 
 pub use faults::ExtendNo;
 pub use graph::Graph;
-
-#[cfg(test)]
-mod tests;

@@ -1,4 +1,9 @@
 mod arcs;
 mod choices;
+mod costs;
 mod graphs;
 mod leaves;
+mod nodes;
+mod orders;
+mod routes;
+mod shares;

@@ -29,6 +29,3 @@ pub use order::Order;
 pub use paths::Paths;
 pub use plain_values::Memory;
 pub use threads::Threads;
-
-#[cfg(test)]
-mod tests;

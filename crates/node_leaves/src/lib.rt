@@ -12,6 +12,3 @@ mod refused;
 
 pub use leaf::{NodeLeaf, child_leaf, leaf_of};
 pub use reckoning::Reckoning;
-
-#[cfg(test)]
-mod tests;

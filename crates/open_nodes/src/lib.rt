@@ -23,6 +23,3 @@ mod work;
 pub use nodes::Nodes;
 pub use place::{Above, Errand, Kind, Place};
 pub use work::{Fragment, GiveBack, Growth, Take, Work};
-
-#[cfg(test)]
-mod tests;

@@ -2,7 +2,6 @@ pub mod Answering
 mod Asking
 mod Chaining
 mod Following
-pub mod Forks
 mod Knowing
 mod Parting
 mod Passing

@@ -12,6 +12,3 @@ mod routes;
 mod sweep;
 
 pub use routes::Routes;
-
-#[cfg(test)]
-mod tests;

@@ -15,6 +15,3 @@ pub use effort::{Effort, FOR_BOUND, FOR_PLAN};
 pub use growth::{Growth, grow, leaf_alone, target_after};
 pub use search::search_alone;
 pub use walk::refused_leaf;
-
-#[cfg(test)]
-mod tests;

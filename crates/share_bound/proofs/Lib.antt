@@ -8,7 +8,6 @@ pub mod Fitting
 pub mod Sharing
 pub mod Owning
 pub mod Basing
-pub mod Examples
 pub mod Showing
 pub mod Freeing
 pub mod Knowing

@@ -23,6 +23,3 @@ pub use known::{KnownShare, KnownShares};
 pub use prices::cost_of;
 pub use shares::{free_cost, share, share_over, train_of};
 pub use shown::{ShownShare, shown_share};
-
-#[cfg(test)]
-mod tests;

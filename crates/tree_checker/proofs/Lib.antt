@@ -15,6 +15,5 @@ pub mod Landed
 pub mod SharesAdded
 pub mod SmallWalks
 pub mod Shown
-pub mod Blocks
 pub mod Renewing
 pub mod AskedAlone

@@ -31,6 +31,3 @@ pub use checking::check;
 pub use children::decisions_below;
 pub use judging::check_leaf;
 pub use why::{Checked, Why};
-
-#[cfg(test)]
-mod tests;

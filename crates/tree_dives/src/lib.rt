@@ -22,6 +22,3 @@ pub use given::Dive;
 pub use guide::Guide;
 pub use rewinding::rewind;
 pub use stage::End;
-
-#[cfg(test)]
-mod tests;

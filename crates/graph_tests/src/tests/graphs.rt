@@ -1,7 +1,7 @@
 // Graphs of nodes, and the decisions that tests add to them.
-ghost use Rattle.std.specs.Prelude.{◌≡◌, IfOk};
+ghost use Rattle.std.specs.Prelude.{◌≡◌, IfOk, length};
 
-use disp_model::{Decision, Op, Problem};
+use disp_model::{Decision, Fixing, Op, Problem};
 use event_graph::Graph;
 use std::alloc::Global;
 use std::process::Abort;
@@ -12,6 +12,22 @@ pub(super) fn root<'p>(alloc: Global, problem: &'p Problem) -> Result<Graph<'p>,
     ensures { IfOk result (λ graph. graph.problem ≡ problem.now) }
 {
     match Graph::new(alloc, problem, &[]) {
+        Ok(graph) => Ok(graph),
+        Err(_) => Err(Fail::from("no graph")),
+    }
+}
+
+/// The graph where nothing is decided, and the first operation is not to start before 7.
+pub(super) fn later<'p>(alloc: Global, problem: &'p Problem) -> Result<Graph<'p>, Fail>
+    requires { length problem.now.trains ≡ 1 }
+    ensures { IfOk result (λ graph. graph.problem ≡ problem.now) }
+{
+    let fixing = Fixing::NotBefore {
+        at_train: 0,
+        at_op: 0,
+        time: 7,
+    };
+    match Graph::new(alloc, problem, &[fixing]) {
         Ok(graph) => Ok(graph),
         Err(_) => Err(Fail::from("no graph")),
     }

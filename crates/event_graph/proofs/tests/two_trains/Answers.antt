@@ -1,9 +1,0 @@
-use Rattle.std.proofs.Common.{rules, ◌≡◌, [], ◌∷◌}
-use Rattle.event_arcs.proofs.Blocks.{two_trains, two_made}
-use Rattle.event_graph.proofs.tests.two_trains.Goals as goal
-
-pub invariant_of-result : goal.invariant_of-result
-invariant_of-result c =
-    let trains : c.from_vec.result ≡ two_trains = search rules in
-    let names : c.from_vec-2.result ≡ c.in_ok-resource.resource ∷ [] = search rules in
-    record { well_formed = rw (trains, c.new.ensures, names) (two_made c.in_ok-resource.resource) }

@@ -1,0 +1,84 @@
+// Two trains on one block: orders added, refused and taken back.
+use super::graphs::{extend, op, order, root};
+use disp_model::Decision;
+use event_graph::{ExtendNo, Graph};
+use incremental_paths::Arc;
+use std::alloc::Global;
+use std::process::Abort;
+use std::test::Fail;
+use worked_problems::two_trains_until;
+
+/// The arcs as a text: from, to and length of each.
+fn shown(alloc: Global, graph: &Graph) -> Result<String, Fail> {
+    let mut text = String::new(alloc);
+    for arc in graph.paths().arcs() {
+        let Arc { from, to, length } = *arc;
+        text.push_str(format!(in alloc; "{from}-{to}:{length} ")?.as_str())?;
+    }
+    Ok(text)
+}
+
+fn check_arcs(rt: &impl Abort, alloc: Global, graph: &Graph, wanted: &str) -> Result<(), Fail> {
+    let text = shown(alloc, graph)?;
+    assert_eq!(rt; text.as_str(), wanted);
+    Ok(())
+}
+
+/// Which refusal it is.
+fn refusal(alloc: Global, no: ExtendNo) -> Result<String, Fail> {
+    match no {
+        ExtendNo::NoRoute(train) => Ok(format!(in alloc; "no route of {train}")?),
+        ExtendNo::Cycle(_) => Ok(String::from_str(alloc, "cycle")?),
+        ExtendNo::Memory => Ok(String::from_str(alloc, "memory")?),
+    }
+}
+
+/// The decision is refused in these words.
+fn check_refused(
+    rt: &impl Abort,
+    alloc: Global,
+    graph: &mut Graph,
+    decision: Decision,
+    wanted: &str,
+) -> Result<(), Fail> {
+    let Err(no) = graph.extend(decision) else {
+        return Err(Fail::from("added"));
+    };
+    let text = refusal(alloc, no)?;
+    assert_eq!(rt; text.as_str(), wanted);
+    Ok(())
+}
+
+#[test]
+fn orders_are_added_and_refused(rt: HostRuntime) -> Result<(), Fail> {
+    let problem = two_trains_until(rt.alloc(), 3)?;
+    let mut graph = root(rt.alloc(), &problem)?;
+    check_arcs(&rt, rt.alloc(), &graph, "0-1:10 2-3:4 ")?;
+    check_refused(
+        &rt,
+        rt.alloc(),
+        &mut graph,
+        Decision::Skip(op(1, 0)),
+        "no route of 1",
+    )?;
+    extend(&rt, &mut graph, order(0, 1));
+    check_arcs(&rt, rt.alloc(), &graph, "0-1:10 2-3:4 0-2:10 1-2:0 ")?;
+    check_refused(&rt, rt.alloc(), &mut graph, order(1, 0), "cycle")?;
+    check_arcs(&rt, rt.alloc(), &graph, "0-1:10 2-3:4 0-2:10 1-2:0 ")?;
+    Ok(())
+}
+
+#[test]
+fn the_last_order_is_taken_back(rt: HostRuntime) -> Result<(), Fail> {
+    let problem = two_trains_until(rt.alloc(), 3)?;
+    let mut graph = root(rt.alloc(), &problem)?;
+    assert_eq!(rt; graph.late(), None);
+    extend(&rt, &mut graph, order(0, 1));
+    assert_eq!(rt; graph.late(), Some(op(1, 0)));
+    assert!(&rt; graph.decisions().len() > 0);
+    graph.undo();
+    assert_eq!(rt; graph.late(), None);
+    extend(&rt, &mut graph, order(1, 0));
+    check_arcs(&rt, rt.alloc(), &graph, "0-1:10 2-3:4 2-0:4 3-0:0 ")?;
+    Ok(())
+}

@@ -1,0 +1,128 @@
+// A fork of a train, and what fixings and decisions leave of its two routes.
+ghost use Rattle.std.specs.Prelude.{◌<◌, length};
+
+use super::graphs::op;
+use disp_model::{Decision, Fixing, List, Memory, Problem};
+use route_sets::Routes;
+use std::alloc::Global;
+use std::test::Fail;
+use worked_problems::forked;
+
+/// Whether no route is left, whether 1 is forced, what follows 0, and the least sum from 0 to 3.
+type Answers = (bool, bool, Option<u32>, Option<u64>);
+
+fn answers(
+    alloc: Global,
+    problem: &Problem,
+    fixings: &[Fixing],
+    decisions: &[Decision],
+) -> Result<Answers, Memory>
+    requires { 0 < length problem.now.trains }
+{
+    let routes = Routes::of(alloc, problem, 0, fixings, decisions)?;
+    Ok((
+        routes.none_left(),
+        routes.forced(1),
+        routes.only_next(0),
+        routes.least_between(0, 3),
+    ))
+}
+
+#[test]
+fn a_fork_leaves_two_routes(rt: HostRuntime) -> Result<(), Fail> {
+    let problem = forked(rt.alloc())?;
+    let routes = Routes::of(rt.alloc(), &problem, 0, &[], &[])?;
+    assert!(rt; routes.forced(0) && routes.forced(3));
+    assert!(rt; !routes.forced(2) && !routes.forced(4));
+    assert_eq!(rt; routes.least_between(3, 0), None);
+    assert_eq!(rt;
+        answers(rt.alloc(), &problem, &[], &[])?,
+        (false, false, None, Some(3))
+    );
+    Ok(())
+}
+
+#[test]
+fn a_decision_leaves_one(rt: HostRuntime) -> Result<(), Fail> {
+    let problem = forked(rt.alloc())?;
+    for (decision, wanted) in [
+        (
+            Decision::Go {
+                op: op(0, 0),
+                next: 1,
+            },
+            (false, true, Some(1), Some(5)),
+        ),
+        (
+            Decision::Go {
+                op: op(0, 0),
+                next: 2,
+            },
+            (false, false, Some(2), Some(3)),
+        ),
+        (Decision::Run(op(0, 1)), (false, true, Some(1), Some(5))),
+        (Decision::Skip(op(0, 1)), (false, false, Some(2), Some(3))),
+        (Decision::Skip(op(0, 0)), (true, false, None, None)),
+        (Decision::Run(op(0, 4)), (true, false, None, None)),
+        (Decision::Skip(op(0, 4)), (false, false, None, Some(3))),
+    ] {
+        assert_eq!(rt; answers(rt.alloc(), &problem, &[], &[decision])?, wanted);
+    }
+    Ok(())
+}
+
+#[test]
+fn fixings_may_leave_none(rt: HostRuntime) -> Result<(), Fail> {
+    let problem = forked(rt.alloc())?;
+    let chosen = Fixing::Chosen {
+        at_train: 0,
+        at_op: 0,
+        next: 2,
+    };
+    let started = Fixing::Started {
+        at_train: 0,
+        at_op: 1,
+        time: 4,
+    };
+    for (fixings, wanted) in [
+        ([chosen, chosen], (false, false, Some(2), Some(3))),
+        ([started, started], (false, true, Some(1), Some(5))),
+        ([chosen, started], (true, false, None, None)),
+    ] {
+        assert_eq!(rt; answers(rt.alloc(), &problem, &fixings, &[])?, wanted);
+    }
+    Ok(())
+}
+
+/// The one route that is allowed, and no operation where there is no such one.
+fn only_route(alloc: Global, problem: &Problem, decision: Decision) -> Result<List<u32>, Memory>
+    requires { 0 < length problem.now.trains }
+{
+    let routes = Routes::of(alloc, problem, 0, &[], &[decision])?;
+    match routes.only_route()? {
+        Some(route) => Ok(route),
+        None => Ok(List::new(alloc)),
+    }
+}
+
+#[test]
+fn the_only_route_is_given_whole(rt: HostRuntime) -> Result<(), Fail> {
+    let problem = forked(rt.alloc())?;
+    for (decision, wanted) in [
+        (
+            Decision::Go {
+                op: op(0, 0),
+                next: 1,
+            },
+            [0, 1, 3].as_slice(),
+        ),
+        (Decision::Run(op(0, 2)), [0, 2, 3].as_slice()),
+        (Decision::Skip(op(0, 2)), [0, 1, 3].as_slice()),
+        (Decision::Skip(op(0, 4)), [].as_slice()),
+        (Decision::Skip(op(0, 0)), [].as_slice()),
+    ] {
+        let route = only_route(rt.alloc(), &problem, decision)?;
+        assert_eq!(rt; route.as_slice(), wanted);
+    }
+    Ok(())
+}

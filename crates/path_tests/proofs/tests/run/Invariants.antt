@@ -1,0 +1,9 @@
+use Rattle.std.proofs.Common.{◌≡◌, ◌<◌, ◌^◌, length, All}
+use Rattle.path_tests.proofs.tests.run.Given as goal
+
+abbrev pub invariant-loop-step : goal.invariant-loop-step
+invariant-loop-step g l = record {
+  nodes : length l.paths.lowers ≡ l.nodes;
+  lowers : All (λ lower. lower < 2 ^ 32) l.paths.lowers;
+  lengths : All (λ arc. arc.length < 2 ^ 32) l.paths.arcs;
+}

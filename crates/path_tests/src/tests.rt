@@ -1,0 +1,303 @@
+// Arcs that are added and withdrawn, and lowers that are raised.
+ghost use Rattle.std.specs.Prelude.{◌≡◌, ◌<◌, ◌≤◌, ◌^◌, length, All, IfOk};
+
+use incremental_paths::{AddNo, Arc, Memory, Paths};
+use std::alloc::Global;
+use std::process::Abort;
+use std::test::Fail;
+
+// One call, and for an arc whether it is taken.
+#[derive(Clone, Copy, Debug)]
+enum Step {
+    Add(u32, u32, u32),
+    Closes(u32, u32, u32),
+    Withdraw(u32),
+    Raise(u32, u32),
+}
+
+fn add(
+    rt: &impl Abort,
+    paths: &mut Paths,
+    nodes: usize,
+    from: u32,
+    to: u32,
+    by: u32,
+) -> Result<(), AddNo>
+    requires nodes { length paths.old.lowers ≡ nodes }
+    requires lowers { All (λ lower. lower < 2 ^ 32) paths.old.lowers }
+    requires lengths { All (λ arc. arc.length < 2 ^ 32) paths.old.arcs }
+    ensures nodes { length paths.new.lowers ≡ nodes }
+    ensures lowers { All (λ lower. lower < 2 ^ 32) paths.new.lowers }
+    ensures lengths { All (λ arc. arc.length < 2 ^ 32) paths.new.arcs }
+{
+    let kept = paths.arcs().len();
+    assert!(rt; kept < 1000);
+    assert!(rt; (from as usize) < nodes);
+    assert!(rt; (to as usize) < nodes);
+    paths.add(from, to, u64::from(by))
+}
+
+fn raise(rt: &impl Abort, paths: &mut Paths, nodes: usize, node: u32, lower: u32)
+    requires nodes { length paths.old.lowers ≡ nodes }
+    requires lowers { All (λ lower. lower < 2 ^ 32) paths.old.lowers }
+    requires lengths { All (λ arc. arc.length < 2 ^ 32) paths.old.arcs }
+    ensures nodes { length paths.new.lowers ≡ nodes }
+    ensures lowers { All (λ lower. lower < 2 ^ 32) paths.new.lowers }
+    ensures lengths { All (λ arc. arc.length < 2 ^ 32) paths.new.arcs }
+{
+    let kept = paths.arcs().len();
+    assert!(rt; kept < 1000);
+    assert!(rt; (node as usize) < nodes);
+    paths.raise(node, u64::from(lower));
+}
+
+fn take(rt: &impl Abort, paths: &mut Paths, nodes: usize, step: Step)
+    requires nodes { length paths.old.lowers ≡ nodes }
+    requires lowers { All (λ lower. lower < 2 ^ 32) paths.old.lowers }
+    requires lengths { All (λ arc. arc.length < 2 ^ 32) paths.old.arcs }
+    ensures nodes { length paths.new.lowers ≡ nodes }
+    ensures lowers { All (λ lower. lower < 2 ^ 32) paths.new.lowers }
+    ensures lengths { All (λ arc. arc.length < 2 ^ 32) paths.new.arcs }
+{
+    match step {
+        Step::Add(from, to, by) => {
+            let taken = add(rt, paths, nodes, from, to, by);
+            assert_eq!(rt; taken, Ok(()));
+        }
+        Step::Closes(from, to, by) => {
+            let refused = add(rt, paths, nodes, from, to, by);
+            assert_eq!(rt; refused, Err(AddNo::Closes { from, to }));
+        }
+        Step::Withdraw(k) => {
+            let kept = paths.arcs().len();
+            assert!(rt; k as usize <= kept);
+            paths.withdraw(k);
+        }
+        Step::Raise(node, lower) => raise(rt, paths, nodes, node, lower),
+    }
+}
+
+// The lengths of all nodes are these.
+fn compare(rt: &impl Abort, paths: &Paths, lengths: &[u64])
+    requires nodes { length paths.now.lowers ≡ length lengths.now }
+    requires few { length lengths.now < 1000 }
+{
+    for (node, want) in lengths.iter().enumerate() {
+        let found = paths.length(node as u32);
+        assert_eq!(rt; found, *want, "at {node}");
+    }
+}
+
+// The nodes that have changed are these, in any order.
+fn compare_changed(rt: &impl Abort, paths: &Paths, changed: &[u32]) {
+    let found = paths.changed();
+    assert_eq!(rt; found.len(), changed.len());
+    assert!(rt; changed.iter().all(|node| found.contains(node)));
+}
+
+// Steps from these lowers on, each with all lengths after it, and the nodes that it changed.
+fn run(
+    rt: &impl Abort,
+    alloc: Global,
+    lowers: &[u64],
+    rows: &[(Step, &[u64], &[u32])],
+) -> Result<Paths, Fail>
+    ensures { IfOk result (λ paths. length paths.lowers ≡ length lowers.now) }
+{
+    let nodes = lowers.len();
+    assert!(rt; nodes < 1000);
+    assert!(rt; lowers.iter().all(|lower| *lower < 1000));
+    let mut paths = Paths::new(alloc, lowers)?;
+    for (step, lengths, changed) in rows {
+        take(rt, &mut paths, nodes, *step);
+        assert_eq!(rt; lengths.len(), nodes);
+        compare(rt, &paths, lengths);
+        compare_changed(rt, &paths, changed);
+    }
+    Ok(paths)
+}
+
+#[test]
+fn lengths_follow_arcs_that_come_and_go(rt: HostRuntime) -> Result<(), Fail> {
+    let rows: [(Step, &[u64], &[u32]); 5] = [
+        (Step::Add(0, 1, 10), &[0, 10], &[1]),
+        (Step::Closes(1, 0, 0), &[0, 10], &[]),
+        (Step::Withdraw(1), &[0, 0], &[]),
+        (Step::Raise(0, 5), &[5, 0], &[0]),
+        (Step::Raise(0, 3), &[5, 0], &[]),
+    ];
+    run(&rt, rt.alloc(), &[0, 0], &rows)?;
+    let rows: [(Step, &[u64], &[u32]); 6] = [
+        (Step::Add(0, 1, 10), &[0, 10, 0], &[1]),
+        (Step::Add(1, 2, 10), &[0, 10, 20], &[2]),
+        (Step::Raise(1, 15), &[0, 15, 25], &[1, 2]),
+        (Step::Withdraw(1), &[0, 15, 0], &[]),
+        (Step::Withdraw(1), &[0, 15, 0], &[]),
+        (Step::Add(0, 1, 20), &[0, 20, 0], &[1]),
+    ];
+    run(&rt, rt.alloc(), &[0, 0, 0], &rows)?;
+    Ok(())
+}
+
+#[test]
+fn an_arc_against_the_order_of_the_numbers(rt: HostRuntime) -> Result<(), Fail> {
+    let rows: [(Step, &[u64], &[u32]); 3] = [
+        (Step::Add(2, 1, 3), &[0, 3, 0], &[1]),
+        (Step::Add(1, 0, 4), &[7, 3, 0], &[0]),
+        (Step::Closes(0, 2, 0), &[7, 3, 0], &[]),
+    ];
+    run(&rt, rt.alloc(), &[0, 0, 0], &rows)?;
+    Ok(())
+}
+
+#[test]
+fn a_node_that_grows_twice_is_told_once(rt: HostRuntime) -> Result<(), Fail> {
+    let rows: [(Step, &[u64], &[u32]); 5] = [
+        (Step::Add(1, 3, 5), &[0, 0, 0, 5], &[3]),
+        (Step::Add(1, 2, 3), &[0, 0, 3, 5], &[2]),
+        (Step::Add(2, 3, 4), &[0, 0, 3, 7], &[3]),
+        (Step::Add(0, 1, 10), &[0, 10, 13, 17], &[1, 2, 3]),
+        (Step::Raise(2, 13), &[0, 10, 13, 17], &[]),
+    ];
+    run(&rt, rt.alloc(), &[0, 0, 0, 0], &rows)?;
+    Ok(())
+}
+
+#[test]
+fn the_longer_of_two_arcs_counts(rt: HostRuntime) -> Result<(), Fail> {
+    let rows: [(Step, &[u64], &[u32]); 4] = [
+        (Step::Add(0, 1, 3), &[0, 3], &[1]),
+        (Step::Add(0, 1, 9), &[0, 9], &[1]),
+        (Step::Withdraw(1), &[0, 3], &[]),
+        (Step::Closes(0, 0, 5), &[0, 3], &[]),
+    ];
+    run(&rt, rt.alloc(), &[0, 0], &rows)?;
+    Ok(())
+}
+
+// The walks and ways of the four nodes of the test below.
+fn compare_walks(rt: &impl Abort, paths: &Paths) -> Result<(), Fail>
+    requires { length paths.now.lowers ≡ 4 }
+{
+    assert_eq!(rt; paths.walk(0)?.as_slice(), [3, 1, 0].as_slice());
+    assert_eq!(rt; paths.walk(2)?.as_slice(), [2].as_slice());
+    let way = paths.between(3, 0)?.ok_or("no way")?;
+    assert_eq!(rt; way.as_slice(), [3, 1, 0].as_slice());
+    let way = paths.between(2, 2)?.ok_or("no way")?;
+    assert_eq!(rt; way.as_slice(), [2].as_slice());
+    assert!(rt; paths.between(0, 3)?.is_none());
+    Ok(())
+}
+
+#[test]
+fn walks_and_ways_are_given_from_their_beginning(rt: HostRuntime) -> Result<(), Fail> {
+    let rows: [(Step, &[u64], &[u32]); 3] = [
+        (Step::Add(3, 1, 2), &[1, 2, 0, 0], &[1]),
+        (Step::Add(1, 0, 5), &[7, 2, 0, 0], &[0]),
+        (Step::Add(2, 0, 6), &[7, 2, 0, 0], &[]),
+    ];
+    let paths = run(&rt, rt.alloc(), &[1, 0, 0, 0], &rows)?;
+    compare_walks(&rt, &paths)
+}
+
+// A chain that leads from the last node to the first, made from its end to its beginning.
+fn chain(rt: &impl Abort, alloc: Global, nodes: u32) -> Result<Paths, Fail>
+    requires some { 0 < nodes }
+    requires few { nodes ≤ 1000 }
+    ensures nodes { IfOk result (λ paths. length paths.lowers ≡ nodes) }
+    ensures lowers { IfOk result (λ paths. All (λ lower. lower < 2 ^ 32) paths.lowers) }
+    ensures lengths { IfOk result (λ paths. All (λ arc. arc.length < 2 ^ 32) paths.arcs) }
+{
+    let lowers = vec![in alloc; 0u64; nodes as usize]?;
+    let mut paths = Paths::new(alloc, &lowers)?;
+    for node in 0..nodes - 1 {
+        add(rt, &mut paths, nodes as usize, node + 1, node, 1)?;
+    }
+    Ok(paths)
+}
+
+#[test]
+fn a_chain_is_as_long_as_its_arcs_and_not_closed(rt: HostRuntime) -> Result<(), Fail> {
+    let mut paths = chain(&rt, rt.alloc(), 1000)?;
+    assert_eq!(rt; paths.length(0), 999);
+    assert_eq!(rt; paths.changed().len(), 999);
+    let refused = add(&rt, &mut paths, 1000, 0, 999, 0);
+    assert_eq!(rt; refused, Err(AddNo::Closes { from: 0, to: 999 }));
+    assert_eq!(rt; paths.changed().len(), 0);
+    Ok(())
+}
+
+#[test]
+fn a_raise_stays_where_arcs_are_withdrawn_together(rt: HostRuntime) -> Result<(), Fail> {
+    let rows: [(Step, &[u64], &[u32]); 6] = [
+        (Step::Add(0, 1, 10), &[0, 10, 0], &[1]),
+        (Step::Raise(2, 7), &[0, 10, 7], &[2]),
+        (Step::Add(1, 2, 10), &[0, 10, 20], &[2]),
+        (Step::Add(0, 2, 30), &[0, 10, 30], &[2]),
+        (Step::Withdraw(2), &[0, 10, 7], &[]),
+        (Step::Withdraw(1), &[0, 0, 7], &[]),
+    ];
+    run(&rt, rt.alloc(), &[0, 0, 0], &rows)?;
+    Ok(())
+}
+
+// The cycle that these arcs would close has so many nodes, and 0 says that there is none. The one
+// arc is kept, and no node has changed.
+fn compare_cycle(
+    rt: &impl Abort,
+    paths: &mut Paths,
+    more: &[Arc],
+    nodes: usize,
+) -> Result<(), Memory>
+    requires { length paths.old.lowers ≡ 3 }
+    ensures { length paths.new.lowers ≡ 3 }
+{
+    assert!(rt; more.iter().all(|arc| arc.from < 3 && arc.to < 3));
+    let found = match paths.cycle_with(more)? {
+        Some(cycle) => cycle.len(),
+        None => 0,
+    };
+    assert_eq!(rt; found, nodes);
+    assert_eq!(rt; paths.arcs().len(), 1);
+    assert_eq!(rt; paths.changed().len(), 0);
+    Ok(())
+}
+
+// Each row has arcs, and how many nodes the cycle has that they would close.
+fn compare_cycles(
+    rt: &impl Abort,
+    paths: &mut Paths,
+    rows: &[(&[Arc], usize)],
+) -> Result<(), Memory>
+    requires { length paths.old.lowers ≡ 3 }
+{
+    for (more, nodes) in rows {
+        compare_cycle(rt, paths, more, *nodes)?;
+    }
+    Ok(())
+}
+
+// An arc of length 1.
+fn arc(from: u32, to: u32) -> Arc {
+    Arc {
+        from,
+        to,
+        length: 1,
+    }
+}
+
+#[test]
+fn several_arcs_close_a_cycle_together(rt: HostRuntime) -> Result<(), Fail> {
+    let mut paths = Paths::new(rt.alloc(), &[0, 0, 0])?;
+    add(&rt, &mut paths, 3, 0, 1, 7)?;
+    let rows: [(&[Arc], usize); 6] = [
+        (&[arc(1, 2), arc(2, 0)], 3),
+        (&[arc(1, 2), arc(0, 2)], 0),
+        (&[arc(1, 0)], 2),
+        (&[arc(2, 1), arc(1, 2)], 2),
+        (&[arc(2, 2)], 1),
+        (&[], 0),
+    ];
+    compare_cycles(&rt, &mut paths, &rows)?;
+    Ok(())
+}

@@ -1,0 +1,4 @@
+mod core;
+mod dives;
+mod leaves;
+mod searches;

@@ -1,0 +1,101 @@
+// A tree of one leaf: it is taken, given back and grown.
+ghost use Rattle.std.specs.Prelude.{IfOk};
+ghost use Rattle.disp_model.specs.declared.problem.Problem.{Problem as ProblemOf};
+ghost use Rattle.open_nodes.specs.Grafts.{FillPlaces};
+
+use disp_model::{Choice, Leaf, List, Memory, Op, TreeNode};
+use open_nodes::{Fragment, GiveBack, Growth, Nodes, Take, Work};
+use std::alloc::Global;
+use std::test::Fail;
+use worked_problems::no_trains;
+
+#[test]
+fn one_leaf_is_taken_and_given_back(rt: HostRuntime) -> Result<(), Fail> {
+    let mut nodes = Nodes::new(rt.alloc())?;
+    assert_eq!(rt; nodes.bound(), Some(0));
+    let taken = nodes.take(rt.alloc(), None, 5, 3, 7, 0)?;
+    let Take::Taken(work) = taken else {
+        panic!(rt; "no leaf is taken");
+    };
+    assert_eq!(rt; work.node, 0);
+    assert_eq!(rt; work.allowance, 3);
+    assert_eq!(rt; nodes.allowed(), 3);
+    let again = nodes.take(rt.alloc(), None, 2, 3, 7, 0)?;
+    assert!(rt; matches!(again, Take::AllOut(1)));
+    assert_eq!(rt; nodes.give_back(work, true), GiveBack::Back);
+    let dry = nodes.take(rt.alloc(), None, 0, 3, 7, 0)?;
+    assert!(rt; matches!(dry, Take::Dry));
+    Ok(())
+}
+
+/// A branch of an order, with two leaves of the bounds 24 and 18.
+fn ordered(alloc: Global, work: Work) -> Result<Fragment, Memory>
+    ensures { IfOk result (λ fragment. (problem : ProblemOf)
+        → FillPlaces problem 1 fragment.subtree fragment.bounds) }
+{
+    let choice = Choice::Order(Op { train: 0, op: 0 }, Op { train: 1, op: 0 });
+    let mut tree = List::new(alloc);
+    tree.push(TreeNode::Branch {
+        choice,
+        children: 2,
+    })?;
+    tree.push(TreeNode::Leaf(Leaf::Costs(List::new(alloc))))?;
+    tree.push(TreeNode::Leaf(Leaf::Costs(List::new(alloc))))?;
+    let mut bounds = List::new(alloc);
+    bounds.push(24)?;
+    bounds.push(18)?;
+    Ok(Fragment {
+        work,
+        subtree: tree,
+        bounds,
+    })
+}
+
+/// Takes a leaf, where few allowances are out.
+fn take_one(alloc: Global, nodes: &mut Nodes, best: Option<u64>) -> Result<Take, Memory> {
+    if nodes.allowed() > 100 {
+        return Ok(Take::Dry);
+    }
+    nodes.take(alloc, best, 5, 3, 7, 0)
+}
+
+/// Whether a taken leaf has grown by one split.
+fn grow_one(alloc: Global, nodes: &mut Nodes) -> Result<bool, Memory> {
+    let problem = no_trains(alloc);
+    let Take::Taken(work) = take_one(alloc, nodes, None)? else {
+        return Ok(false);
+    };
+    let fragment = ordered(alloc, work)?;
+    match nodes.grow(alloc, &problem, fragment) {
+        Ok(Growth::Grown(splits)) => Ok(splits.len() == 1),
+        Ok(Growth::Gone(_)) => Ok(false),
+        Err(_) => Ok(false),
+    }
+}
+
+/// Whether the two new leaves are found by their bounds.
+fn are_found(nodes: &Nodes) -> bool {
+    nodes.allowed() == 0
+        && nodes.bound() == Some(18)
+        && nodes.wanted(Some(18)).is_none()
+        && nodes.wanted(Some(20)) == Some((2, 18))
+        && nodes.wanted(None) == Some((1, 24))
+        && nodes.leaf(0).is_none()
+        && nodes.leaf(2).is_some()
+}
+
+#[test]
+fn a_branch_has_two_leaves(rt: HostRuntime) -> Result<(), Fail> {
+    let alloc = rt.alloc();
+    let mut nodes = Nodes::new(alloc)?;
+    let has_grown = grow_one(alloc, &mut nodes)?;
+    assert!(rt; has_grown);
+    assert!(rt; are_found(&nodes));
+    let ripe = take_one(alloc, &mut nodes, Some(18))?;
+    assert!(rt; matches!(ripe, Take::Ripe));
+    nodes.reset(1);
+    assert_eq!(rt; nodes.wanted(Some(20)), Some((1, 0)));
+    let tree = nodes.tree(alloc)?;
+    assert_eq!(rt; tree.len(), 3);
+    Ok(())
+}
