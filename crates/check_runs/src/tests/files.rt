@@ -1,8 +1,9 @@
 // What `check` prints where files are refused or cannot be read: the first one decides.
 use super::runs::{TREE, TWO, row};
-use disp_outside::OpenGate;
+use disp_outside::{FeedNo, FetchNo, OpenGate, PutNo, Shelf};
 use dispatch_cli::dispatch;
-use outside_in_memory::{MemShelf, SteadySink};
+use outside_in_memory::{MemShelf, SteadyFeed, SteadySink};
+use std::alloc::Global;
 use std::process::Abort;
 use std::sync::Wait;
 use std::test::Fail;
@@ -47,5 +48,71 @@ fn the_first_file_that_cannot_be_read_is_told(rt: HostRuntime) -> Result<(), Fai
     fails(&rt, &mut shelf, "plan: Failed\n")?;
     assert_eq!(rt; (shelf.faults("p"), shelf.faults("f")), (1, 1));
     assert_eq!(rt; (shelf.faults("t"), shelf.faults("s")), (1, 1));
+    Ok(())
+}
+
+// The two trains under each name and their tree under "t", but one file is too long.
+#[derive(Drop)]
+struct LongShelf {
+    long: &'static str,
+}
+
+impl Shelf for LongShelf {
+    type Feed = SteadyFeed;
+
+    ghost use Rattle.std.specs.Prelude.{None, ⊤};
+
+    ghost knows = { λ _ _. ⊤ };
+
+    ghost holds = { λ _ _. None };
+
+    ghost reading_faults = { λ _ _. 0 };
+
+    ghost putting_faults = { λ _ _. 0 };
+
+    fn fetch(&mut self, alloc: Global, name: &str, limit: u64) -> Result<Vec<u8>, FetchNo> {
+        let text = if name == "t" { TREE } else { TWO };
+        if name == self.long || text.len() as u64 > limit {
+            return Err(FetchNo::TooLong);
+        }
+        Ok(text.as_bytes().to_vec(alloc)?)
+    }
+
+    fn put(&mut self, _alloc: Global, _name: &str, _bytes: &[u8]) -> Result<(), PutNo> {
+        Err(PutNo::Memory)
+    }
+
+    fn feed(&mut self, _alloc: Global, _name: &str) -> Result<SteadyFeed, FeedNo> {
+        Err(FeedNo::Memory)
+    }
+
+    fn close(&mut self, _feed: SteadyFeed) {}
+}
+
+// Where the file of this name is too long, this is told.
+fn is_too_long(
+    rt: &(impl Threads + Wait + Sync + Abort + AllocGlobal),
+    long: &'static str,
+    line: &str,
+) -> Result<(), Fail> {
+    let alloc = rt.alloc();
+    let words = words_of(alloc, &["check", "p", "t", "--plan", "s"])?;
+    let mut out = SteadySink::new(alloc);
+    let mut shelf = LongShelf { long };
+    let done = dispatch(rt, alloc, &words, &mut shelf, &mut out, &OpenGate);
+    assert_eq!(rt; out.written(), line.as_bytes(), "{line}");
+    assert_eq!(rt; done.status, 2, "{line}");
+    Ok(())
+}
+
+#[test]
+fn a_file_that_is_too_long_is_told(rt: HostRuntime) -> Result<(), Fail> {
+    for (long, line) in [
+        ("p", "problem: TooLong\n"),
+        ("t", "tree: TooLong\n"),
+        ("s", "plan: TooLong\n"),
+    ] {
+        is_too_long(&rt, long, line)?;
+    }
     Ok(())
 }
