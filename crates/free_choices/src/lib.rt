@@ -5,28 +5,13 @@
 //! picks, which is always open. So the advice carries no proof but that it ends.
 #![tactic(auto)]
 
-mod adviser;
-mod changes;
-mod clashes;
-mod course;
-mod facts;
-mod forks;
-mod holders;
-mod layers;
-mod links;
-mod meetings;
 mod open_order;
 mod open_route;
 mod open_run;
 mod open_touch;
 mod pick;
-mod seeker;
 mod span;
-mod spots;
-mod tolls;
-mod view;
-mod ways;
 
-pub use adviser::{Adviser, Strategy};
 pub use branch_rules::Pick;
+pub use choice_advice::{Adviser, Strategy};
 pub use pick::pick_free;

@@ -1,26 +1,13 @@
 ghost use Rattle.std.specs.Prelude.{◌≡◌, ◌↔◌, ◌+◌, ◌<◌, IsTrue, Some, IfSome};
 ghost use Rattle.disp_model.specs.declared.settings.Rule.TheVariants.{Free};
 ghost use Rattle.disp_model.specs.declared.decision.Choice.TheVariants.{Order};
-ghost use Rattle.disp_model.specs.Arcs.{listings_of};
 ghost use Rattle.disp_model.specs.Earliest.{IsPicked};
 ghost use Rattle.free_choices.specs.Picks.{IsListed};
 
 use crate::span::span_of;
-use disp_model::{Listing, Op, Problem};
+use choice_advice::listings_of;
+use disp_model::{Op, Problem};
 use event_graph::Graph;
-
-/// What an operation lists.
-pub(crate) fn listings_of<'a>(problem: &'a Problem, op: Op) -> &'a [Listing]
-    ensures { result.now ≡ listings_of problem.now op }
-{
-    let Some(train) = problem.trains.as_slice().get(op.train as usize) else {
-        return &[];
-    };
-    match train.as_slice().get(op.op as usize) {
-        Some(operation) => operation.listings.as_slice(),
-        None => &[],
-    }
-}
 
 /// The release time with which an operation lists a resource.
 pub(crate) fn release_at(problem: &Problem, op: Op, resource: u32) -> Option<u32>

@@ -4,12 +4,12 @@ ghost use Rattle.disp_model.specs.Nodes.{IsDead};
 ghost use Rattle.disp_model.specs.Earliest.{IsPicked};
 ghost use Rattle.free_choices.specs.Picks.{IsPickBy};
 
-use crate::adviser::{Advice, Adviser, Strategy};
 use crate::open_order::is_open_order;
 use crate::open_route::is_open_route;
 use crate::open_run::is_open_run;
 use crate::open_touch::is_open_touch;
 use branch_rules::{Pick, pick_fixed};
+use choice_advice::{Advice, Adviser, Strategy};
 use disp_model::{Choice, Memory, Op, Problem};
 use event_graph::Graph;
 use std::alloc::Global;

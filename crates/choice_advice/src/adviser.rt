@@ -8,7 +8,7 @@ use crate::forks::{Fork, Forks};
 use crate::holders::Holders;
 use crate::layers::{first_crossing, has_layers};
 use crate::links::Links;
-use crate::open_order::listings_of;
+use crate::listed::listings_of;
 use crate::seeker::Seeker;
 use crate::spots::Spots;
 use crate::view::View;
@@ -31,8 +31,8 @@ pub enum Strategy {
 }
 
 /// A choice that an adviser names, and of two operations a resource that both hold at a time.
-#[derive(Clone, Copy)]
-pub(crate) enum Advice {
+#[derive(Clone, Copy, Debug)]
+pub enum Advice {
     Route(Op),
     Order {
         a: Op,
@@ -255,7 +255,7 @@ impl Adviser {
     /// # Errors
     ///
     /// `Memory` where memory runs out.
-    pub(crate) fn advise(
+    pub fn advise(
         &mut self,
         problem: &Problem,
         graph: &Graph,

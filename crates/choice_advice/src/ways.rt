@@ -1,6 +1,6 @@
 use crate::facts::Facts;
 use crate::holders::Holder;
-use crate::open_order::listings_of;
+use crate::listed::listings_of;
 use crate::seeker::Seeker;
 use crate::spots::NEVER;
 use crate::tolls::toll;

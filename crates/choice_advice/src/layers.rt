@@ -1,7 +1,7 @@
 ghost use Rattle.std.specs.Prelude.{◌≡◌};
 
 use crate::holders::Holder;
-use crate::open_order::listings_of;
+use crate::listed::listings_of;
 use crate::spots::{NEVER, Spot, Spots};
 use crate::view::View;
 use route_sets::Routes;

@@ -1,0 +1,26 @@
+//! Which open choice shortens a search most, as advice.
+//!
+//! An `Adviser` follows a graph from node to node, keeps when each operation starts and which of
+//! those that share a resource meet, and names a choice by a `Strategy`. Nothing is proved of what
+//! it names but that it ends: whoever asks tests whether the choice is open.
+#![tactic(auto)]
+
+mod adviser;
+mod changes;
+mod clashes;
+mod course;
+mod facts;
+mod forks;
+mod holders;
+mod layers;
+mod links;
+mod listed;
+mod meetings;
+mod seeker;
+mod spots;
+mod tolls;
+mod view;
+mod ways;
+
+pub use adviser::{Advice, Adviser, Strategy};
+pub use listed::listings_of;
