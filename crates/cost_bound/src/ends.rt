@@ -24,11 +24,25 @@ fn keep(ends: &mut List<Op>, op: Op, kept: bool) -> Result<(), Memory>
     Ok(())
 }
 
-/// The operations of a walk at which it enters a train or leaves one, in their order.
+/// How many operations of a walk are ends.
+fn count_ends(walk: &[Op]) -> usize {
+    let mut count: usize = 0;
+    let mut before = None;
+    for (place, op) in walk.iter().enumerate() {
+        if is_end(before, *op, walk.get(place + 1).copied()) {
+            count = count.saturating_add(1);
+        }
+        before = Some(*op);
+    }
+    count
+}
+
+/// The operations of a walk at which it enters a train or leaves one, in their order. It takes no
+/// more memory than they need, since a search keeps many walks.
 pub(crate) fn ends_of(alloc: Global, walk: &[Op]) -> Result<List<Op>, Memory>
     ensures { IfOk result (λ ends. ends ≡ ends_of walk.now) }
 {
-    let mut ends = List::new(alloc);
+    let mut ends = List::from_vec(Vec::with_capacity(alloc, count_ends(walk))?);
     let mut before = None;
     for (place, op) in walk.iter().enumerate() {
         let next = walk.get(place + 1).copied();

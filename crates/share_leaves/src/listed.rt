@@ -48,6 +48,22 @@ fn add(
     Ok(())
 }
 
+/// How many operations are wanted that a train must run.
+fn count_wanted(graph: &Graph, train: u32, wanted: &[bool]) -> usize
+    requires { train < length graph.now.problem.trains }
+{
+    let routes = graph.routes(train);
+    let mut count: usize = 0;
+    for (op, is_wanted) in wanted.iter().enumerate() {
+        if let Ok(op) = u32::try_from(op) {
+            if *is_wanted && routes.forced(op) {
+                count = count.saturating_add(1);
+            }
+        }
+    }
+    count
+}
+
 /// Walks to the wanted ones of a train's operations that it must run, with the bases that they
 /// show: a longest length where there is a walk, a lower where an operation is not forced, else 0.
 pub(crate) fn shown_bases(
@@ -66,7 +82,7 @@ pub(crate) fn shown_bases(
 {
     let mut shown = ShownBases {
         bases: Vec::with_capacity(alloc, lengths.len())?,
-        walks: List::new(alloc),
+        walks: List::from_vec(Vec::with_capacity(alloc, count_wanted(graph, train, wanted))?),
     };
     for number in 0..lengths.len() {
         let op = Op {

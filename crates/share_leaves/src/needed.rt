@@ -1,11 +1,16 @@
-use disp_model::{List, Memory, Operation};
+use disp_model::{Component, List, Memory, Operation};
+use share_bound::cost_of;
 use std::alloc::Global;
 
-/// When operations are entered at the earliest, and which start later than that.
+/// When operations are entered at the earliest, and what is known of their starts.
 #[derive(Drop)]
 struct Entered {
+    /// When each is entered.
     times: Vec<u64>,
+    /// Which start later than they are entered.
     later: Vec<bool>,
+    /// At which something is paid.
+    paid: Vec<bool>,
 }
 
 /// Keeps the earlier of two times for each operation of a row.
@@ -17,40 +22,46 @@ fn enter(times: &mut Vec<u64>, row: &[u32], time: u64) {
     }
 }
 
-/// Notes that an operation starts later than it is entered.
-fn note(later: &mut Vec<bool>, op: usize) {
-    if let Some(mark) = later.get_mut(op) {
+/// Whether an operation is marked.
+fn is_marked(marks: &[bool], op: u32) -> bool {
+    marks.get(op as usize).copied() == Some(true)
+}
+
+/// Marks an operation.
+fn mark(marks: &mut Vec<bool>, op: u32) {
+    if let Some(mark) = marks.get_mut(op as usize) {
         *mark = true;
     }
 }
 
 /// Goes on from an operation to those of its row.
-fn go_on(entered: &mut Entered, operations: &[Operation], op: usize, row: &[u32], lengths: &[u64]) {
-    let (Some(operation), Some(length)) = (operations.get(op), lengths.get(op)) else {
+fn go_on(entered: &mut Entered, operations: &[Operation], op: u32, row: &[u32], lengths: &[u64]) {
+    let at = op as usize;
+    let (Some(operation), Some(length)) = (operations.get(at), lengths.get(at)) else {
         return;
     };
-    let Some(time) = entered.times.get(op).copied() else {
+    let Some(time) = entered.times.get(at).copied() else {
         return;
     };
     if time < *length {
-        note(&mut entered.later, op);
+        mark(&mut entered.later, op);
     }
     let left = time.max(*length).saturating_add(u64::from(operation.min));
     enter(&mut entered.times, row, left);
 }
 
-/// Which operations of a train start later than they are entered, by the lengths of its operations
-/// and rows of an order of them from the exit back. It is advice: nothing is claimed of it.
-pub(crate) fn starts_later(
+/// When the operations of a train are entered at the earliest, and which start later than that.
+fn enter_all(
     alloc: Global,
     operations: &[Operation],
     order: &[u32],
     rows: &[List<u32>],
     lengths: &[u64],
-) -> Result<Vec<bool>, Memory> {
+) -> Result<Entered, Memory> {
     let mut entered = Entered {
         times: vec![in alloc; u64::MAX; operations.len()]?,
         later: vec![in alloc; false; operations.len()]?,
+        paid: vec![in alloc; false; operations.len()]?,
     };
     if let Some(entry) = order.last() {
         enter(&mut entered.times, &[*entry], 0);
@@ -60,12 +71,57 @@ pub(crate) fn starts_later(
             go_on(
                 &mut entered,
                 operations,
-                order[place] as usize,
+                order[place],
                 row.as_slice(),
                 lengths,
             );
         }
     }
-    let Entered { later, .. } = entered;
-    Ok(later)
+    Ok(entered)
+}
+
+/// Marks the operations at which a component costs something.
+fn mark_paid(entered: &mut Entered, components: &[Component], lengths: &[u64]) {
+    for component in components {
+        let at = component.operation as usize;
+        if let (Some(time), Some(length)) = (entered.times.get(at), lengths.get(at)) {
+            if cost_of(component, *length.max(time)) > 0 {
+                mark(&mut entered.paid, component.operation);
+            }
+        }
+    }
+}
+
+/// Whether what is paid somewhere depends on when one of these is entered.
+fn depends(entered: &Entered, needed: &[bool], row: &[u32]) -> bool {
+    row.iter().any(|next| is_marked(needed, *next) && !is_marked(&entered.later, *next))
+}
+
+/// Which operations of a train decide what is paid at some operation, by the lengths of its operations
+/// and rows of an order of them from the exit back: those that start later than they are entered,
+/// and behind which none does so up to that one. It is advice: nothing is claimed of it.
+pub(crate) fn deciding(
+    alloc: Global,
+    operations: &[Operation],
+    components: &[Component],
+    order: &[u32],
+    rows: &[List<u32>],
+    lengths: &[u64],
+) -> Result<Vec<bool>, Memory> {
+    let mut entered = enter_all(alloc, operations, order, rows, lengths)?;
+    mark_paid(&mut entered, components, lengths);
+    let mut needed = vec![in alloc; false; operations.len()]?;
+    let mut wanted = vec![in alloc; false; operations.len()]?;
+    for place in 0..order.len() {
+        let op = order[place];
+        if let Some(row) = rows.get(place) {
+            if is_marked(&entered.paid, op) || depends(&entered, &needed, row.as_slice()) {
+                mark(&mut needed, op);
+                if is_marked(&entered.later, op) {
+                    mark(&mut wanted, op);
+                }
+            }
+        }
+    }
+    Ok(wanted)
 }

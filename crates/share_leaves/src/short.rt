@@ -27,7 +27,13 @@ pub fn short_bound(
     ensures bound { IfOk result (IsFreeBound graph.now) }
 {
     let Shares { listed, total } = list_trains(alloc, problem, components, graph, known)?;
-    let beside = walks_beside(alloc, problem, graph, listed.trains.as_slice())?;
+    let beside = walks_beside(
+        alloc,
+        problem,
+        graph,
+        listed.trains.as_slice(),
+        listed.beside,
+    )?;
     if listed.cost.saturating_add(beside.cost) < total {
         return free_bound(alloc, problem, components, graph);
     }

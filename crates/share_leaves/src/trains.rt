@@ -6,7 +6,7 @@ ghost use Rattle.share_leaves.specs.Listed.{AreListed};
 ghost use Rattle.share_bound.specs.Known.{HoldFor, IsCurrentShare};
 
 use crate::listed::{ShownBases, shown_bases};
-use crate::needed::starts_later;
+use crate::needed::deciding;
 use disp_model::{Component, List, Memory, Problem, TrainWalks};
 use event_graph::Graph;
 use share_bound::{KnownShare, KnownShares, OwnComponents, cost_of, share_over, train_of};
@@ -17,22 +17,33 @@ use std::alloc::Global;
 pub(crate) struct Listed {
     pub trains: List<TrainWalks>,
     pub cost: u64,
+    /// How many walks there will be to components of the others. It is advice.
+    pub beside: usize,
+}
+
+/// What the forced ones of a train's components cost together, and how many cost something.
+#[derive(Clone, Copy)]
+struct Forced {
+    cost: u64,
+    count: usize,
 }
 
 /// What the forced ones of a train's components cost at these lengths. It is advice.
-fn forced_cost(graph: &Graph, components: &[Component], train: u32, lengths: &[u64]) -> u64
+fn forced_cost(graph: &Graph, components: &[Component], train: u32, lengths: &[u64]) -> Forced
     requires { train < length graph.now.problem.trains }
 {
     let routes = graph.routes(train);
-    let mut sum: u64 = 0;
+    let mut forced = Forced { cost: 0, count: 0 };
     for component in components {
         if routes.forced(component.operation) {
             if let Some(length) = lengths.get(component.operation as usize) {
-                sum = sum.saturating_add(cost_of(component, *length));
+                let cost = cost_of(component, *length);
+                forced.cost = forced.cost.saturating_add(cost);
+                forced.count = forced.count.saturating_add(usize::from(cost > 0));
             }
         }
     }
-    sum
+    forced
 }
 
 /// Lists a train with the walks that its share needs, by the lengths of its operations.
@@ -55,8 +66,16 @@ fn show(
 {
     let operations = train_of(problem, train);
     let routes = graph.routes(train);
-    let later = starts_later(alloc, operations, routes.order(), routes.rows(), lengths)?;
-    let ShownBases { bases, walks } = shown_bases(alloc, graph, train, lengths, &later)?;
+    let own = components.of_train(train);
+    let wanted = deciding(
+        alloc,
+        operations,
+        own,
+        routes.order(),
+        routes.rows(),
+        lengths,
+    )?;
+    let ShownBases { bases, walks } = shown_bases(alloc, graph, train, lengths, &wanted)?;
     let share = share_over(alloc, problem, components, graph, train, &bases)?;
     listed.trains.push(TrainWalks { train, walks })?;
     listed.cost = listed.cost.saturating_add(share);
@@ -83,7 +102,9 @@ fn list(
 {
     let lengths = known.bases.as_slice();
     let share = known.share;
-    if share <= forced_cost(graph, components.of_train(train), train, lengths) {
+    let forced = forced_cost(graph, components.of_train(train), train, lengths);
+    if share <= forced.cost {
+        listed.beside = listed.beside.saturating_add(forced.count);
         return Ok(share);
     }
     show(alloc, problem, components, graph, train, lengths, listed)?;
@@ -118,6 +139,7 @@ pub(crate) fn list_trains(
     let mut listed = Listed {
         trains: List::new(alloc),
         cost: 0,
+        beside: 0,
     };
     let mut total = 0;
     for train in 0..problem.trains.len() {

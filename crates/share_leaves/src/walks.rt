@@ -63,19 +63,21 @@ fn add(
     Ok(())
 }
 
-/// Walks to the forced components that cost something, of trains that are not listed.
+/// Walks to the forced components that cost something, of trains that are not listed. There is room
+/// for so many.
 pub(crate) fn walks_beside(
     alloc: Global,
     problem: &Problem,
     graph: &Graph,
     trains: &[TrainWalks],
+    room: usize,
 ) -> Result<Walks, Memory>
     requires { graph.now.problem ≡ problem.now }
     ensures { IfOk result
         (AreWalksBeside graph.now trains.now (length problem.now.components)) }
 {
     let mut walks = Walks {
-        walks: List::new(alloc),
+        walks: List::from_vec(Vec::with_capacity(alloc, room)?),
         cost: 0,
     };
     for (place, component) in problem.components.as_slice().iter().enumerate() {

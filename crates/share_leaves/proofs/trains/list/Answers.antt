@@ -3,8 +3,8 @@ use Rattle.disp_model.specs.Valid.{train_at}
 use Rattle.share_bound.proofs.Sharing.{share_of_bases}
 use Rattle.share_leaves.proofs.trains.list.Goals as goal
 
-pub returns-then-share-forced_cost-clause-share : goal.returns-then-share-forced_cost-clause-share
-returns-then-share-forced_cost-clause-share c =
+pub returns-then-share-forced-clause-share : goal.returns-then-share-forced-clause-share
+returns-then-share-forced-clause-share c =
     let node = c.args.graph.now in
     let t = c.args.train in
     let known = c.args.known.now in
