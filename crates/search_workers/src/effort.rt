@@ -12,6 +12,13 @@ pub const FOR_BOUND: u32 = 16;
 /// For each node that is grown to raise the bound so many are grown to find a plan.
 const PLAN_NODES: u64 = 3;
 
+/// Leaves that are deep and leaves of the least bound stand far from each other, so a searcher stays
+/// with the one kind for a while: of the nodes that find plans it grows a part beforehand,
+const PART_AHEAD: u64 = 4;
+
+/// and so many at most.
+const MOST_AHEAD: u64 = 1024;
+
 /// What a searcher has done: how many nodes it grew to find a plan, and how many to raise the bound.
 /// It says how many branches to ask for next. Nothing rests on it.
 #[derive(Drop)]
@@ -19,6 +26,8 @@ pub struct Effort {
     for_plan: u32,
     plan: u64,
     bound: u64,
+    /// Whether the bound is to be raised next.
+    raises: bool,
 }
 
 /// How many nodes came of a work.
@@ -36,12 +45,13 @@ impl Effort {
             for_plan,
             plan: 0,
             bound: 0,
+            raises: false,
         }
     }
 
     /// How many branches to ask for next.
     pub fn want(&self) -> u32 {
-        if self.plan > self.bound.saturating_mul(PLAN_NODES) {
+        if self.raises {
             FOR_BOUND
         } else {
             self.for_plan
@@ -56,5 +66,17 @@ impl Effort {
         } else {
             self.plan = self.plan.saturating_add(size);
         }
+        self.raises = self.plan > self.plan_nodes();
+    }
+
+    /// How many nodes may be grown to find a plan: until the bound is raised next, or again once it
+    /// is.
+    fn plan_nodes(&self) -> u64 {
+        let due = self.bound.saturating_mul(PLAN_NODES);
+        if self.raises {
+            return due;
+        }
+        let ahead = (self.plan / PART_AHEAD).min(MOST_AHEAD);
+        due.saturating_add(ahead)
     }
 }
