@@ -75,12 +75,20 @@ fn holds(
     ensures { IfOk result (λ holds. (place : Place) → slice_get nodes.now.places number ≡ Some place
         → (IsTrue holds ↔ (DoesNotHold problem.now fixings.now nodes.now number place → ⊥))) }
 {
-    let (Some(leaf), Some(bound)) = (nodes.leaf(number), nodes.kept_bound(number)) else {
+    let leaf = nodes.leaf(alloc, number)?;
+    let (Some(leaf), Some(bound)) = (leaf, nodes.kept_bound(number)) else {
         return Ok(true);
     };
     let decisions = nodes.decisions(alloc, number)?;
     let verdict = Verdict::Optimal(bound);
-    check_leaf(alloc, problem, fixings, decisions.as_slice(), verdict, leaf)
+    check_leaf(
+        alloc,
+        problem,
+        fixings,
+        decisions.as_slice(),
+        verdict,
+        &leaf,
+    )
 }
 
 /// Adds a number, but where the leaf holds.

@@ -5,6 +5,7 @@ ghost use Rattle.open_nodes.specs.Grafts.{kind_of, leaf_at, children_at, new_pla
 use crate::child::child;
 use crate::place::{Above, Kind, Place};
 use disp_model::{Choice, Decision, Leaf, List, Memory, Problem, Split, TreeNode};
+use packed_nodes::PackedNode;
 use std::alloc::Global;
 
 /// Whether a leaf is known dead.
@@ -278,7 +279,7 @@ pub fn graft(
 /// Where memory runs out nothing has changed, and the nodes are given back.
 pub fn put(
     places: &mut Vec<Place>,
-    kept: &mut Vec<TreeNode>,
+    kept: &mut Vec<PackedNode>,
     number: usize,
     grown: &[Place],
     subtree: List<TreeNode>,
@@ -309,15 +310,29 @@ pub fn put(
     }
 }
 
+/// Nodes as they are kept.
+fn packed(alloc: Global, nodes: &[TreeNode]) -> Result<Vec<PackedNode>, Memory>
+    ensures { IfOk result (λ packed. packed.items ≡ nodes.now) }
+{
+    let mut packed = Vec::with_capacity(alloc, nodes.len())?;
+    for node in nodes {
+        packed.push(PackedNode::of(alloc, node)?)?;
+    }
+    Ok(packed)
+}
+
 /// Keeps nodes, or gives them back where memory runs out.
-fn keep(kept: &mut Vec<TreeNode>, subtree: List<TreeNode>) -> Result<(), List<TreeNode>>
+fn keep(kept: &mut Vec<PackedNode>, subtree: List<TreeNode>) -> Result<(), List<TreeNode>>
     ensures kept { OnOk result (kept.new.items ≡ kept.old.items ++ subtree) }
     ensures back { IfErr result (λ nodes. nodes ≡ subtree) }
     ensures same { OnErr result (kept.new.items ≡ kept.old.items) }
 {
-    let mut nodes = subtree.into_vec();
-    match kept.append(&mut nodes) {
+    let alloc = *kept.allocator();
+    let Ok(mut packed) = packed(alloc, subtree.as_slice()) else {
+        return Err(subtree);
+    };
+    match kept.append(&mut packed) {
         Ok(()) => Ok(()),
-        Err(_) => Err(List::from_vec(nodes)),
+        Err(_) => Err(subtree),
     }
 }

@@ -15,6 +15,7 @@ use crate::shown::{all_shown, index_of, leaf_at};
 use crate::walk::first_sought;
 use crate::work::{Fragment, GiveBack, Growth, Take, Work};
 use disp_model::{Decision, Leaf, List, Memory, Problem, Tree, TreeNode};
+use packed_nodes::PackedNode;
 use std::alloc::Global;
 use std::marker::Model;
 
@@ -22,7 +23,7 @@ use std::marker::Model;
 #[derive(Drop)]
 pub struct Nodes {
     places: Vec<Place>,
-    kept: Vec<TreeNode>,
+    kept: Vec<PackedNode>,
     ready: Ready,
     edition: u32,
     allowed: u64,
@@ -58,8 +59,9 @@ impl Nodes {
             out: None,
             examined: None,
         })?;
+        let first = TreeNode::Leaf(Leaf::Costs(List::new(alloc)));
         let mut kept = Vec::new(alloc);
-        kept.push(TreeNode::Leaf(Leaf::Costs(List::new(alloc))))?;
+        kept.push(PackedNode::of(alloc, &first)?)?;
         Ok(Nodes {
             places,
             kept,
@@ -116,12 +118,17 @@ impl Nodes {
     }
 
     /// What is kept for the leaf of a number, none where no leaf has it.
-    pub fn leaf(&self, node: u128) -> Option<&Leaf>
-        ensures { MatchOption result (leaf_of self.now node ≡ None)
-            (λ leaf. leaf_of self.now node ≡ Some leaf.now) }
+    ///
+    /// # Errors
+    ///
+    /// `Memory` where memory runs out.
+    pub fn leaf(&self, alloc: Global, node: u128) -> Result<Option<Leaf>, Memory>
+        ensures { IfOk result (λ leaf. leaf ≡ leaf_of self.now node) }
     {
-        let number = index_of(node, self.places.len())?;
-        leaf_at(&self.places, &self.kept, number)
+        let Some(number) = index_of(node, self.places.len()) else {
+            return Ok(None);
+        };
+        leaf_at(alloc, &self.places, &self.kept, number)
     }
 
     /// How many numbers places have so far: each below it is one's.

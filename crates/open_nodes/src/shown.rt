@@ -3,7 +3,8 @@ ghost use Rattle.open_nodes.specs.Preorder.{next_at, preorder};
 ghost use Rattle.open_nodes.specs.Shown.{shown_at, all_shown, leaf_in};
 
 use crate::place::Place;
-use disp_model::{Copied, Leaf, List, Memory, TreeNode};
+use disp_model::{Leaf, List, Memory, TreeNode};
+use packed_nodes::PackedNode;
 use std::alloc::Global;
 
 /// The index of a node's number, if it is one of so many.
@@ -18,7 +19,7 @@ pub fn index_of(node: u128, count: usize) -> Option<usize>
 }
 
 /// The node that the place of a number shows.
-fn shown_at<'a>(places: &[Place], kept: &'a [TreeNode], number: usize) -> Option<&'a TreeNode>
+fn shown_at<'a>(places: &[Place], kept: &'a [PackedNode], number: usize) -> Option<&'a PackedNode>
     ensures { MatchOption result (shown_at places.now kept.now number ≡ None)
         (λ node. shown_at places.now kept.now number ≡ Some node.now) }
 {
@@ -26,15 +27,21 @@ fn shown_at<'a>(places: &[Place], kept: &'a [TreeNode], number: usize) -> Option
     kept.get(place.shows)
 }
 
-/// What is kept for the leaf of a number.
-pub fn leaf_at<'a>(places: &[Place], kept: &'a [TreeNode], number: usize) -> Option<&'a Leaf>
-    ensures { MatchOption result (leaf_in (shown_at places.now kept.now number) ≡ None)
-        (λ leaf. leaf_in (shown_at places.now kept.now number) ≡ Some leaf.now) }
+/// What is kept for the leaf of a number, none where it is no leaf's.
+pub fn leaf_at(
+    alloc: Global,
+    places: &[Place],
+    kept: &[PackedNode],
+    number: usize,
+) -> Result<Option<Leaf>, Memory>
+    ensures { IfOk result (λ leaf. leaf ≡ leaf_in (shown_at places.now kept.now number)) }
 {
-    match shown_at(places, kept, number) {
-        Some(TreeNode::Leaf(leaf)) => Some(leaf),
-        Some(TreeNode::Branch { .. }) => None,
-        None => None,
+    let Some(packed) = shown_at(places, kept, number) else {
+        return Ok(None);
+    };
+    match packed.node(alloc)? {
+        TreeNode::Leaf(leaf) => Ok(Some(leaf)),
+        TreeNode::Branch { .. } => Ok(None),
     }
 }
 
@@ -47,16 +54,17 @@ fn next_at(places: &[Place], number: usize) -> Option<usize>
 
 /// Adds a copy of the node that the place of a number shows.
 fn show(
+    alloc: Global,
     tree: &mut List<TreeNode>,
     places: &[Place],
-    kept: &[TreeNode],
+    kept: &[PackedNode],
     number: usize,
 ) -> Result<(), Memory>
     ensures { OnOk result (tree.new
         ≡ tree.old ++ option_to_list (shown_at places.now kept.now number)) }
 {
     match shown_at(places, kept, number) {
-        Some(node) => tree.push(node.copy()?),
+        Some(packed) => tree.push(packed.node(alloc)?),
         None => Ok(()),
     }
 }
@@ -65,7 +73,7 @@ fn show(
 pub fn all_shown(
     alloc: Global,
     places: &[Place],
-    kept: &[TreeNode],
+    kept: &[PackedNode],
 ) -> Result<List<TreeNode>, Memory>
     ensures { IfOk result (λ tree. tree ≡ all_shown places.now kept.now (preorder places.now)) }
 {
@@ -75,7 +83,7 @@ pub fn all_shown(
         let Some(number) = at else {
             return Ok(tree);
         };
-        show(&mut tree, places, kept, number)?;
+        show(alloc, &mut tree, places, kept, number)?;
         at = next_at(places, number);
     }
     Ok(tree)

@@ -74,14 +74,16 @@ fn grow_one(alloc: Global, nodes: &mut Nodes) -> Result<bool, Memory> {
 }
 
 /// Whether the two new leaves are found by their bounds.
-fn are_found(nodes: &Nodes) -> bool {
-    nodes.allowed() == 0
-        && nodes.bound() == Some(18)
-        && nodes.wanted(Some(18)).is_none()
-        && nodes.wanted(Some(20)) == Some((2, 18))
-        && nodes.wanted(None) == Some((1, 24))
-        && nodes.leaf(0).is_none()
-        && nodes.leaf(2).is_some()
+fn are_found(alloc: Global, nodes: &Nodes) -> Result<bool, Memory> {
+    Ok(
+        nodes.allowed() == 0
+            && nodes.bound() == Some(18)
+            && nodes.wanted(Some(18)).is_none()
+            && nodes.wanted(Some(20)) == Some((2, 18))
+            && nodes.wanted(None) == Some((1, 24))
+            && nodes.leaf(alloc, 0)?.is_none()
+            && nodes.leaf(alloc, 2)?.is_some(),
+    )
 }
 
 #[test]
@@ -90,7 +92,7 @@ fn a_branch_has_two_leaves(rt: HostRuntime) -> Result<(), Fail> {
     let mut nodes = Nodes::new(alloc)?;
     let has_grown = grow_one(alloc, &mut nodes)?;
     assert!(rt; has_grown);
-    assert!(rt; are_found(&nodes));
+    assert!(rt; are_found(alloc, &nodes)?);
     let ripe = take_one(alloc, &mut nodes, Some(18))?;
     assert!(rt; matches!(ripe, Take::Ripe));
     nodes.reset(1);

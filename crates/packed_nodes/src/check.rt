@@ -1,0 +1,156 @@
+ghost use Rattle.std.specs.Prelude.{◌≡◌, IfSome, Some, length};
+ghost use Rattle.packed_nodes.specs.Packed.{number_at, op_at, items_at, walk_at, component_walk_at, component_walks_at, walks_at, train_at, trains_at, leaf_at};
+
+use crate::read::{COSTS, CYCLE, LATE, SHARES, number_at};
+use disp_model::{ComponentWalk, Leaf, List, Op, TrainWalks};
+
+/// The bytes behind a number, where they begin with it.
+fn behind_number(bytes: &[u8], number: u32) -> Option<&[u8]>
+    ensures { IfSome result (λ rest. number_at bytes.now ≡ Some (number, rest.now)) }
+{
+    match number_at(bytes) {
+        Ok((found, rest)) => { if found == number { Some(rest) } else { None } }
+        Err(_) => None,
+    }
+}
+
+/// The bytes behind how many there are of something, where they begin with that.
+fn behind_count(bytes: &[u8], count: usize) -> Option<&[u8]>
+    ensures { IfSome result (λ rest. number_at bytes.now ≡ Some (count, rest.now)) }
+{
+    match u32::try_from(count) {
+        Ok(count) => behind_number(bytes, count),
+        Err(_) => None,
+    }
+}
+
+/// The bytes behind an operation.
+#[tactic(auto, unfolding(crate::specs::Packed::op_at))]
+fn behind_op(bytes: &[u8], op: Op) -> Option<&[u8]>
+    ensures { IfSome result (λ rest. op_at bytes.now ≡ Some (op, rest.now)) }
+{
+    let rest = behind_number(bytes, op.train)?;
+    behind_number(rest, op.op)
+}
+
+/// The bytes behind operations.
+fn behind_ops<'a>(bytes: &'a [u8], ops: &[Op]) -> Option<&'a [u8]>
+    ensures { IfSome result (λ rest. items_at op_at (length ops.now) bytes.now
+        ≡ Some (ops.now, rest.now)) }
+{
+    let mut rest = bytes;
+    for op in ops {
+        rest = behind_op(rest, *op)?;
+    }
+    Some(rest)
+}
+
+/// The bytes behind operations and how many there are.
+#[tactic(auto, unfolding(crate::specs::Packed::walk_at))]
+fn behind_walk<'a>(bytes: &'a [u8], walk: &[Op]) -> Option<&'a [u8]>
+    ensures { IfSome result (λ rest. walk_at bytes.now ≡ Some (walk.now, rest.now)) }
+{
+    let rest = behind_count(bytes, walk.len())?;
+    behind_ops(rest, walk)
+}
+
+/// The bytes behind a walk to a component.
+#[tactic(auto, unfolding(crate::specs::Packed::component_walk_at))]
+fn behind_component_walk<'a>(bytes: &'a [u8], walk: &ComponentWalk) -> Option<&'a [u8]>
+    ensures { IfSome result (λ rest. component_walk_at bytes.now ≡ Some (walk.now, rest.now)) }
+{
+    let rest = behind_number(bytes, walk.component)?;
+    behind_walk(rest, walk.walk.as_slice())
+}
+
+/// The bytes behind walks to components.
+fn behind_each_component_walk<'a>(bytes: &'a [u8], walks: &[ComponentWalk]) -> Option<&'a [u8]>
+    ensures { IfSome result (λ rest. items_at component_walk_at (length walks.now) bytes.now
+        ≡ Some (walks.now, rest.now)) }
+{
+    let mut rest = bytes;
+    for walk in walks {
+        rest = behind_component_walk(rest, walk)?;
+    }
+    Some(rest)
+}
+
+/// The bytes behind walks to components and how many there are.
+#[tactic(auto, unfolding(crate::specs::Packed::component_walks_at))]
+fn behind_component_walks<'a>(bytes: &'a [u8], walks: &[ComponentWalk]) -> Option<&'a [u8]>
+    ensures { IfSome result (λ rest. component_walks_at bytes.now ≡ Some (walks.now, rest.now)) }
+{
+    let rest = behind_count(bytes, walks.len())?;
+    behind_each_component_walk(rest, walks)
+}
+
+/// The bytes behind the walks of a train.
+fn behind_each_walk<'a>(bytes: &'a [u8], walks: &[List<Op>]) -> Option<&'a [u8]>
+    ensures { IfSome result (λ rest. items_at walk_at (length walks.now) bytes.now
+        ≡ Some (walks.now, rest.now)) }
+{
+    let mut rest = bytes;
+    for walk in walks {
+        rest = behind_walk(rest, walk.as_slice())?;
+    }
+    Some(rest)
+}
+
+/// The bytes behind the walks of a train and how many there are.
+#[tactic(auto, unfolding(crate::specs::Packed::walks_at))]
+fn behind_walks<'a>(bytes: &'a [u8], walks: &[List<Op>]) -> Option<&'a [u8]>
+    ensures { IfSome result (λ rest. walks_at bytes.now ≡ Some (walks.now, rest.now)) }
+{
+    let rest = behind_count(bytes, walks.len())?;
+    behind_each_walk(rest, walks)
+}
+
+/// The bytes behind a train and its walks.
+#[tactic(auto, unfolding(crate::specs::Packed::train_at))]
+fn behind_train<'a>(bytes: &'a [u8], listed: &TrainWalks) -> Option<&'a [u8]>
+    ensures { IfSome result (λ rest. train_at bytes.now ≡ Some (listed.now, rest.now)) }
+{
+    let rest = behind_number(bytes, listed.train)?;
+    behind_walks(rest, listed.walks.as_slice())
+}
+
+/// The bytes behind trains.
+fn behind_each_train<'a>(bytes: &'a [u8], trains: &[TrainWalks]) -> Option<&'a [u8]>
+    ensures { IfSome result (λ rest. items_at train_at (length trains.now) bytes.now
+        ≡ Some (trains.now, rest.now)) }
+{
+    let mut rest = bytes;
+    for listed in trains {
+        rest = behind_train(rest, listed)?;
+    }
+    Some(rest)
+}
+
+/// The bytes behind trains and how many there are.
+#[tactic(auto, unfolding(crate::specs::Packed::trains_at))]
+fn behind_trains<'a>(bytes: &'a [u8], trains: &[TrainWalks]) -> Option<&'a [u8]>
+    ensures { IfSome result (λ rest. trains_at bytes.now ≡ Some (trains.now, rest.now)) }
+{
+    let rest = behind_count(bytes, trains.len())?;
+    behind_each_train(rest, trains)
+}
+
+/// The bytes behind a leaf, where they say it.
+#[tactic(auto, unfolding(crate::specs::Packed::leaf_at, crate::specs::Packed::leaf_by, crate::specs::Packed::cycle_at, crate::specs::Packed::late_at, crate::specs::Packed::costs_at, crate::specs::Packed::shares_at))]
+pub(crate) fn behind_leaf<'a>(bytes: &'a [u8], leaf: &Leaf) -> Option<&'a [u8]>
+    ensures { IfSome result (λ rest. leaf_at bytes.now ≡ Some (leaf.now, rest.now)) }
+{
+    match leaf {
+        Leaf::NoRoute => None,
+        Leaf::Cycle(ops) => behind_walk(behind_number(bytes, CYCLE)?, ops.as_slice()),
+        Leaf::Late(walk) => behind_walk(behind_number(bytes, LATE)?, walk.as_slice()),
+        Leaf::Costs(walks) => {
+            behind_component_walks(behind_number(bytes, COSTS)?, walks.as_slice())
+        }
+        Leaf::Shares { walks, trains } => {
+            let rest = behind_number(bytes, SHARES)?;
+            let rest = behind_component_walks(rest, walks.as_slice())?;
+            behind_trains(rest, trains.as_slice())
+        }
+    }
+}

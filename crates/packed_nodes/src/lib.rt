@@ -1,0 +1,14 @@
+//! Nodes of a tree in few bytes, for a search that keeps very many.
+//!
+//! `PackedNode` is seen as the node that it was made of, and gives that node again. A leaf with
+//! walks is kept as bytes where its numbers are small. What bytes say is stated in `specs/`; what
+//! was written is compared with the leaf before it is kept, so nothing is claimed of the writer.
+#![tactic(auto)]
+
+mod check;
+mod node;
+mod read;
+mod unread;
+mod write;
+
+pub use node::PackedNode;

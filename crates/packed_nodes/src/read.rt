@@ -1,0 +1,243 @@
+ghost use Rattle.packed_nodes.specs.Reading.{Gives};
+ghost use Rattle.packed_nodes.specs.Packed.{long_at, number_at, op_at, items_at, walk_at, component_walk_at, component_walks_at, walks_at, train_at, trains_at, cycle_at, late_at, costs_at, shares_at, leaf_by, leaf_at};
+
+use crate::unread::Unread;
+use disp_model::{ComponentWalk, Leaf, List, Op, TrainWalks};
+use std::alloc::Global;
+
+/// The byte behind which a number has two.
+pub(crate) const LONG: u8 = 255;
+
+/// The number of a leaf that lists a cycle.
+pub(crate) const CYCLE: u32 = 1;
+
+/// The number of a leaf that lists a walk to a late operation.
+pub(crate) const LATE: u32 = 2;
+
+/// The number of a leaf that lists walks to components alone.
+pub(crate) const COSTS: u32 = 3;
+
+/// The number of a leaf that lists trains too. So does one of any other number.
+pub(crate) const SHARES: u32 = 4;
+
+/// A number of two bytes.
+#[tactic(auto, unfolding(crate::specs::Packed::long_at))]
+fn long_at(bytes: &[u8]) -> Result<(u32, &[u8]), Unread>
+    ensures { Gives (λ x. (x.0, x.1.now)) result (long_at bytes.now) }
+{
+    match bytes {
+        [] => Err(Unread::Nothing),
+        [_] => Err(Unread::Nothing),
+        [low, high, rest @ ..] => Ok((u32::from(*low) + u32::from(*high) * 256, rest)),
+    }
+}
+
+/// A number.
+#[tactic(auto, unfolding(crate::specs::Packed::number_at))]
+pub(crate) fn number_at(bytes: &[u8]) -> Result<(u32, &[u8]), Unread>
+    ensures { Gives (λ x. (x.0, x.1.now)) result (number_at bytes.now) }
+{
+    match bytes {
+        [] => Err(Unread::Nothing),
+        [byte, rest @ ..] => {
+            if *byte == LONG {
+                return long_at(rest);
+            }
+            Ok((u32::from(*byte), rest))
+        }
+    }
+}
+
+/// An operation.
+#[tactic(auto, unfolding(crate::specs::Packed::op_at))]
+fn op_at(bytes: &[u8]) -> Result<(Op, &[u8]), Unread>
+    ensures { Gives (λ x. (x.0, x.1.now)) result (op_at bytes.now) }
+{
+    let (train, rest) = number_at(bytes)?;
+    let (op, rest) = number_at(rest)?;
+    Ok((Op { train, op }, rest))
+}
+
+/// So many operations.
+fn ops_at(alloc: Global, count: u32, bytes: &[u8]) -> Result<(Vec<Op>, &[u8]), Unread>
+    ensures { Gives (λ x. (x.0.items, x.1.now)) result (items_at op_at count bytes.now) }
+{
+    let mut ops = Vec::new(alloc);
+    let mut rest = bytes;
+    for _ in 0..count {
+        let (op, after) = op_at(rest)?;
+        ops.push(op)?;
+        rest = after;
+    }
+    Ok((ops, rest))
+}
+
+/// Operations, behind how many there are.
+#[tactic(auto, unfolding(crate::specs::Packed::walk_at))]
+fn walk_at(alloc: Global, bytes: &[u8]) -> Result<(List<Op>, &[u8]), Unread>
+    ensures { Gives (λ x. (x.0, x.1.now)) result (walk_at bytes.now) }
+{
+    let (count, rest) = number_at(bytes)?;
+    let (ops, rest) = ops_at(alloc, count, rest)?;
+    Ok((List::from_vec(ops), rest))
+}
+
+/// A walk to a component.
+#[tactic(auto, unfolding(crate::specs::Packed::component_walk_at))]
+fn component_walk_at(alloc: Global, bytes: &[u8]) -> Result<(ComponentWalk, &[u8]), Unread>
+    ensures { Gives (λ x. (x.0, x.1.now)) result (component_walk_at bytes.now) }
+{
+    let (component, rest) = number_at(bytes)?;
+    let (walk, rest) = walk_at(alloc, rest)?;
+    Ok((ComponentWalk { component, walk }, rest))
+}
+
+/// So many walks to components.
+fn component_walks_in(
+    alloc: Global,
+    count: u32,
+    bytes: &[u8],
+) -> Result<(Vec<ComponentWalk>, &[u8]), Unread>
+    ensures { Gives (λ x. (x.0.items, x.1.now)) result
+        (items_at component_walk_at count bytes.now) }
+{
+    let mut walks = Vec::new(alloc);
+    let mut rest = bytes;
+    for _ in 0..count {
+        let (walk, after) = component_walk_at(alloc, rest)?;
+        walks.push(walk)?;
+        rest = after;
+    }
+    Ok((walks, rest))
+}
+
+/// Walks to components, behind how many there are.
+#[tactic(auto, unfolding(crate::specs::Packed::component_walks_at))]
+fn component_walks_at(alloc: Global, bytes: &[u8]) -> Result<(List<ComponentWalk>, &[u8]), Unread>
+    ensures { Gives (λ x. (x.0, x.1.now)) result (component_walks_at bytes.now) }
+{
+    let (count, rest) = number_at(bytes)?;
+    let (walks, rest) = component_walks_in(alloc, count, rest)?;
+    Ok((List::from_vec(walks), rest))
+}
+
+/// So many walks of a train's.
+fn walks_in(alloc: Global, count: u32, bytes: &[u8]) -> Result<(Vec<List<Op>>, &[u8]), Unread>
+    ensures { Gives (λ x. (x.0.items, x.1.now)) result (items_at walk_at count bytes.now) }
+{
+    let mut walks = Vec::new(alloc);
+    let mut rest = bytes;
+    for _ in 0..count {
+        let (walk, after) = walk_at(alloc, rest)?;
+        walks.push(walk)?;
+        rest = after;
+    }
+    Ok((walks, rest))
+}
+
+/// The walks of a train, behind how many there are.
+#[tactic(auto, unfolding(crate::specs::Packed::walks_at))]
+fn walks_at(alloc: Global, bytes: &[u8]) -> Result<(List<List<Op>>, &[u8]), Unread>
+    ensures { Gives (λ x. (x.0, x.1.now)) result (walks_at bytes.now) }
+{
+    let (count, rest) = number_at(bytes)?;
+    let (walks, rest) = walks_in(alloc, count, rest)?;
+    Ok((List::from_vec(walks), rest))
+}
+
+/// A train and its walks.
+#[tactic(auto, unfolding(crate::specs::Packed::train_at))]
+fn train_at(alloc: Global, bytes: &[u8]) -> Result<(TrainWalks, &[u8]), Unread>
+    ensures { Gives (λ x. (x.0, x.1.now)) result (train_at bytes.now) }
+{
+    let (train, rest) = number_at(bytes)?;
+    let (walks, rest) = walks_at(alloc, rest)?;
+    Ok((TrainWalks { train, walks }, rest))
+}
+
+/// So many trains.
+fn trains_in(alloc: Global, count: u32, bytes: &[u8]) -> Result<(Vec<TrainWalks>, &[u8]), Unread>
+    ensures { Gives (λ x. (x.0.items, x.1.now)) result (items_at train_at count bytes.now) }
+{
+    let mut trains = Vec::new(alloc);
+    let mut rest = bytes;
+    for _ in 0..count {
+        let (listed, after) = train_at(alloc, rest)?;
+        trains.push(listed)?;
+        rest = after;
+    }
+    Ok((trains, rest))
+}
+
+/// Trains and their walks, behind how many there are.
+#[tactic(auto, unfolding(crate::specs::Packed::trains_at))]
+fn trains_at(alloc: Global, bytes: &[u8]) -> Result<(List<TrainWalks>, &[u8]), Unread>
+    ensures { Gives (λ x. (x.0, x.1.now)) result (trains_at bytes.now) }
+{
+    let (count, rest) = number_at(bytes)?;
+    let (trains, rest) = trains_in(alloc, count, rest)?;
+    Ok((List::from_vec(trains), rest))
+}
+
+/// A leaf that lists a cycle.
+#[tactic(auto, unfolding(crate::specs::Packed::cycle_at))]
+fn cycle_at(alloc: Global, bytes: &[u8]) -> Result<(Leaf, &[u8]), Unread>
+    ensures { Gives (λ x. (x.0, x.1.now)) result (cycle_at bytes.now) }
+{
+    let (ops, rest) = walk_at(alloc, bytes)?;
+    Ok((Leaf::Cycle(ops), rest))
+}
+
+/// A leaf that lists a late walk.
+#[tactic(auto, unfolding(crate::specs::Packed::late_at))]
+fn late_at(alloc: Global, bytes: &[u8]) -> Result<(Leaf, &[u8]), Unread>
+    ensures { Gives (λ x. (x.0, x.1.now)) result (late_at bytes.now) }
+{
+    let (walk, rest) = walk_at(alloc, bytes)?;
+    Ok((Leaf::Late(walk), rest))
+}
+
+/// A leaf that lists walks to components.
+#[tactic(auto, unfolding(crate::specs::Packed::costs_at))]
+fn costs_at(alloc: Global, bytes: &[u8]) -> Result<(Leaf, &[u8]), Unread>
+    ensures { Gives (λ x. (x.0, x.1.now)) result (costs_at bytes.now) }
+{
+    let (walks, rest) = component_walks_at(alloc, bytes)?;
+    Ok((Leaf::Costs(walks), rest))
+}
+
+/// A leaf that lists walks to components, and trains.
+#[tactic(auto, unfolding(crate::specs::Packed::shares_at))]
+fn shares_at(alloc: Global, bytes: &[u8]) -> Result<(Leaf, &[u8]), Unread>
+    ensures { Gives (λ x. (x.0, x.1.now)) result (shares_at bytes.now) }
+{
+    let (walks, rest) = component_walks_at(alloc, bytes)?;
+    let (trains, rest) = trains_at(alloc, rest)?;
+    Ok((Leaf::Shares { walks, trains }, rest))
+}
+
+/// A leaf by the number of its kind.
+#[tactic(auto, unfolding(crate::specs::Packed::leaf_by))]
+fn leaf_by(alloc: Global, kind: u32, bytes: &[u8]) -> Result<(Leaf, &[u8]), Unread>
+    ensures { Gives (λ x. (x.0, x.1.now)) result (leaf_by kind bytes.now) }
+{
+    if kind == CYCLE {
+        return cycle_at(alloc, bytes);
+    }
+    if kind == LATE {
+        return late_at(alloc, bytes);
+    }
+    if kind == COSTS {
+        return costs_at(alloc, bytes);
+    }
+    shares_at(alloc, bytes)
+}
+
+/// A leaf.
+#[tactic(auto, unfolding(crate::specs::Packed::leaf_at))]
+pub(crate) fn leaf_at(alloc: Global, bytes: &[u8]) -> Result<(Leaf, &[u8]), Unread>
+    ensures { Gives (λ x. (x.0, x.1.now)) result (leaf_at bytes.now) }
+{
+    let (kind, rest) = number_at(bytes)?;
+    leaf_by(alloc, kind, rest)
+}
