@@ -97,9 +97,9 @@ fn depends(entered: &Entered, needed: &[bool], row: &[u32]) -> bool {
     row.iter().any(|next| is_marked(needed, *next) && !is_marked(&entered.later, *next))
 }
 
-/// Which operations of a train decide what is paid at some operation, by the lengths of its operations
-/// and rows of an order of them from the exit back: those that start later than they are entered,
-/// and behind which none does so up to that one. It is advice: nothing is claimed of it.
+/// Which operations of a train decide what is paid at some operation, by their lengths and rows of
+/// an order of them from the exit back: those that start later than they are entered, and behind
+/// which none does so up to that one. It is advice: nothing is claimed of it.
 pub(crate) fn deciding(
     alloc: Global,
     operations: &[Operation],
