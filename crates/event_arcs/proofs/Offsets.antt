@@ -17,6 +17,7 @@ use Rattle.disp_laws.proofs.Numbered.{below_count}
 use Rattle.train_orders.proofs.Places.{get_push_cases}
 use Rattle.route_sets.specs.declared.routes.Routes.{Routes}
 use Rattle.route_sets.specs.Sets.{op_of, AreRoutesOf}
+use Rattle.train_orders.specs.Orders.{IsOrder}
 use Rattle.event_arcs.specs.declared.owns.Own.{Own}
 use Rattle.event_arcs.specs.declared.placed.Placed.{Placed}
 use Rattle.event_arcs.specs.Owned.{own_at, AreByTrain}
@@ -27,6 +28,10 @@ use Rattle.event_arcs.proofs.Owning.{own_routes}
 
 pub placed_at : (node : Node) (each : List Placed) (t : ℕ) (placed : Placed) → ArePlaced node each → t < length each → placed ≡ get_or each t placed → IsPlaced node t placed
 placed_at node each t placed are lt is = are.at t placed (slice_get_read each (length each) t placed refl lt is)
+
+-- the order that is kept with the routes is one of the train
+pub kept_order : (node : Node) (t : ℕ) (placed : Placed) → IsPlaced node t placed → IsOrder (train_at node.problem t) placed.routes.order.items
+kept_order node t placed is = is.are_routes.is_order (is.are_routes.left.1 is.has_route)
 
 pub first_small : (node : Node) (t : ℕ) (placed : Placed) → t < length node.problem.trains → IsPlaced node t placed → placed.first < 2 ^ 31
 first_small node t placed there is =

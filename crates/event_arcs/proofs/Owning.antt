@@ -169,4 +169,5 @@ module _ (problem : Problem) (fixings own_fixings : List Fixing) (decisions own_
     ends = says.ends;
     short = says.short;
     allowed = λ left. let rows = says.allowed left in record { laid = rows.laid; walk = λ route allowed. rows.walk route (to_own route allowed); route = λ route walk. to_all route (rows.route route walk) };
+    is_order = says.is_order;
   }

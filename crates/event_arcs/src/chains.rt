@@ -13,8 +13,6 @@ use crate::placed::Placed;
 use disp_model::{Memory, Problem};
 use incremental_paths::Arc;
 use route_sets::Routes;
-use std::alloc::Global;
-use train_orders::order_of;
 
 /// Adds the arc from an operation of a train to one that stands behind it on each route.
 fn join(
@@ -81,33 +79,27 @@ fn chain(arcs: &mut Vec<Arc>, routes: &Routes, order: &[u32], first: u32) -> Res
     Ok(())
 }
 
-/// Adds the arcs of a train.
+/// Adds the arcs of a train, along the order that its routes keep.
 pub fn add_chain(
-    alloc: Global,
     arcs: &mut Vec<Arc>,
     problem: &Problem,
     train: usize,
     placed: &Placed,
 ) -> Result<(), Memory>
     requires there { train < length problem.now.trains }
-    requires fits { placed.now.first < 2 ^ 31 }
+    requires placed { (fixings : List Fixing) × (decisions : List Decision)
+        × IsPlaced (node_at problem.now fixings decisions) train placed.now }
     ensures { (fixings : List Fixing) (decisions : List Decision)
         → IsPlaced (node_at problem.now fixings decisions) train placed.now
         → OnOk result (AddsChain (node_at problem.now fixings decisions) train
         arcs.old.items arcs.new.items) }
 {
-    let operations = problem.trains.as_slice()[train].as_slice();
-    let order = order_of(alloc, operations)?;
-    chain(arcs, &placed.routes, &order, placed.first)
+    let order = placed.routes.order();
+    chain(arcs, &placed.routes, order, placed.first)
 }
 
 /// Adds the arcs of each train.
-pub fn add_chains(
-    alloc: Global,
-    arcs: &mut Vec<Arc>,
-    problem: &Problem,
-    each: &[Placed],
-) -> Result<(), Memory>
+pub fn add_chains(arcs: &mut Vec<Arc>, problem: &Problem, each: &[Placed]) -> Result<(), Memory>
     requires { (fixings : List Fixing) × (decisions : List Decision)
         × ArePlaced (node_at problem.now fixings decisions) each.now }
     ensures { (fixings : List Fixing) (decisions : List Decision)
@@ -116,7 +108,7 @@ pub fn add_chains(
         arcs.old.items arcs.new.items) }
 {
     for train in 0..each.len() {
-        add_chain(alloc, arcs, problem, train, &each[train])?;
+        add_chain(arcs, problem, train, &each[train])?;
     }
     Ok(())
 }

@@ -35,7 +35,7 @@ pub fn listed(
         → IfOk result (λ arcs. AreArcsOf (node_at problem.now fixings decisions.now) arcs.items) }
 {
     let mut arcs = Vec::new(alloc);
-    add_chains(alloc, &mut arcs, problem, each)?;
+    add_chains(&mut arcs, problem, each)?;
     add_orders(&mut arcs, problem, each, decisions)?;
     Ok(arcs)
 }

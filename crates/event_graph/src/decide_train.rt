@@ -13,7 +13,6 @@ use crate::parts::Parts;
 use crate::touched::arcs_of_train;
 use disp_model::{Copied, Decision, Memory, Op, Problem};
 use event_arcs::{Own, Placed};
-use route_sets::Routes;
 use std::alloc::Global;
 use std::mem;
 use timed_paths::TimedPaths;
@@ -86,13 +85,13 @@ pub(crate) fn decide_train(
     let Ok(own) = own_with(&parts.owns[train], decision) else {
         return Err(ExtendNo::Memory);
     };
-    let Ok(routes) = Routes::of(
-        alloc,
+    let Ok(routes) = parts.each[train].routes.others(
         problem,
         train as u32,
         own.fixings.as_slice(),
         own.decisions.as_slice(),
-    ) else {
+    )
+    else {
         return Err(ExtendNo::Memory);
     };
     if routes.none_left() {

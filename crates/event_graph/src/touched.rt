@@ -105,7 +105,7 @@ pub(crate) fn arcs_of_train(
         AddsTrain (node_at problem.now fixings decisions) decision train arcs.items) }
 {
     let mut arcs = Vec::new(alloc);
-    add_chain(alloc, &mut arcs, problem, train, &each[train])?;
+    add_chain(&mut arcs, problem, train, &each[train])?;
     add_changed(&mut arcs, problem, each, orders, old, train)?;
     Ok(arcs)
 }

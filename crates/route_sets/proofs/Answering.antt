@@ -100,6 +100,7 @@ none_are problem fixings decisions t asks order swept routes is not_held not_lef
   ends = λ o mark at. unmarked o mark at;
   short = λ o mark at. unmarked o mark at;
   allowed = λ left. absurd (false≢true (sym not_left ∙ left));
+  is_order = λ left. absurd (false≢true (sym not_left ∙ left));
 }
   where
     node : Node
@@ -141,6 +142,7 @@ some_are problem fixings decisions t asks order swept routes is held left entry 
       short = short_are node t order swept.rows routes.marks.items are marks;
       allowed = λ h. subst (λ (l : List ℕ). AreAllowedRows node t l routes.rows) (sym same_order)
           (subst (λ (l : List (List ℕ)). AreAllowedRows node t order l) (sym same_rows) (record { laid = are.is_laid; walk = are.walk; route = are.route }));
+      is_order = λ h. subst (IsOrder (train_at problem t)) (sym same_order) is.order_is;
     }
 
 -- ---- answers

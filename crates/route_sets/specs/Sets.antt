@@ -6,6 +6,7 @@ use Rattle.disp_model.specs.Train.{IsExit}
 use Rattle.disp_model.specs.Valid.{train_at}
 use Rattle.disp_model.specs.Routes.{IsAllowed, HasRoute, HasOneRoute, IsForced}
 use Rattle.disp_model.specs.Arcs.{IsTrainArc, GoesTo}
+use Rattle.train_orders.specs.Orders.{IsOrder}
 use Rattle.route_sets.specs.declared.marks.Mark.{Mark}
 use Rattle.route_sets.specs.declared.routes.Routes.{Routes}
 use Rattle.route_sets.specs.Ways.{IsWalk, last_of}
@@ -75,6 +76,7 @@ pub record AreRoutesOf (node : Node) (t : ℕ) (routes : Routes) : Type 0 where
   pub ends : (o : ℕ) (mark : Mark) → mark_at routes.marks.items o ≡ Some mark → (mark.place ≡ 0) ↔ IsExit (train_at node.problem t) o
   pub short : (o : ℕ) (mark : Mark) → mark_at routes.marks.items o ≡ Some mark → mark.place < length routes.marks.items
   pub allowed : IsTrue routes.left → AreAllowedRows node t routes.order.items routes.rows
+  pub is_order : IsTrue routes.left → IsOrder (train_at node.problem t) routes.order.items
 
 -- the one route that is allowed, or that there is no such one
 abbrev pub IsOnlyRoute : Node → ℕ → Option (List ℕ) → Type 0

@@ -9,6 +9,8 @@
 mod asks;
 mod marks;
 mod routes;
+mod row;
 mod sweep;
 
 pub use routes::Routes;
+pub use row::Row;

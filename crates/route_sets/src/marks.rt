@@ -2,6 +2,7 @@ ghost use Rattle.std.specs.Prelude.{◌≡◌, ◌≢◌, ◌+◌, ◌<◌, ◌^
 ghost use Rattle.train_orders.specs.Orders.{IsOrder};
 ghost use Rattle.route_sets.specs.Marks.{ArePlaces, IsLaid, lowered, Relaxes, IsLowest, IsOnly, Makes, IsPass, Enters, HasMarks};
 
+use crate::row::Row;
 use disp_model::{List, Memory, Operation};
 use std::alloc::Global;
 
@@ -109,7 +110,7 @@ fn visit(
     train: &[Operation],
     order: &[u32],
     places: &[usize],
-    rows: &List<List<u32>>,
+    rows: &List<Row>,
     place: usize,
 )
     requires laid { IsLaid train.now order.now rows.now }
@@ -152,7 +153,7 @@ pub(crate) fn marks_of(
     train: &[Operation],
     order: &[u32],
     places: &[usize],
-    rows: &List<List<u32>>,
+    rows: &List<Row>,
 ) -> Result<Vec<Option<Mark>>, Memory>
     requires laid { IsLaid train.now order.now rows.now }
     requires places { ArePlaces train.now order.now places.now }

@@ -4,10 +4,14 @@ ghost use Rattle.disp_model.specs.Routes.{HasRoute, IsForced};
 ghost use Rattle.disp_model.specs.Arcs.{IsTrainArc, GoesTo};
 ghost use Rattle.disp_model.specs.Earliest.{IsFork};
 ghost use Rattle.route_sets.specs.Ways.{last_of};
+ghost use Rattle.disp_model.specs.Valid.{train_at};
+ghost use Rattle.train_orders.specs.Orders.{IsOrder};
 ghost use Rattle.route_sets.specs.Marks.{mark_at};
+ghost use Rattle.route_sets.specs.Sets.{AreRoutesOf};
 
 use crate::asks::asks_of;
 use crate::marks::{Mark, marks_of, places_of};
+use crate::row::Row;
 use crate::sweep::sweep;
 use disp_model::{Decision, Fixing, List, Memory, Problem};
 use std::alloc::Global;
@@ -25,7 +29,7 @@ pub struct Routes {
     /// The operations from the exit back, where some route is allowed.
     order: Vec<u32>,
     /// Of each of them, the operations to which allowed routes go on from it.
-    rows: List<List<u32>>,
+    rows: List<Row>,
 }
 
 /// The last operation of an order.
@@ -38,8 +42,45 @@ fn last_of(order: &[u32]) -> u32
     }
 }
 
+/// The routes of a train that the fixings and the decisions allow, by an order of its operations.
+fn routes_by(
+    alloc: Global,
+    problem: &Problem,
+    train: u32,
+    fixings: &[Fixing],
+    decisions: &[Decision],
+    order: Vec<u32>,
+) -> Result<Routes, Memory>
+    requires there { train < length problem.now.trains }
+    requires order { IsOrder (train_at problem.now train) order.items }
+    ensures { IfOk result (AreRoutesOf (node_at problem.now fixings.now decisions.now) train) }
+{
+    let operations = problem.trains.as_slice()[train as usize].as_slice();
+    let asks = asks_of(alloc, operations.len(), train, fixings, decisions)?;
+    let swept = sweep(alloc, operations, &asks, &order)?;
+    if !swept.holds {
+        let marks = Vec::new(alloc);
+        return Ok(Routes {
+            left: false,
+            entry: 0,
+            marks,
+            order: Vec::new(alloc),
+            rows: List::new(alloc),
+        });
+    }
+    let places = places_of(alloc, operations, &order)?;
+    let marks = marks_of(alloc, operations, &order, &places, &swept.rows)?;
+    Ok(Routes {
+        left: true,
+        entry: last_of(&order),
+        marks,
+        order,
+        rows: swept.rows,
+    })
+}
+
 impl Routes {
-    ghost use Rattle.route_sets.specs.Sets.{op_of, AreRoutesOf, AreAllowedRows, follow, IsOnlyRoute, parting, IsAloneUnparted};
+    ghost use Rattle.route_sets.specs.Sets.{op_of, AreAllowedRows, follow, IsOnlyRoute, parting, IsAloneUnparted};
 
     /// The routes of a train that the fixings and the decisions allow. Takes time linear in the
     /// operations of the train, their successors, the fixings and the decisions.
@@ -55,28 +96,28 @@ impl Routes {
             (AreRoutesOf (node_at problem.now fixings.now decisions.now) train) }
     {
         let operations = problem.trains.as_slice()[train as usize].as_slice();
-        let asks = asks_of(alloc, operations.len(), train, fixings, decisions)?;
         let order = order_of(alloc, operations)?;
-        let swept = sweep(alloc, operations, &asks, &order)?;
-        if !swept.holds {
-            let marks = Vec::new(alloc);
-            return Ok(Routes {
-                left: false,
-                entry: 0,
-                marks,
-                order: Vec::new(alloc),
-                rows: List::new(alloc),
-            });
-        }
-        let places = places_of(alloc, operations, &order)?;
-        let marks = marks_of(alloc, operations, &order, &places, &swept.rows)?;
-        Ok(Routes {
-            left: true,
-            entry: last_of(&order),
-            marks,
-            order,
-            rows: swept.rows,
-        })
+        routes_by(alloc, problem, train, fixings, decisions, order)
+    }
+
+    /// The routes of the same train that other fixings and decisions allow. The order in which the
+    /// train's operations stand is not looked for again.
+    pub fn others(
+        &self,
+        problem: &Problem,
+        train: u32,
+        fixings: &[Fixing],
+        decisions: &[Decision],
+    ) -> Result<Routes, Memory>
+        requires there { train < length problem.now.trains }
+        requires routes { (node : Node) × (node.problem ≡ problem.now)
+            × AreRoutesOf node train self.now × HasRoute node train }
+        ensures { IfOk result
+            (AreRoutesOf (node_at problem.now fixings.now decisions.now) train) }
+    {
+        let alloc = *self.order.allocator();
+        let order = Vec::from_slice(alloc, &self.order)?;
+        routes_by(alloc, problem, train, fixings, decisions, order)
     }
 
     /// Whether no route is allowed.
@@ -107,7 +148,7 @@ impl Routes {
 
     /// Of each operation in that order, those to which allowed routes go on from it: the ways along
     /// the rows from the entry are the allowed routes. An operation on no such way may have others.
-    pub fn rows(&self) -> &[List<u32>]
+    pub fn rows(&self) -> &[Row]
         ensures kept { result.now ≡ self.now.rows }
         ensures allowed { (node : Node) (t : ℕ) → AreRoutesOf node t self.now → HasRoute node t
             → AreAllowedRows node t self.now.order.items self.now.rows }

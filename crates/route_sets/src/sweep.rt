@@ -4,6 +4,7 @@ ghost use Rattle.train_orders.specs.Orders.{IsInside, IsOrder};
 ghost use Rattle.route_sets.specs.Sweeps.{MayGo, CanEnd, IsKept, IsSwept, counted};
 
 use crate::asks::Ask;
+use crate::row::Row;
 use disp_model::{List, Memory, Operation};
 use std::alloc::Global;
 
@@ -12,7 +13,7 @@ use std::alloc::Global;
 pub(crate) struct Swept {
     /// Of each operation, those of its successors that it goes on to on routes that do all that is
     /// asked.
-    pub rows: List<List<u32>>,
+    pub rows: List<Row>,
     /// Whether some route does all that is asked.
     pub holds: bool,
 }
@@ -51,7 +52,7 @@ fn is_kept(ask: Ask, held: &[Option<usize>], count: usize, next: u32) -> bool
 }
 
 /// Adds an operation to a row, where it is kept.
-fn keep(row: &mut List<u32>, next: u32, kept: bool) -> Result<(), Memory>
+fn keep(row: &mut Row, next: u32, kept: bool) -> Result<(), Memory>
     ensures { OnOk result (row.new ≡ (if kept then row.old ++ next ∷ [] else row.old)) }
 {
     if kept {
@@ -67,12 +68,12 @@ fn row_of(
     ask: Ask,
     held: &[Option<usize>],
     count: usize,
-) -> Result<List<u32>, Memory>
+) -> Result<Row, Memory>
     requires { All (λ s. s < length held.now) operation.now.next }
     ensures { IfOk result (λ row. (s : ℕ) →
         Contains row s ↔ (Contains operation.now.next s × IsKept ask held.now count s)) }
 {
-    let mut row = List::new(alloc);
+    let mut row = Row::new(alloc);
     for next in operation.next.as_slice() {
         let kept = is_kept(ask, held, count, *next);
         keep(&mut row, *next, kept)?;
@@ -96,10 +97,17 @@ fn holding(holds: bool, count: usize) -> Option<usize>
 }
 
 /// Whether the operation has a way with all that is wanted of those so far, by the row of it.
-fn has_way(operation: &Operation, ask: Ask, row: &List<u32>, count: usize) -> bool
+fn has_way(operation: &Operation, ask: Ask, row: &Row, count: usize) -> bool
     ensures { IsTrue result ↔ (CanEnd operation.now ask count ⊎ ((s : ℕ) × Contains row.now s)) }
 {
     can_end(operation, ask, count) || row.len() > 0
+}
+
+/// No rows yet, with room for so many.
+fn no_rows(alloc: Global, count: usize) -> Result<List<Row>, Memory>
+    ensures { IfOk result (λ rows. rows ≡ []) }
+{
+    Ok(List::from_vec(Vec::with_capacity(alloc, count)?))
 }
 
 /// The rows of all operations, by an order of them from the exit back. Of each operation it keeps
@@ -117,7 +125,7 @@ pub(crate) fn sweep(
     ensures { IfOk result (λ swept. IsSwept train.now asks.now order.now swept) }
 {
     let mut held = vec![in alloc; None; train.len()]?;
-    let mut rows = List::new(alloc);
+    let mut rows = no_rows(alloc, order.len())?;
     let mut count = 0;
     let mut holds = false;
     for number in order {

@@ -12,8 +12,8 @@ pub const FOR_BOUND: u32 = 16;
 /// For each node that is grown to raise the bound so many are grown to find a plan.
 const PLAN_NODES: u64 = 3;
 
-/// Leaves that are deep and leaves of the least bound stand far from each other, so a searcher stays
-/// with the one kind for a while: of the nodes that find plans it grows a part beforehand,
+/// Leaves that are deep and leaves of the least bound stand far from each other, so a searcher
+/// stays with the one kind for a while: of the nodes that find plans it grows a part beforehand,
 const PART_AHEAD: u64 = 4;
 
 /// and so many at most.

@@ -10,7 +10,8 @@ ghost use Rattle.share_bound.specs.Leasts.{IsPaidBehind, IsCheapest, ArePaidTo, 
 
 use crate::prices::prices_of;
 use crate::times::times_of;
-use disp_model::{Component, List, Memory, Operation};
+use disp_model::{Component, Memory, Operation};
+use route_sets::Row;
 use std::alloc::Global;
 
 /// The least of one cost and those of a row's operations.
@@ -41,7 +42,7 @@ fn pay(
     costs: &mut Vec<u64>,
     train: &[Operation],
     order: &[u32],
-    rows: &[List<u32>],
+    rows: &[Row],
     prices: &[u64],
     place: usize,
 )
@@ -66,7 +67,7 @@ fn least_cost(
     alloc: Global,
     train: &[Operation],
     order: &[u32],
-    rows: &[List<u32>],
+    rows: &[Row],
     prices: &[u64],
 ) -> Result<u64, Memory>
     requires laid { IsLaid train.now order.now rows.now }
@@ -91,7 +92,7 @@ pub(crate) fn least_over(
     components: &[Component],
     train: u32,
     order: &[u32],
-    rows: &[List<u32>],
+    rows: &[Row],
     bases: &[u64],
 ) -> Result<u64, Memory>
     requires laid { IsLaid operations.now order.now rows.now }

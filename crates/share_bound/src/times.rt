@@ -3,7 +3,8 @@ ghost use Rattle.route_sets.specs.Ways.{last_of};
 ghost use Rattle.route_sets.specs.Marks.{IsLaid, Relaxes, lowered};
 ghost use Rattle.share_bound.specs.Times.{base_in, reach_in, AreTimes, IsEntering};
 
-use disp_model::{List, Memory, Operation};
+use disp_model::{Memory, Operation};
+use route_sets::Row;
 use std::alloc::Global;
 
 /// The lesser of a time that may be known and one that is.
@@ -42,7 +43,7 @@ fn leave(
     times: &mut Vec<Option<u64>>,
     train: &[Operation],
     order: &[u32],
-    rows: &[List<u32>],
+    rows: &[Row],
     bases: &[u64],
     place: usize,
 )
@@ -81,7 +82,7 @@ pub(crate) fn times_of(
     alloc: Global,
     train: &[Operation],
     order: &[u32],
-    rows: &[List<u32>],
+    rows: &[Row],
     bases: &[u64],
 ) -> Result<Vec<Option<u64>>, Memory>
     requires laid { IsLaid train.now order.now rows.now }

@@ -1,4 +1,5 @@
-use disp_model::{Component, List, Memory, Operation};
+use disp_model::{Component, Memory, Operation};
+use route_sets::Row;
 use share_bound::cost_of;
 use std::alloc::Global;
 
@@ -55,7 +56,7 @@ fn enter_all(
     alloc: Global,
     operations: &[Operation],
     order: &[u32],
-    rows: &[List<u32>],
+    rows: &[Row],
     lengths: &[u64],
 ) -> Result<Entered, Memory> {
     let mut entered = Entered {
@@ -105,7 +106,7 @@ pub(crate) fn deciding(
     operations: &[Operation],
     components: &[Component],
     order: &[u32],
-    rows: &[List<u32>],
+    rows: &[Row],
     lengths: &[u64],
 ) -> Result<Vec<bool>, Memory> {
     let mut entered = enter_all(alloc, operations, order, rows, lengths)?;

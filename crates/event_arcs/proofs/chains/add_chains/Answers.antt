@@ -2,18 +2,16 @@ use Rattle.std.proofs.Common.{◌≡◌, ℕ, subst, arith, length}
 use Rattle.disp_model.specs.Node.{node_at}
 use Rattle.event_arcs.specs.Chained.{AddsChains}
 use Rattle.event_arcs.proofs.Joining.{chains_more}
-use Rattle.event_arcs.proofs.Offsets.{placed_at, first_small}
+use Rattle.event_arcs.proofs.Offsets.{placed_at}
 use Rattle.event_arcs.proofs.chains.add_chains.Goals as goal
 
 pub add_chain-requires-clause-there : goal.add_chain-requires-clause-there
 add_chain-requires-clause-there c = omega (arith, c.loop-train-test.true, c.requires.2.long)
 
-pub add_chain-requires-clause-fits : goal.add_chain-requires-clause-fits
-add_chain-requires-clause-fits c =
+pub add_chain-requires-clause-placed : goal.add_chain-requires-clause-placed
+add_chain-requires-clause-placed c =
     let are = c.requires.2 in
-    let t = c.loop-train.train in
-    first_small (node_at c.args.problem.now c.requires.0 c.requires.1) t c.index-each-train.result (omega (arith, c.loop-train-test.true, are.long))
-    (placed_at _ c.args.each.now t c.index-each-train.result are c.loop-train-test.true c.index-each-train.is)
+    (c.requires.0, c.requires.1, placed_at _ c.args.each.now c.loop-train.train c.index-each-train.result are c.loop-train-test.true c.index-each-train.is)
 
 pub loop-train-preserved : goal.loop-train-preserved
 loop-train-preserved c = record {

@@ -1,14 +1,15 @@
 use Rattle.std.proofs.Common.{arith}
 use Rattle.disp_model.specs.Node.{Node, node_at, with_decision}
-use Rattle.event_arcs.proofs.Offsets.{placed_at, first_small}
+use Rattle.event_arcs.proofs.Offsets.{placed_at}
 use Rattle.event_graph.proofs.Adding.{adds_train}
 use Rattle.event_graph.proofs.touched.arcs_of_train.Goals as goal
 
-pub add_chain-requires-clause-fits : goal.add_chain-requires-clause-fits
-add_chain-requires-clause-fits c =
-    let node : Node = node_at c.args.problem.now c.requires.placed.0 c.requires.placed.1 in
+pub add_chain-requires-clause-placed : goal.add_chain-requires-clause-placed
+add_chain-requires-clause-placed c =
+    let fixings = c.requires.placed.0 in
+    let decisions = c.requires.placed.1 in
     let placed = c.requires.placed.2 in
-    first_small node c.args.train c.index-each-train.result c.requires.there (placed_at node c.args.each.now c.args.train c.index-each-train.result placed (omega (arith, c.requires.there, placed.long)) c.index-each-train.is)
+    (fixings, decisions, placed_at (node_at c.args.problem.now fixings decisions) c.args.each.now c.args.train c.index-each-train.result placed (omega (arith, c.requires.there, placed.long)) c.index-each-train.is)
 
 pub returns : goal.returns
 returns c fixings decisions decision about old placed orders =

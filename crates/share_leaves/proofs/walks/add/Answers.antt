@@ -6,7 +6,7 @@ use Rattle.disp_model.specs.Walks.{IsLongest}
 use Rattle.disp_model.specs.Shares.{IsBase}
 use Rattle.disp_model.specs.declared.train.Op.{Op}
 use Rattle.cost_bound.specs.Bounds.{IsLongWalk}
-use Rattle.share_leaves.proofs.Beside.{beside_more}
+use Rattle.share_leaves.proofs.Beside.{beside_same, beside_more}
 use Rattle.share_leaves.proofs.walks.add.Goals as goal
 
 longest_is : (node : Node) (o : Op) (base : ℕ) → IsForced node o → IsBase node o base
@@ -20,6 +20,11 @@ longest_walk-requires c =
     let op = component_op c.args.component.now in
     subst (IsForced node) (sym c.op_of-op.ensures)
     ((c.forced.ensures node op.train c.routes.ensures.routes).0 c.if-not-forced.false)
+
+pub returns-then-cost-eq0 : goal.returns-then-cost-eq0
+returns-then-cost-eq0 c =
+    beside_same c.args.graph.now c.args.trains.now c.args.place c.args.component.now c.args.walks.now
+    c.requires.there c.requires.before
 
 pub returns : goal.returns
 returns c =

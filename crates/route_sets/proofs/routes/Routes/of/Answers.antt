@@ -1,9 +1,8 @@
-use Rattle.std.proofs.Common.{◌≡◌, ◌∙◌, ℕ, List, refl, sym, ap, subst}
+use Rattle.std.proofs.Common.{◌≡◌, List, sym, subst}
 use Rattle.disp_model.specs.declared.train.Operation.{Operation}
 use Rattle.disp_model.specs.Valid.{train_at}
-use Rattle.route_sets.specs.Ways.{last_of}
-use Rattle.route_sets.specs.Marks.{IsLaid, HasMarks}
-use Rattle.route_sets.proofs.Answering.{train_read, is_inside, found, none_are, is_laid, some_are}
+use Rattle.train_orders.specs.Orders.{IsOrder}
+use Rattle.route_sets.proofs.Answering.{train_read, is_inside}
 use Rattle.route_sets.proofs.routes.Routes.of.Goals as goal
 
 pub order_of-requires-clause-inside : goal.order_of-requires-clause-inside
@@ -12,35 +11,8 @@ order_of-requires-clause-inside c =
     let e : train_at c.args.problem.now c.args.train ≡ operations = train_read c.args.problem.now.trains c.as_slice.result.now c.args.train c.index-as_slice-train.result operations c.as_slice.ensures c.index-as_slice-train.is c.as_slice-operations.ensures c.requires in
     is_inside c.args.problem.now c.args.train operations e c.requires
 
-pub sweep-requires-clause-inside : goal.sweep-requires-clause-inside
-sweep-requires-clause-inside c =
+pub routes_by-requires-clause-order : goal.routes_by-requires-clause-order
+routes_by-requires-clause-order c =
     let operations = c.as_slice-operations.result.now in
     let e : train_at c.args.problem.now c.args.train ≡ operations = train_read c.args.problem.now.trains c.as_slice.result.now c.args.train c.index-as_slice-train.result operations c.as_slice.ensures c.index-as_slice-train.is c.as_slice-operations.ensures c.requires in
-    is_inside c.args.problem.now c.args.train operations e c.requires
-
-pub returns-then-not-swept : goal.returns-then-not-swept
-returns-then-not-swept c =
-    let problem = c.args.problem.now in
-    let operations = c.as_slice-operations.result.now in
-    let e : train_at problem c.args.train ≡ operations = train_read problem.trains c.as_slice.result.now c.args.train c.index-as_slice-train.result operations c.as_slice.ensures c.index-as_slice-train.is c.as_slice-operations.ensures c.requires in
-    let is = found problem c.args.fixings.now c.args.decisions.now c.args.train operations c.in_ok-asks.asks.items c.deref.result.now c.in_ok-order.order.items c.deref-2.result.now c.in_ok-swept.swept e c.requires c.in_ok-asks.ensures c.in_ok-order.ensures c.deref.ensures.value c.deref-2.ensures.value c.in_ok-swept.ensures in
-    none_are problem c.args.fixings.now c.args.decisions.now c.args.train c.in_ok-asks.asks.items c.in_ok-order.order.items c.in_ok-swept.swept _ is c.if-not-swept.true refl c.new-marks.ensures.items
-
-pub marks_of-requires-clause-laid : goal.marks_of-requires-clause-laid
-marks_of-requires-clause-laid c =
-    let problem = c.args.problem.now in
-    let operations = c.as_slice-operations.result.now in
-    let e : train_at problem c.args.train ≡ operations = train_read problem.trains c.as_slice.result.now c.args.train c.index-as_slice-train.result operations c.as_slice.ensures c.index-as_slice-train.is c.as_slice-operations.ensures c.requires in
-    let is = found problem c.args.fixings.now c.args.decisions.now c.args.train operations c.in_ok-asks.asks.items c.deref.result.now c.in_ok-order.order.items c.deref-2.result.now c.in_ok-swept.swept e c.requires c.in_ok-asks.ensures c.in_ok-order.ensures c.deref.ensures.value c.deref-2.ensures.value c.in_ok-swept.ensures in
-    subst (λ (l : List ℕ). IsLaid operations l c.in_ok-swept.swept.rows) (sym c.deref-4.ensures.value)
-    (subst (λ (l : List Operation). IsLaid l c.in_ok-order.order.items c.in_ok-swept.swept.rows) e (is_laid problem c.args.fixings.now c.args.decisions.now c.args.train c.in_ok-asks.asks.items c.in_ok-order.order.items c.in_ok-swept.swept is c.if-not-swept.false))
-
-pub returns : goal.returns
-returns c =
-    let problem = c.args.problem.now in
-    let operations = c.as_slice-operations.result.now in
-    let e : train_at problem c.args.train ≡ operations = train_read problem.trains c.as_slice.result.now c.args.train c.index-as_slice-train.result operations c.as_slice.ensures c.index-as_slice-train.is c.as_slice-operations.ensures c.requires in
-    let is = found problem c.args.fixings.now c.args.decisions.now c.args.train operations c.in_ok-asks.asks.items c.deref.result.now c.in_ok-order.order.items c.deref-2.result.now c.in_ok-swept.swept e c.requires c.in_ok-asks.ensures c.in_ok-order.ensures c.deref.ensures.value c.deref-2.ensures.value c.in_ok-swept.ensures in
-    let marks : HasMarks operations c.in_ok-order.order.items c.in_ok-swept.swept.rows c.in_ok-marks.marks.items = subst (λ (l : List ℕ). HasMarks operations l c.in_ok-swept.swept.rows c.in_ok-marks.marks.items) c.deref-4.ensures.value c.in_ok-marks.ensures in
-    some_are problem c.args.fixings.now c.args.decisions.now c.args.train c.in_ok-asks.asks.items c.in_ok-order.order.items c.in_ok-swept.swept _ is c.if-not-swept.false refl (c.last_of.ensures ∙ ap last_of c.deref-6.ensures.value)
-    (subst (λ (l : List Operation). HasMarks l c.in_ok-order.order.items c.in_ok-swept.swept.rows c.in_ok-marks.marks.items) (sym e) marks) refl refl
+    subst (λ (l : List Operation). IsOrder l c.in_ok-order.order.items) (sym e) c.in_ok-order.ensures
