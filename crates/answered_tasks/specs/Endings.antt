@@ -124,7 +124,7 @@ pub record Ends (words : List (List ℕ)) (old new : Outside) (status : ℕ) (jo
   pub statuses : IsAnswerStatus status ⊎ ((status ≡ 2) ⊎ ((status ≡ 4) ⊎ (status ≡ 5)))
   -- An answer's journal is legal; an optimal plan is valid and none costs less; an infeasible
   -- problem has no valid plan; the tree that is put shows that; where it is unfinished the whole
-  -- budget is spent.
+  -- budget is spent, and no valid plan costs less than the bound.
   pub answered : IsAnswerStatus status → EndsAnswered words old new status journal
   pub refused : status ≡ 2 → EndsRefused words old new journal
   pub failed : status ≡ 4 → EndsFailed words old new journal

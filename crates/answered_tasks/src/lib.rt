@@ -3,8 +3,9 @@
 //!
 //! `answer` solves problems, with searchers side by side: what it prints as optimal is a valid plan
 //! with its cost, and no valid plan costs less; what it prints as infeasible has no valid plan;
-//! where it is unfinished the whole budget is spent. It judges solutions, and checks trees. Every
-//! other status has its cause. It uses the outside through the traits of disp_outside alone.
+//! where it is unfinished the whole budget is spent, and no valid plan costs less than the printed
+//! bound. It judges solutions, and checks trees. Every other status has its cause. It uses the
+//! outside through the traits of disp_outside alone.
 #![tactic(auto)]
 
 mod cause;

@@ -13,6 +13,7 @@ use Rattle.disp_model.specs.declared.problem.Problem.{Problem}
 use Rattle.disp_model.specs.declared.settings.Settings.{Settings}
 use Rattle.command_words.specs.declared.task.RollTask.{RollTask}
 use Rattle.command_words.specs.Settings.{roll_settings_of}
+use Rattle.solved_problems.proofs.Marks.{marks_say}
 use Rattle.text_puts.specs.Outside.{Outside, Holdings, Counts}
 use Rattle.text_puts.proofs.Counting.{stays, same_all, never_falls}
 use Rattle.answered_tasks.specs.Files.{IsProblemFile}
@@ -36,14 +37,18 @@ module _ {F : Type 0} (name : F → List ℕ) (told : F → Option (List (List �
 pub runs_of : (task : RollTask) (problem : Problem) (old start new : Outside) (settings : Settings) (trees : Option (List ℕ)) (names : List (List ℕ)) (feeds : List Fed) (status : ℕ) (journal : List Entry)
     → settings ≡ roll_settings_of task → trees ≡ task.trees → names ≡ task.feeds → AreFed old.holds names feeds → IsAsBefore old start
     → IsRolled problem settings trees feeds start new journal status → RunsFeeds task problem old new status journal
-runs_of task problem old start new settings trees names feeds status journal same_settings same_trees same_names are begins ran = record {
-  feeds = feeds;
-  fed = subst (λ (n : List (List ℕ)). AreFed old.holds n feeds) same_names are;
-  start = start;
-  begins = begins;
-  ran = subst (λ (s : Settings). IsRolled problem s task.trees feeds start new journal status) same_settings
-      (subst (λ (t : Option (List ℕ)). IsRolled problem settings t feeds start new journal status) same_trees ran);
-}
+runs_of task problem old start new settings trees names feeds status journal same_settings same_trees same_names are begins ran =
+    let rolled : IsRolled problem (roll_settings_of task) task.trees feeds start new journal status =
+    subst (λ (s : Settings). IsRolled problem s task.trees feeds start new journal status) same_settings
+    (subst (λ (t : Option (List ℕ)). IsRolled problem settings t feeds start new journal status) same_trees ran) in
+    record {
+      feeds = feeds;
+      fed = subst (λ (n : List (List ℕ)). AreFed old.holds n feeds) same_names are;
+      start = start;
+      begins = begins;
+      ran = rolled;
+      promise = marks_say problem (roll_settings_of task) journal rolled.legal;
+    }
 
 -- an element of a list, by its place
 contains_at : (names : List (List ℕ)) (i : ℕ) (one : List ℕ) → slice_get names i ≡ Some one → Contains names one
@@ -177,6 +182,7 @@ run_of task problem old mid new status journal file reads faults written runs = 
       written = runs.begins.written ∙ written;
     };
     ran = runs.ran;
+    promise = runs.promise;
   };
 }
 

@@ -1,13 +1,16 @@
 -- How a roll ends.
-use Rattle.std.specs.Prelude.{◌≡◌, ◌⊎◌, ℕ, ◌<◌, List, [], Contains, length}
+use Rattle.std.specs.Prelude.{◌≡◌, ◌≢◌, ◌⊎◌, ℕ, ◌<◌, List, [], Contains, length}
 use Rattle.disp_model.specs.declared.entry.Entry.{Entry}
+use Rattle.disp_model.specs.declared.entry.Mark.TheVariants.{Working}
 use Rattle.disp_model.specs.declared.limits.TheConstants.{MOST_CALLERS}
 use Rattle.disp_model.specs.declared.problem.Problem.{Problem}
+use Rattle.disp_model.specs.History.{edition_of, newest, mark_of}
 use Rattle.command_words.specs.declared.task.RollTask.{RollTask}
 use Rattle.command_words.specs.declared.task.Task.TheVariants.{Roll}
 use Rattle.command_words.specs.Settings.{roll_settings_of}
 use Rattle.command_words.specs.Task.{IsTask}
 use Rattle.text_puts.specs.Outside.{Outside, Holdings, Counts}
+use Rattle.solved_problems.specs.Promised.{Promises}
 use Rattle.answered_tasks.specs.Causes.{StopsProblem}
 use Rattle.answered_tasks.specs.Endings.{Ends}
 use Rattle.answered_tasks.specs.Files.{IsProblemFile}
@@ -56,6 +59,11 @@ pub record IsAsBefore (old new : Outside) : Type 0 where
   pub faults : new.faults ≡ old.faults
   pub written : new.written ≡ old.written
 
+-- where the newest edition is settled or stopped its mark says true of it
+abbrev pub NewestIsPromised : RollTask → Problem → List Entry → Type 0
+NewestIsPromised task problem journal = mark_of (newest journal) journal ≢ Working
+    → Promises problem (roll_settings_of task) (edition_of journal) (mark_of (newest journal) journal)
+
 -- the feeds were opened, which left all as before, and ran with a problem
 pub record RunsFeeds (task : RollTask) (problem : Problem) (old new : Outside) (status : ℕ) (journal : List Entry) : Type 0 where
   pub feeds : List Fed
@@ -63,6 +71,7 @@ pub record RunsFeeds (task : RollTask) (problem : Problem) (old new : Outside) (
   pub start : Outside
   pub begins : IsAsBefore old start
   pub ran : IsRolled problem (roll_settings_of task) task.trees feeds start new journal status
+  pub promise : NewestIsPromised task problem journal
 
 -- the problem was read, and the feeds ran with it
 pub record EndsRun (task : RollTask) (old new : Outside) (status : ℕ) (journal : List Entry) : Type 0 where

@@ -24,6 +24,7 @@ use Rattle.disp_model.specs.Valid.{IsValid}
 use Rattle.disp_laws.proofs.TreesYes.{tree_says}
 use Rattle.history_laws.proofs.Appended.{changes_more, mark_more, plan_more}
 use Rattle.history_laws.proofs.Legality.{by_entries, new_number}
+use Rattle.stop_laws.proofs.Stopping.{stop_bounds}
 use Rattle.solved_problems.specs.Promised.{Promises}
 
 -- what a mark promises, where there is one
@@ -31,7 +32,8 @@ abbrev Says : Problem → Settings → List Fixing → Mark → Type 0
 Says problem settings fixings mark.Working = Unit {0}
 Says problem settings fixings (mark.Optimal cost) = IsLeast problem fixings cost
 Says problem settings fixings mark.Infeasible = Promises problem settings fixings mark.Infeasible
-Says problem settings fixings (mark.Stopped spent bound) = spent ≡ settings.budget
+Says problem settings fixings (mark.Stopped spent bound) =
+    Promises problem settings fixings (mark.Stopped spent bound)
 
 -- the last plan costs what is told, and the newest edition's mark says true
 record SaysTrue (problem : Problem) (settings : Settings) (history : List Entry) : Type 0 where
@@ -180,7 +182,7 @@ module _ (problem : Problem) (settings : Settings) where
     says = quiet_says h (Stopped edition spent bound) refl
         (subst (Says problem settings (edition_of h))
         (sym (closed_mark h edition (mark.Stopped spent bound) entry.working.newest_is))
-        entry.budget_is);
+        (entry.budget_is, stop_bounds problem settings h edition spent bound legal entry));
   }
 
   all_say : (history : List Entry) → IsLegal problem settings history

@@ -10,7 +10,7 @@ ghost use Rattle.solved_problems.specs.Promised.{Promises};
 
 /// Where the newest edition of a legal history is closed its mark says true: 'optimal' that some
 /// valid plan costs so much and none less, 'infeasible' that no plan is valid, and 'stopped' that
-/// the whole budget is spent.
+/// the whole budget is spent and no valid plan costs less than the bound.
 pub fn marks_say_true()
     ensures { (problem : Problem) (settings : Settings) (history : List Entry)
         → IsLegal problem settings history → mark_of (newest history) history ≢ Working
