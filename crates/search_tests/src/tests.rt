@@ -1,4 +1,4 @@
-mod core;
 mod dives;
 mod leaves;
 mod searches;
+mod steps;
