@@ -22,7 +22,7 @@ use Rattle.rolling_driver.specs.Rolled.{Fed, IsRolled, fed}
 use Rattle.dispatch_cli.specs.declared.roll_no.RollNo.{RollNo}
 use Rattle.dispatch_cli.specs.declared.roll_no.RollNo.TheVariants.{TooManyFeeds, Problem as NoProblem, FeedFailed, Memory}
 use Rattle.dispatch_cli.specs.Feeds.{AreFed, AreOpened, StopsFeeds}
-use Rattle.dispatch_cli.specs.Rolls.{IsAsBefore, StopsRoll, HasNotBegun, RunsFeeds, EndsRun, EndsStopped, ReadsInputs}
+use Rattle.dispatch_cli.specs.Rolls.{HasFewFeeds, IsAsBefore, StopsRoll, HasNotBegun, RunsFeeds, EndsRun, EndsStopped, ReadsInputs}
 use Rattle.dispatch_cli.specs.Stops.{IsFault, StopsWith}
 
 module _ {F : Type 0} (name : F → List ℕ) (told : F → Option (List (List ℕ))) (has_ended : F → Bool) (faults : F → ℕ) where
@@ -35,13 +35,14 @@ module _ {F : Type 0} (name : F → List ℕ) (told : F → Option (List (List �
 
 -- the feeds of a task ran
 pub runs_of : (task : RollTask) (problem : Problem) (old start new : Outside) (settings : Settings) (trees : Option (List ℕ)) (names : List (List ℕ)) (feeds : List Fed) (status : ℕ) (journal : List Entry)
-    → settings ≡ roll_settings_of task → trees ≡ task.trees → names ≡ task.feeds → AreFed old.holds names feeds → IsAsBefore old start
+    → HasFewFeeds task → settings ≡ roll_settings_of task → trees ≡ task.trees → names ≡ task.feeds → AreFed old.holds names feeds → IsAsBefore old start
     → IsRolled problem settings trees feeds start new journal status → RunsFeeds task problem old new status journal
-runs_of task problem old start new settings trees names feeds status journal same_settings same_trees same_names are begins ran =
+runs_of task problem old start new settings trees names feeds status journal few same_settings same_trees same_names are begins ran =
     let rolled : IsRolled problem (roll_settings_of task) task.trees feeds start new journal status =
     subst (λ (s : Settings). IsRolled problem s task.trees feeds start new journal status) same_settings
     (subst (λ (t : Option (List ℕ)). IsRolled problem settings t feeds start new journal status) same_trees ran) in
     record {
+      few = few;
       feeds = feeds;
       fed = subst (λ (n : List (List ℕ)). AreFed old.holds n feeds) same_names are;
       start = start;
@@ -103,13 +104,14 @@ stopped_at_problem task old new why stops reads faults written = record {
 quiet_reading : (task : RollTask) (old mid : Outside) → ReadsOne task.problem old.reading mid.reading old.putting mid.putting old.holds mid.holds ⊥ → (name : List ℕ) → mid.reading name ≡ old.reading name
 quiet_reading task old mid reads = same_all task.problem old.reading mid.reading (stays _ _ reads.counted reads.fault) reads.others
 
-stops_at_feeds : (task : RollTask) (problem : Problem) (holds : Holdings) (old mid new : Counts) (why : RollNo) → IsProblemFile holds task.problem problem
+stops_at_feeds : (task : RollTask) (problem : Problem) (holds : Holdings) (old mid new : Counts) (why : RollNo) → HasFewFeeds task → IsProblemFile holds task.problem problem
     → ((name : List ℕ) → mid name ≡ old name) → StopsFeeds task.feeds mid new why → StopsRoll task holds old new why
-stops_at_feeds task problem holds old mid new (TooManyFeeds count) file quiet stops = absurd stops
-stops_at_feeds task problem holds old mid new (NoProblem cause) file quiet stops = absurd stops
-stops_at_feeds task problem holds old mid new (FeedFailed number) file quiet stops = record {
+stops_at_feeds task problem holds old mid new (TooManyFeeds count) few file quiet stops = absurd stops
+stops_at_feeds task problem holds old mid new (NoProblem cause) few file quiet stops = absurd stops
+stops_at_feeds task problem holds old mid new (FeedFailed number) few file quiet stops = record {
   problem = problem;
   file = file;
+  few = few;
   unopened = record {
     name = stops.name;
     is = stops.is;
@@ -117,15 +119,15 @@ stops_at_feeds task problem holds old mid new (FeedFailed number) file quiet sto
     others = λ other apart. stops.others other apart ∙ quiet other;
   };
 }
-stops_at_feeds task problem holds old mid new Memory file quiet stops = tt
+stops_at_feeds task problem holds old mid new Memory few file quiet stops = tt
 
 -- the opening of the feeds stopped the roll, or want of memory behind it
-pub stopped_at_feeds : (task : RollTask) (problem : Problem) (old mid new : Outside) (why : RollNo) → IsProblemFile old.holds task.problem problem
+pub stopped_at_feeds : (task : RollTask) (problem : Problem) (old mid new : Outside) (why : RollNo) → HasFewFeeds task → IsProblemFile old.holds task.problem problem
     → ReadsOne task.problem old.reading mid.reading old.putting mid.putting old.holds mid.holds ⊥ → StopsFeeds task.feeds mid.reading new.reading why
     → ((name : List ℕ) → new.putting name ≡ mid.putting name) → ((name : List ℕ) → new.holds name ≡ mid.holds name) → new.faults ≡ old.faults → new.written ≡ old.written
     → HasNotBegun task old new why
-stopped_at_feeds task problem old mid new why file reads stops puttings held faults written = record {
-  stops = stops_at_feeds task problem old.holds old.reading mid.reading new.reading why file (quiet_reading task old mid reads) stops;
+stopped_at_feeds task problem old mid new why few file reads stops puttings held faults written = record {
+  stops = stops_at_feeds task problem old.holds old.reading mid.reading new.reading why few file (quiet_reading task old mid reads) stops;
   reads = go (opening_counts task old.reading mid.reading new.reading why (quiet_reading task old mid reads) stops);
   faults = faults;
   written = written;
@@ -152,13 +154,13 @@ stopped_at_feeds task problem old mid new why file reads stops puttings held fau
     }
 
 -- so it is where the running of the feeds was refused
-pub not_begun : {X : Type 0} (task : RollTask) (problem : Problem) (old mid new : Outside) (r : Result X RollNo) → IsProblemFile old.holds task.problem problem
+pub not_begun : {X : Type 0} (task : RollTask) (problem : Problem) (old mid new : Outside) (r : Result X RollNo) → HasFewFeeds task → IsProblemFile old.holds task.problem problem
     → ReadsOne task.problem old.reading mid.reading old.putting mid.putting old.holds mid.holds ⊥ → IfErr r (StopsFeeds task.feeds mid.reading new.reading)
     → OnErr r ((name : List ℕ) → new.putting name ≡ mid.putting name) → OnErr r ((name : List ℕ) → new.holds name ≡ mid.holds name)
     → OnErr r (new.faults ≡ old.faults) → OnErr r (new.written ≡ old.written) → IfErr r (HasNotBegun task old new)
-not_begun task problem old mid new (Ok x) file reads stops puttings held faults written = tt
-not_begun task problem old mid new (Err why) file reads stops puttings held faults written =
-    stopped_at_feeds task problem old mid new why file reads stops puttings held faults written
+not_begun task problem old mid new (Ok x) few file reads stops puttings held faults written = tt
+not_begun task problem old mid new (Err why) few file reads stops puttings held faults written =
+    stopped_at_feeds task problem old mid new why few file reads stops puttings held faults written
 
 -- the problem was read, and the feeds ran behind it
 pub run_of : (task : RollTask) (problem : Problem) (old mid new : Outside) (status : ℕ) (journal : List Entry) → IsProblemFile old.holds task.problem problem
@@ -168,6 +170,7 @@ run_of task problem old mid new status journal file reads faults written runs = 
   problem = problem;
   file = file;
   runs = record {
+    few = runs.few;
     feeds = runs.feeds;
     fed = record {
       names_are = runs.fed.names_are;

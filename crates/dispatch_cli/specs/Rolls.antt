@@ -1,5 +1,5 @@
 -- How a roll ends.
-use Rattle.std.specs.Prelude.{◌≡◌, ◌≢◌, ◌⊎◌, ℕ, ◌<◌, List, [], Contains, length}
+use Rattle.std.specs.Prelude.{◌≡◌, ◌≢◌, ◌⊎◌, ℕ, ◌<◌, ◌≤◌, List, [], Contains, length}
 use Rattle.disp_model.specs.declared.entry.Entry.{Entry}
 use Rattle.disp_model.specs.declared.entry.Mark.TheVariants.{Working}
 use Rattle.disp_model.specs.declared.limits.TheConstants.{MOST_CALLERS}
@@ -25,16 +25,22 @@ use Rattle.dispatch_cli.specs.Stops.{StopsWith, IsFault}
 abbrev pub IsInput : RollTask → List ℕ → Type 0
 IsInput task name = (name ≡ task.problem) ⊎ Contains task.feeds name
 
+-- at most 64 feeds are named
+abbrev pub HasFewFeeds : RollTask → Type 0
+HasFewFeeds task = length task.feeds ≤ MOST_CALLERS
+
 -- there is a problem, and the feed of this number was not opened
 pub record IsWithoutFeed (task : RollTask) (holds : Holdings) (old new : Counts) (number : ℕ) : Type 0 where
   pub problem : Problem
   pub file : IsProblemFile holds task.problem problem
   pub unopened : IsUnopened task.feeds old new number
+  pub few : HasFewFeeds task
 
 -- this has happened, so that the roll did not begin
 abbrev pub StopsRoll : RollTask → Holdings → Counts → Counts → RollNo → Type 0
 StopsRoll task holds old new (roll_no.TooManyFeeds count) = (count ≡ length task.feeds) × (MOST_CALLERS < count)
-StopsRoll task holds old new (roll_no.Problem why) = StopsProblem holds old new task.problem why
+StopsRoll task holds old new (roll_no.Problem why) =
+    HasFewFeeds task × StopsProblem holds old new task.problem why
 StopsRoll task holds old new (roll_no.FeedFailed number) = IsWithoutFeed task holds old new number
 StopsRoll task holds old new roll_no.Memory = Unit {0}
 
@@ -64,8 +70,9 @@ abbrev pub NewestIsPromised : RollTask → Problem → List Entry → Type 0
 NewestIsPromised task problem journal = mark_of (newest journal) journal ≢ Working
     → Promises problem (roll_settings_of task) (edition_of journal) (mark_of (newest journal) journal)
 
--- the feeds were opened, which left all as before, and ran with a problem
+-- the feeds, at most 64, were opened, which left all as before, and ran with a problem
 pub record RunsFeeds (task : RollTask) (problem : Problem) (old new : Outside) (status : ℕ) (journal : List Entry) : Type 0 where
+  pub few : HasFewFeeds task
   pub feeds : List Fed
   pub fed : AreFed old.holds task.feeds feeds
   pub start : Outside

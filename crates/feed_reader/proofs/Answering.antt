@@ -102,14 +102,18 @@ nothing_left : (k : ℕ) (lines : Lines) → drop k lines ≡ [] → length line
 nothing_left k lines is = let d = length-drop k lines in let z : length (drop k lines) ≡ 0 = ap length is in omega arith
 
 module _ (feed count lines : ℕ) where
-  pub ends_read : (told left : Option Lines) (entries : List Entry) → IsReadTo feed count lines told left entries → NoneLeft left → IfSome told (λ all. AnswersAs feed all entries reading.Ended)
-  ends_read None left entries to none = tt
-  ends_read (Some all) None entries to none = absurd (none-some (drop (length entries) all) to.answered.2)
-  ends_read (Some all) (Some left) entries to none =
+  pub ends_read : (told left : Option Lines) (entries : List Entry) → count ≤ MOST_LINES
+      → IsReadTo feed count lines told left entries → NoneLeft left
+      → IfSome told (λ all. AnswersAs feed all entries reading.Ended)
+  ends_read None left entries few to none = tt
+  ends_read (Some all) None entries few to none =
+      absurd (none-some (drop (length entries) all) to.answered.2)
+  ends_read (Some all) (Some left) entries few to none =
       let same : left ≡ drop (length entries) all = same_Some left (drop (length entries) all) to.answered.2 in
       let long = nothing_left (length entries) all (sym same ∙ none) in
       let within = to.answered.1 in
-      (to.answered.0, omega arith)
+      let as_many = to.as_many in
+      (to.answered.0, omega (arith, long, within), omega (arith, as_many, few))
 
   pub ends_failed : (told left : Option Lines) (entries : List Entry) → IsReadTo feed count lines told left entries → IfSome told (λ all. AnswersAs feed all entries reading.Failed)
   ends_failed None left entries to = tt

@@ -1,5 +1,5 @@
 -- From the pass of one line to the pass that a feed began with.
-use Rattle.std.proofs.Common.{◌≡◌, ℕ, ◌+◌, ◌<◌, List, [], ◌∷◌, ◌++◌, length, Bool, Option, None, Some, refl, sym, ap, subst}
+use Rattle.std.proofs.Common.{◌≡◌, ℕ, ◌+◌, ◌<◌, ◌≤◌, List, [], ◌∷◌, ◌++◌, length, Bool, Option, None, Some, refl, sym, ap, subst, arith}
 use Rattle.std.specs.Prelude.{Result, Ok, Err, IfSome}
 use Rattle.disp_outside.specs.Lines.{NoneLeft}
 use Rattle.disp_model.specs.declared.entry.Entry.{Entry}
@@ -34,8 +34,11 @@ module _ (first mid last : Pass) (on : GoesOn first mid) (count : ℕ) (told lef
       read_more (known first).caller count (lines mid) told left next (entries_by (known first).caller (known mid).seen) (entries_by (known first).caller (known last).seen) (lines last) to
       (of_first (λ caller. AnswersNext caller (lines mid + 1) left next (entries_by caller (known mid).seen) (entries_by caller (known last).seen)) answers) counted
 
-  pub all_read : NoneLeft left → Quiet (known mid).caller → IfSome told (λ all. AnswersAs (known first).caller all (entries_by (known first).caller (known last).seen) reading.Ended)
-  all_read none quiet = still reading.Ended quiet (ends_read (known first).caller count (lines mid) told left _ to none)
+  pub all_read : count ≤ MOST_LINES → NoneLeft left → Quiet (known mid).caller
+      → IfSome told (λ all. AnswersAs (known first).caller all
+      (entries_by (known first).caller (known last).seen) reading.Ended)
+  all_read few none quiet = still reading.Ended quiet
+      (ends_read (known first).caller count (lines mid) told left _ few to none)
 
   pub some_read : (r : Reading) → (◌≡◌ {A = Result Bool Reading} (Err r) (Err reading.Ended) → ⊥) × (◌≡◌ {A = Result Bool Reading} (Err r) (Err reading.TooMany) → ⊥) → Quiet (known mid).caller
       → IfSome told (λ all. AnswersAs (known first).caller all (entries_by (known first).caller (known last).seen) r)
@@ -55,7 +58,8 @@ module _ (first mid last : Pass) (on : GoesOn first mid) (count : ℕ) (told lef
       × (entries_by (known mid).caller (known last).seen ≡ entries_by (known mid).caller (known mid).seen ++ one_too_many (known mid).caller ∷ []))
       → ((r ≡ reading.TooMany → ⊥) → Quiet (known mid).caller)
       → IfSome told (λ all. AnswersAs (known first).caller all (entries_by (known first).caller (known last).seen) r)
-  end_read reading.Ended full none more quiet = all_read (none refl) (quiet (λ many. absurd (cc)))
+  end_read reading.Ended full none more quiet =
+      all_read (omega (arith, full)) (none refl) (quiet (λ many. absurd (cc)))
   end_read reading.TooMany full none more quiet =
       let is = more refl in
       ends_full (known first).caller count (lines mid) told left (entries_by (known first).caller (known mid).seen) (entries_by (known first).caller (known last).seen) full to is.0

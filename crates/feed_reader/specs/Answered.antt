@@ -41,10 +41,11 @@ AnswerLines feed number (line ∷ lines) (entry ∷ entries) =
 abbrev pub one_too_many : ℕ → Entry
 one_too_many feed = Unread feed (MOST_LINES + 1) TooMany
 
--- the entries answer the lines, where these are told, as the reading ended: all of them; all that are read, and then that there
--- are more; or some from the first on
+-- the entries answer the lines, where these are told, as the reading ended: all of them, no more than are read; all that are read,
+-- and then that there are more; or some from the first on
 abbrev pub AnswersAs : ℕ → List (List ℕ) → List Entry → Reading → Type 0
-AnswersAs feed lines entries reading.Ended = AnswerLines feed 1 lines entries × (length entries ≡ length lines)
+AnswersAs feed lines entries reading.Ended =
+    AnswerLines feed 1 lines entries × (length entries ≡ length lines) × (length entries ≤ MOST_LINES)
 AnswersAs feed lines entries reading.TooMany =
     (read : List Entry) × (entries ≡ read ++ one_too_many feed ∷ []) × AnswerLines feed 1 lines read
     × (length read ≡ MOST_LINES) × (MOST_LINES < length lines)

@@ -19,7 +19,7 @@ returns-in-Ok-clause-no g c =
     (outside (g.S.Shelf.holds c.args.shelf.now) (g.S.Shelf.reading_faults c.args.shelf.now) (g.S.Shelf.putting_faults c.args.shelf.now) (g.O.Sink.faults c.args.out.now) (g.O.Sink.written c.args.out.now))
     (outside (g.S.Shelf.holds c.problem_of.new.shelf) (g.S.Shelf.reading_faults c.problem_of.new.shelf) (g.S.Shelf.putting_faults c.problem_of.new.shelf) (g.O.Sink.faults c.args.out.now) (g.O.Sink.written c.args.out.now))
     (outside (g.S.Shelf.holds c.roll_feeds.new.shelf) (g.S.Shelf.reading_faults c.roll_feeds.new.shelf) (g.S.Shelf.putting_faults c.roll_feeds.new.shelf) (g.O.Sink.faults c.roll_feeds.new.out) (g.O.Sink.written c.roll_feeds.new.out))
-    c.roll_feeds.result c.in-Ok.ensures.ok c.in-Ok.ensures.reads c.roll_feeds.ensures.no c.roll_feeds.ensures.puttings c.roll_feeds.ensures.held
+    c.roll_feeds.result c.in-Ok.ensures.few c.in-Ok.ensures.ok c.in-Ok.ensures.reads c.roll_feeds.ensures.no c.roll_feeds.ensures.puttings c.roll_feeds.ensures.held
     c.roll_feeds.ensures.faults c.roll_feeds.ensures.written
 
 pub returns-in-Err-clause-no : goal.returns-in-Err-clause-no

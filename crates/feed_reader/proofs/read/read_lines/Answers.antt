@@ -1,4 +1,4 @@
-use Rattle.std.proofs.Common.{◌≡◌, ◌+◌, refl, rules, arith, true, false}
+use Rattle.std.proofs.Common.{◌≡◌, ◌+◌, ◌≤◌, refl, rules, arith, true, false}
 use Rattle.std.specs.Prelude.{Ok}
 use Rattle.disp_model.specs.declared.limits.TheConstants.{MOST_LINES}
 use Rattle.shared_board.specs.Board.{known}
@@ -26,7 +26,8 @@ returns-in-Ok-true-clause-answered g c =
     let inv = c.loop-read.invariant in
     let is : c.read_next.result ≡ Ok true = search rules in
     let none = c.read_next.ensures.none is in
-    all_read c.args.pass.now c.loop-read.pass c.read_next.new.pass inv.on c.loop-read._read (g.F.Feed.lines c.args.feed.now) (g.F.Feed.lines c.loop-read.feed) inv.read none.0 none.1
+    let few : c.loop-read._read ≤ MOST_LINES = search rules in
+    all_read c.args.pass.now c.loop-read.pass c.read_next.new.pass inv.on c.loop-read._read (g.F.Feed.lines c.args.feed.now) (g.F.Feed.lines c.loop-read.feed) inv.read few none.0 none.1
 
 pub returns-in-Err-clause-answered : goal.returns-in-Err-clause-answered
 returns-in-Err-clause-answered g c =
