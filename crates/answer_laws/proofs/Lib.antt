@@ -1,0 +1,11 @@
+pub mod Problems
+pub mod Tasks
+pub mod Editions
+pub mod Files
+pub mod Taken
+pub mod Judged
+pub mod Checked
+pub mod Searched
+pub mod Causes
+pub mod Answered
+pub mod Runs
