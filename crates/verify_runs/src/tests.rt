@@ -1,3 +1,7 @@
+mod files;
 mod fixed;
 mod judged;
+mod plans;
 mod reported;
+mod runs;
+mod trees;

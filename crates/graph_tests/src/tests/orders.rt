@@ -49,36 +49,38 @@ fn check_refused(
     Ok(())
 }
 
+/// Orders that are added, and refused, from the root on.
+fn check_added(rt: &impl Abort, alloc: Global, graph: &mut Graph) -> Result<(), Fail> {
+    check_arcs(rt, alloc, graph, "0-1:10 2-3:4 ")?;
+    check_refused(rt, alloc, graph, Decision::Skip(op(1, 0)), "no route of 1")?;
+    extend(rt, graph, order(0, 1));
+    check_arcs(rt, alloc, graph, "0-1:10 2-3:4 0-2:10 1-2:0 ")?;
+    check_refused(rt, alloc, graph, order(1, 0), "cycle")?;
+    check_arcs(rt, alloc, graph, "0-1:10 2-3:4 0-2:10 1-2:0 ")
+}
+
 #[test]
 fn orders_are_added_and_refused(rt: HostRuntime) -> Result<(), Fail> {
     let problem = two_trains_until(rt.alloc(), 3)?;
     let mut graph = root(rt.alloc(), &problem)?;
-    check_arcs(&rt, rt.alloc(), &graph, "0-1:10 2-3:4 ")?;
-    check_refused(
-        &rt,
-        rt.alloc(),
-        &mut graph,
-        Decision::Skip(op(1, 0)),
-        "no route of 1",
-    )?;
-    extend(&rt, &mut graph, order(0, 1));
-    check_arcs(&rt, rt.alloc(), &graph, "0-1:10 2-3:4 0-2:10 1-2:0 ")?;
-    check_refused(&rt, rt.alloc(), &mut graph, order(1, 0), "cycle")?;
-    check_arcs(&rt, rt.alloc(), &graph, "0-1:10 2-3:4 0-2:10 1-2:0 ")?;
-    Ok(())
+    check_added(&rt, rt.alloc(), &mut graph)
+}
+
+/// An order that is late, and is taken back, and then the other one.
+fn check_undone(rt: &impl Abort, alloc: Global, graph: &mut Graph) -> Result<(), Fail> {
+    assert_eq!(rt; graph.late(), None);
+    extend(rt, graph, order(0, 1));
+    assert_eq!(rt; graph.late(), Some(op(1, 0)));
+    assert!(rt; graph.decisions().len() > 0);
+    graph.undo();
+    assert_eq!(rt; graph.late(), None);
+    extend(rt, graph, order(1, 0));
+    check_arcs(rt, alloc, graph, "0-1:10 2-3:4 2-0:4 3-0:0 ")
 }
 
 #[test]
 fn the_last_order_is_taken_back(rt: HostRuntime) -> Result<(), Fail> {
     let problem = two_trains_until(rt.alloc(), 3)?;
     let mut graph = root(rt.alloc(), &problem)?;
-    assert_eq!(rt; graph.late(), None);
-    extend(&rt, &mut graph, order(0, 1));
-    assert_eq!(rt; graph.late(), Some(op(1, 0)));
-    assert!(&rt; graph.decisions().len() > 0);
-    graph.undo();
-    assert_eq!(rt; graph.late(), None);
-    extend(&rt, &mut graph, order(1, 0));
-    check_arcs(&rt, rt.alloc(), &graph, "0-1:10 2-3:4 2-0:4 3-0:0 ")?;
-    Ok(())
+    check_undone(&rt, rt.alloc(), &mut graph)
 }

@@ -1,4 +1,0 @@
-mod files;
-mod plans;
-mod runs;
-mod trees;
