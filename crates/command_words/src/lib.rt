@@ -12,6 +12,3 @@ mod texts;
 
 pub use read::{WordsNo, read_words};
 pub use task::{JudgeTask, MakeTask, RollTask, SolveTask, Task};
-
-#[cfg(test)]
-mod tests;

@@ -1,5 +1,5 @@
 // Words are read as clap reads them.
-use crate::{JudgeTask, Task, WordsNo, read_words};
+use command_words::{JudgeTask, Task, WordsNo, read_words};
 use disp_model::{List, Rule, Text};
 use std::alloc::Global;
 use std::process::Abort;
