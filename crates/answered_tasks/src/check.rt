@@ -42,6 +42,7 @@ fn check_with<S: Shelf>(
         (S.reading_faults shelf.old) (S.reading_faults shelf.new) (S.putting_faults shelf.old)
         (S.putting_faults shelf.new) (S.holds shelf.old) (S.holds shelf.new)
         (IsErrAnd result IsReadingFault) }
+    ensures feeds { S.open_feeds shelf.new ≡ S.open_feeds shelf.old }
 {
     match given_plan(alloc, shelf, plan) {
         Ok(plan) => judge_tree(alloc, problem, fixings, verdict, tree, plan),
@@ -71,6 +72,7 @@ fn check_tree<S: Shelf>(
         (S.reading_faults shelf.old) (S.reading_faults shelf.new) (S.putting_faults shelf.old)
         (S.putting_faults shelf.new) (S.holds shelf.old) (S.holds shelf.new)
         (IsErrAnd result IsReadingFault) }
+    ensures feeds { S.open_feeds shelf.new ≡ S.open_feeds shelf.old }
 {
     match tree_file(alloc, shelf, edition, tree.as_str()) {
         Ok((verdict, tree)) => check_with(alloc, shelf, problem, fixings, verdict, &tree, plan),
@@ -101,6 +103,7 @@ fn check_files<S: Shelf>(
         (S.reading_faults shelf.old) (S.reading_faults shelf.new) (S.putting_faults shelf.old)
         (S.putting_faults shelf.new) (S.holds shelf.old) (S.holds shelf.new)
         (IsErrAnd result IsReadingFault) }
+    ensures feeds { S.open_feeds shelf.new ≡ S.open_feeds shelf.old }
 {
     match editions_of(alloc, shelf, problem, fixings) {
         Ok(mut editions) => {
@@ -142,6 +145,7 @@ pub(crate) fn run_check<S: Shelf>(
         (S.reading_faults shelf.old) (S.reading_faults shelf.new) (S.putting_faults shelf.old)
         (S.putting_faults shelf.new) (S.holds shelf.old) (S.holds shelf.new)
         (IsErrAnd result IsReadingFault) }
+    ensures feeds { S.open_feeds shelf.new ≡ S.open_feeds shelf.old }
 {
     match problem_file(alloc, shelf, problem.as_str()) {
         Ok(problem) => check_files(alloc, shelf, &problem, fixings, tree, plan),

@@ -1,4 +1,4 @@
-ghost use Rattle.std.specs.Prelude.{◌≡◌, ◌≤◌, ◌<◌, ◌≢◌, ◌↔◌, false, IfOk, IfErr, IfSome, IsErrAnd, MatchOption, MatchResult, Err, Some, [], option_map};
+ghost use Rattle.std.specs.Prelude.{◌≡◌, ◌≤◌, ◌<◌, ◌≢◌, ◌↔◌, ◌+◌, false, IfOk, IfErr, OnOk, OnErr, IfSome, IsErrAnd, MatchOption, MatchResult, Err, Some, [], option_map};
 ghost use Rattle.disp_outside.specs.Lines.{HasLinesOf};
 ghost use Rattle.fixing_files.specs.Files.{AskInTurn, TakesInTurn};
 ghost use Rattle.displib_reader.specs.Outcome.{IsReadAs};
@@ -27,6 +27,7 @@ fn fetch<S: Shelf>(alloc: Global, shelf: &mut S, which: Input, name: &str) -> Re
     ensures reads { ReadsOne name.now (S.reading_faults shelf.old) (S.reading_faults shelf.new)
         (S.putting_faults shelf.old) (S.putting_faults shelf.new) (S.holds shelf.old)
         (S.holds shelf.new) (result ≡ Err (Failed which)) }
+    ensures feeds { S.open_feeds shelf.new ≡ S.open_feeds shelf.old }
 {
     match shelf.fetch(alloc, name, MOST_FILE_BYTES) {
         Ok(bytes) => Ok(bytes),
@@ -73,6 +74,7 @@ pub fn problem_file<S: Shelf>(alloc: Global, shelf: &mut S, name: &str) -> Resul
     ensures reads { ReadsOne name.now (S.reading_faults shelf.old) (S.reading_faults shelf.new)
         (S.putting_faults shelf.old) (S.putting_faults shelf.new) (S.holds shelf.old)
         (S.holds shelf.new) (IsErrAnd result IsReadingFault) }
+    ensures feeds { S.open_feeds shelf.new ≡ S.open_feeds shelf.old }
 {
     let bytes = fetch(alloc, shelf, Input::Problem, name)?;
     problem_of(alloc, &bytes)
@@ -91,6 +93,7 @@ pub(crate) fn solution_file<S: Shelf>(
     ensures reads { ReadsOne name.now (S.reading_faults shelf.old) (S.reading_faults shelf.new)
         (S.putting_faults shelf.old) (S.putting_faults shelf.new) (S.holds shelf.old)
         (S.holds shelf.new) (IsErrAnd result IsReadingFault) }
+    ensures feeds { S.open_feeds shelf.new ≡ S.open_feeds shelf.old }
 {
     let bytes = fetch(alloc, shelf, Input::Solution, name)?;
     solution_of(alloc, &bytes)
@@ -158,6 +161,8 @@ fn open<S: Shelf>(alloc: Global, shelf: &mut S, name: &str) -> Result<S::Feed, C
     ensures reads { ReadsOne name.now (S.reading_faults shelf.old) (S.reading_faults shelf.new)
         (S.putting_faults shelf.old) (S.putting_faults shelf.new) (S.holds shelf.old)
         (S.holds shelf.new) (result ≡ Err (Failed Input.Fixings)) }
+    ensures opened { OnOk result (S.open_feeds shelf.new ≡ S.open_feeds shelf.old + 1) }
+    ensures unopened { OnErr result (S.open_feeds shelf.new ≡ S.open_feeds shelf.old) }
 {
     match shelf.feed(alloc, name) {
         Ok(feed) => Ok(feed),
@@ -181,6 +186,7 @@ pub(crate) fn fixings_file<S: Shelf>(
     ensures reads { ReadsOne name.now (S.reading_faults shelf.old) (S.reading_faults shelf.new)
         (S.putting_faults shelf.old) (S.putting_faults shelf.new) (S.holds shelf.old)
         (S.holds shelf.new) (IsErrAnd result IsReadingFault) }
+    ensures feeds { S.open_feeds shelf.new ≡ S.open_feeds shelf.old }
 {
     let mut feed = open(alloc, shelf, name)?;
     let editions = take(alloc, problem, &mut feed);
@@ -203,6 +209,7 @@ fn asked_file<S: Shelf>(
     ensures reads { ReadsOne name.now (S.reading_faults shelf.old) (S.reading_faults shelf.new)
         (S.putting_faults shelf.old) (S.putting_faults shelf.new) (S.holds shelf.old)
         (S.holds shelf.new) (IsErrAnd result IsReadingFault) }
+    ensures feeds { S.open_feeds shelf.new ≡ S.open_feeds shelf.old }
 {
     let mut feed = open(alloc, shelf, name)?;
     let read = take_asked(alloc, problem, &mut feed);
@@ -229,6 +236,7 @@ pub(crate) fn asked_of<S: Shelf>(
         (S.reading_faults shelf.old) (S.reading_faults shelf.new) (S.putting_faults shelf.old)
         (S.putting_faults shelf.new) (S.holds shelf.old) (S.holds shelf.new)
         (IsErrAnd result IsReadingFault) }
+    ensures feeds { S.open_feeds shelf.new ≡ S.open_feeds shelf.old }
 {
     match name {
         Some(name) => asked_file(alloc, shelf, problem, name.as_str()),
@@ -253,6 +261,7 @@ pub(crate) fn editions_of<S: Shelf>(
         (S.reading_faults shelf.old) (S.reading_faults shelf.new) (S.putting_faults shelf.old)
         (S.putting_faults shelf.new) (S.holds shelf.old) (S.holds shelf.new)
         (IsErrAnd result IsReadingFault) }
+    ensures feeds { S.open_feeds shelf.new ≡ S.open_feeds shelf.old }
 {
     match name {
         Some(name) => fixings_file(alloc, shelf, problem, name.as_str()),
@@ -309,6 +318,7 @@ pub(crate) fn tree_file<S: Shelf>(
     ensures reads { ReadsOne name.now (S.reading_faults shelf.old) (S.reading_faults shelf.new)
         (S.putting_faults shelf.old) (S.putting_faults shelf.new) (S.holds shelf.old)
         (S.holds shelf.new) (IsErrAnd result IsReadingFault) }
+    ensures feeds { S.open_feeds shelf.new ≡ S.open_feeds shelf.old }
 {
     let bytes = fetch(alloc, shelf, Input::Tree, name)?;
     tree_of(alloc, edition, &bytes)
@@ -339,6 +349,7 @@ fn plan_file<S: Shelf>(
     ensures reads { ReadsOne name.now (S.reading_faults shelf.old) (S.reading_faults shelf.new)
         (S.putting_faults shelf.old) (S.putting_faults shelf.new) (S.holds shelf.old)
         (S.holds shelf.new) (IsErrAnd result IsReadingFault) }
+    ensures feeds { S.open_feeds shelf.new ≡ S.open_feeds shelf.old }
 {
     let bytes = fetch(alloc, shelf, Input::Plan, name)?;
     plan_of(alloc, &bytes)
@@ -359,6 +370,7 @@ pub(crate) fn given_plan<S: Shelf>(
         (S.reading_faults shelf.old) (S.reading_faults shelf.new) (S.putting_faults shelf.old)
         (S.putting_faults shelf.new) (S.holds shelf.old) (S.holds shelf.new)
         (IsErrAnd result IsReadingFault) }
+    ensures feeds { S.open_feeds shelf.new ≡ S.open_feeds shelf.old }
 {
     let Some(name) = name else {
         return Ok(None);

@@ -31,6 +31,7 @@ fn publish<S: Shelf, O: Sink>(alloc: Global, shelf: &mut S, out: &mut O, answer:
         (S.putting_faults shelf.old) (S.putting_faults shelf.new) name }
     ensures readings { (name : List ℕ) → S.reading_faults shelf.new name
         ≡ S.reading_faults shelf.old name }
+    ensures feeds { S.open_feeds shelf.new ≡ S.open_feeds shelf.old }
 {
     match put_all(alloc, shelf, answer.puts.as_slice()) {
         Ok(()) => finish(out, answer.lines.as_slice(), answer.status),
@@ -72,6 +73,7 @@ pub fn answer<R: Threads + Wait + Sync, S: Shelf, O: Sink, G: Gate>(
         (O.faults out.old) (O.written out.old))
         (outside (S.holds shelf.new) (S.reading_faults shelf.new) (S.putting_faults shelf.new)
         (O.faults out.new) (O.written out.new)) result.status result.journal.items }
+    ensures feeds { S.open_feeds shelf.new ≡ S.open_feeds shelf.old }
 {
     match run(rt, alloc, read, shelf, gate) {
         Ok(answer) => {

@@ -53,6 +53,7 @@ fn solve_with<R: Threads + Wait + Sync, S: Shelf, G: Gate>(
         (S.reading_faults shelf.old) (S.reading_faults shelf.new) (S.putting_faults shelf.old)
         (S.putting_faults shelf.new) (S.holds shelf.old) (S.holds shelf.new)
         (IsErrAnd result IsReadingFault) }
+    ensures feeds { S.open_feeds shelf.new ≡ S.open_feeds shelf.old }
 {
     match asked_of(alloc, shelf, problem, task.fixings.as_ref()) {
         Ok(asked) => solve(rt, alloc, problem, asked.as_slice(), task, gate),
@@ -77,6 +78,7 @@ fn run_solve<R: Threads + Wait + Sync, S: Shelf, G: Gate>(
         (S.reading_faults shelf.old) (S.reading_faults shelf.new) (S.putting_faults shelf.old)
         (S.putting_faults shelf.new) (S.holds shelf.old) (S.holds shelf.new)
         (IsErrAnd result IsReadingFault) }
+    ensures feeds { S.open_feeds shelf.new ≡ S.open_feeds shelf.old }
 {
     match problem_file(alloc, shelf, task.problem.as_str()) {
         Ok(problem) => solve_with(rt, alloc, shelf, &problem, task, gate),
@@ -102,6 +104,7 @@ fn judge_file<S: Shelf>(
     ensures reads { ReadsOne solution.now (S.reading_faults shelf.old) (S.reading_faults shelf.new)
         (S.putting_faults shelf.old) (S.putting_faults shelf.new) (S.holds shelf.old)
         (S.holds shelf.new) (IsErrAnd result IsReadingFault) }
+    ensures feeds { S.open_feeds shelf.new ≡ S.open_feeds shelf.old }
 {
     let (plan, stated) = solution_file(alloc, shelf, solution)?;
     Ok(judge(alloc, problem, fixings, &plan, stated, telling)?)
@@ -126,6 +129,7 @@ fn judge_with<S: Shelf>(
         (S.reading_faults shelf.old)
         (S.reading_faults shelf.new) (S.putting_faults shelf.old) (S.putting_faults shelf.new)
         (S.holds shelf.old) (S.holds shelf.new) (IsErrAnd result IsReadingFault) }
+    ensures feeds { S.open_feeds shelf.new ≡ S.open_feeds shelf.old }
 {
     match fixings_file(alloc, shelf, problem, name.as_str()) {
         Ok(mut editions) => judge_file(
@@ -161,6 +165,7 @@ fn judge_files<S: Shelf>(
         (S.reading_faults shelf.old) (S.reading_faults shelf.new) (S.putting_faults shelf.old)
         (S.putting_faults shelf.new) (S.holds shelf.old) (S.holds shelf.new)
         (IsErrAnd result IsReadingFault) }
+    ensures feeds { S.open_feeds shelf.new ≡ S.open_feeds shelf.old }
 {
     match fixings {
         Some(name) => judge_with(alloc, shelf, problem, name, solution, telling),
@@ -185,6 +190,7 @@ fn run_judge<S: Shelf>(
         (S.reading_faults shelf.old) (S.reading_faults shelf.new) (S.putting_faults shelf.old)
         (S.putting_faults shelf.new) (S.holds shelf.old) (S.holds shelf.new)
         (IsErrAnd result IsReadingFault) }
+    ensures feeds { S.open_feeds shelf.new ≡ S.open_feeds shelf.old }
 {
     match problem_file(alloc, shelf, task.problem.as_str()) {
         Ok(problem) => {
@@ -225,6 +231,7 @@ fn run_task<R: Threads + Wait + Sync, S: Shelf, G: Gate>(
     ensures puttings { (name : List ℕ) → S.putting_faults shelf.new name
         ≡ S.putting_faults shelf.old name }
     ensures held { (name : List ℕ) → S.holds shelf.new name ≡ S.holds shelf.old name }
+    ensures feeds { S.open_feeds shelf.new ≡ S.open_feeds shelf.old }
 {
     match task {
         Task::Solve(task) => run_solve(rt, alloc, shelf, task, gate),
@@ -265,6 +272,7 @@ pub(crate) fn run<R: Threads + Wait + Sync, S: Shelf, G: Gate>(
     ensures puttings { (name : List ℕ) → S.putting_faults shelf.new name
         ≡ S.putting_faults shelf.old name }
     ensures held { (name : List ℕ) → S.holds shelf.new name ≡ S.holds shelf.old name }
+    ensures feeds { S.open_feeds shelf.new ≡ S.open_feeds shelf.old }
 {
     match task_of(read) {
         Ok(task) => run_task(rt, alloc, shelf, &task, gate),

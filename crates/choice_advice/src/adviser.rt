@@ -5,8 +5,8 @@ use crate::clashes::{By, Clash, first_clash};
 use crate::course::Course;
 use crate::facts::Facts;
 use crate::forks::{Fork, Forks};
-use crate::holders::Holders;
-use crate::layers::{first_crossing, has_layers};
+use crate::holders::{Holder, Holders, Moved};
+use crate::layers::{Crossings, has_layers};
 use crate::links::Links;
 use crate::listed::listings_of;
 use crate::seeker::Seeker;
@@ -63,15 +63,29 @@ pub struct Adviser {
     found: Found,
 }
 
-/// What an adviser has found of forks, and room for looks at ways.
+/// What an adviser has found of forks and of crossings, and room for looks at ways.
 #[derive(Drop)]
 struct Found {
     forks: Forks,
+    crossings: Crossings,
     ways: Ways,
     seeker: Seeker,
 }
 
 impl Found {
+    /// Notes what is to be looked at again of a holder of a resource of which some have moved.
+    fn note_moved(&mut self, moved: &Moved, holder: &Holder) {
+        if holder.forced {
+            return;
+        }
+        if moved.forced.meets(holder) {
+            self.forks.forget_before(holder.train, holder.number);
+        }
+        if moved.span.meets(holder) {
+            self.crossings.forget_at(holder.train, holder.number);
+        }
+    }
+
     /// The fork that comes first.
     fn first_fork(&mut self, view: View) -> Option<Fork>
         requires { view.graph.now.problem ≡ view.problem.now }
@@ -109,7 +123,7 @@ fn by_toll(view: View, found: &mut Found, layered: &[bool]) -> Option<Advice>
     if let Some(clash) = first_clash(view, &mut found.seeker, By::Toll, fork.is_some()) {
         return order_of(view.facts, clash, fork);
     }
-    if let Some(crossing) = first_crossing(view, layered) {
+    if let Some(crossing) = found.crossings.first(view, layered) {
         return Some(Advice::Run(view.facts.op(crossing.number)));
     }
     let fork = found.first_fork(view)?;
@@ -156,7 +170,8 @@ impl Adviser {
             holders: Holders::of(alloc, problem)?,
             layered,
             found: Found {
-                forks: Forks::new(alloc, trains)?,
+                forks: Forks::new(alloc, count, trains)?,
+                crossings: Crossings::new(alloc, count, trains)?,
                 ways: Ways::new(alloc, count)?,
                 seeker: Seeker::new(alloc, count)?,
             },
@@ -213,6 +228,7 @@ impl Adviser {
         self.spots
             .look_at(&self.facts, routes, graph.paths(), train)?;
         self.found.forks.forget(train);
+        self.found.crossings.forget(train);
         let layers = has_layers(&self.spots, routes, self.facts.first(train));
         if let Some(layered) = self.layered.get_mut(train as usize) {
             *layered = layers;
@@ -224,13 +240,11 @@ impl Adviser {
     /// are then to be looked at.
     fn look_at_holders(&mut self) -> Result<(), Memory> {
         for _ in 0..u64::MAX {
-            let Some(holders) = self.holders.look_at_next()? else {
+            let Some(moved) = self.holders.look_at_next()? else {
                 return Ok(());
             };
-            for holder in holders {
-                if !holder.forced {
-                    self.found.forks.forget(holder.train);
-                }
+            for holder in moved.holders {
+                self.found.note_moved(&moved, holder);
             }
         }
         Ok(())

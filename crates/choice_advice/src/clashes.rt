@@ -1,6 +1,6 @@
 use crate::meetings::Meeting;
 use crate::seeker::Seeker;
-use crate::tolls::toll;
+use crate::tolls::{most_toll, toll};
 use crate::view::View;
 
 /// For how many clashes at most it is asked at a node whether an order of theirs closes a cycle.
@@ -91,10 +91,8 @@ fn is_asked(view: View, seeker: &mut Seeker, one: u32, other: u32) -> bool {
 
 /// What it costs more that an operation starts only at a time; none where that is less than what is
 /// known.
-fn toll_above(view: View, known: u64, number: u32, start: u64, time: u64) -> Option<u64> {
-    let late = time.saturating_sub(start);
-    let train = view.facts.op(number).train;
-    if view.facts.most(train, late) < known {
+fn toll_above(view: View, known: u64, number: u32, time: u64) -> Option<u64> {
+    if most_toll(view.spots, number, time) < known {
         return None;
     }
     let toll = toll(view.facts, view.spots, number, time);
@@ -122,17 +120,11 @@ impl Looking {
             Some(clash) => clash.toll,
             None => 0,
         };
-        let Meeting {
-            one,
-            one_start,
-            one_until,
-            other,
-            other_start,
-            other_until,
-            ..
-        } = *meeting;
-        let there = toll_above(view, known, other, other_start, one_until)?;
-        let back = toll_above(view, known, one, one_start, other_until)?;
+        if most_toll(view.spots, meeting.one, meeting.other_until) < known {
+            return None;
+        }
+        let there = toll_above(view, known, meeting.other, meeting.one_until)?;
+        let back = toll_above(view, known, meeting.one, meeting.other_until)?;
         Some(there.min(back))
     }
 

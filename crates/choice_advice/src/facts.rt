@@ -16,25 +16,43 @@ struct Fact {
 pub(crate) struct Facts {
     each: Vec<Fact>,
     firsts: Vec<u32>,
-    ceilings: Vec<Ceiling>,
 }
 
-/// How much more the components of a train may cost that is late.
+/// How much more operations may cost that start later.
 #[derive(Clone, Copy)]
-struct Ceiling {
-    /// Whether some operation may not start at any time from its lower on.
-    closes: bool,
+pub(crate) struct Most {
     coeffs: u64,
     increments: u64,
+    /// How much later all of them may start.
+    slack: u64,
 }
 
-impl Ceiling {
-    /// No operation and no component.
-    const NOTHING: Ceiling = Ceiling {
-        closes: false,
+impl Most {
+    /// Of no operation.
+    pub(crate) const NOTHING: Most = Most {
         coeffs: 0,
         increments: 0,
+        slack: u64::MAX,
     };
+
+    /// Of these and others.
+    pub(crate) fn with(&self, other: &Most) -> Most {
+        Most {
+            coeffs: self.coeffs.saturating_add(other.coeffs),
+            increments: self.increments.saturating_add(other.increments),
+            slack: self.slack.min(other.slack),
+        }
+    }
+
+    /// How much more they cost at most where none is later by more than this.
+    pub(crate) fn of(&self, late: u64) -> u64 {
+        if late > self.slack {
+            return u64::MAX;
+        }
+        self.coeffs
+            .saturating_mul(late)
+            .saturating_add(self.increments)
+    }
 }
 
 /// What the problem says of an operation, but for the costs.
@@ -49,19 +67,6 @@ fn fact_of(alloc: Global, op: Op, operation: &Operation) -> Fact {
         min: u64::from(operation.min),
         components: List::new(alloc),
     }
-}
-
-/// What a train of these operations may cost more, but for the costs.
-fn ceiling_of(operations: &[Operation]) -> Ceiling {
-    for operation in operations {
-        if operation.upper.is_some() {
-            return Ceiling {
-                closes: true,
-                ..Ceiling::NOTHING
-            };
-        }
-    }
-    Ceiling::NOTHING
 }
 
 /// What a component costs where its operation starts at a time.
@@ -80,13 +85,11 @@ impl Facts {
         let mut facts = Facts {
             each: Vec::new(alloc),
             firsts: Vec::new(alloc),
-            ceilings: Vec::new(alloc),
         };
         let mut train = 0u32;
         let mut number = 0u32;
         for operations in problem.trains.as_slice() {
             facts.firsts.push(number)?;
-            facts.ceilings.push(ceiling_of(operations.as_slice()))?;
             let mut op = 0u32;
             for operation in operations.as_slice() {
                 facts
@@ -103,13 +106,8 @@ impl Facts {
         Ok(facts)
     }
 
-    /// Keeps a component with its operation and its train.
+    /// Keeps a component with its operation.
     fn keep(&mut self, component: Component) -> Result<(), Memory> {
-        if let Some(ceiling) = self.ceilings.get_mut(component.train as usize) {
-            ceiling.coeffs = ceiling.coeffs.saturating_add(u64::from(component.coeff));
-            let increment = u64::from(component.increment);
-            ceiling.increments = ceiling.increments.saturating_add(increment);
-        }
         let number = self
             .first(component.train)
             .saturating_add(component.operation);
@@ -119,15 +117,21 @@ impl Facts {
         Ok(())
     }
 
-    /// How much more a train may cost at most that is so much later than before.
-    pub(crate) fn most(&self, train: u32, late: u64) -> u64 {
-        match self.ceilings.get(train as usize) {
-            Some(ceiling) if !ceiling.closes => ceiling
-                .coeffs
-                .saturating_mul(late)
-                .saturating_add(ceiling.increments),
-            _ => u64::MAX,
+    /// How much more an operation may cost that starts later than at a time.
+    pub(crate) fn most_at(&self, number: u32, start: u64) -> Most {
+        let Some(fact) = self.each.get(number as usize) else {
+            return Most::NOTHING;
+        };
+        let mut most = Most::NOTHING;
+        if let Some(upper) = fact.upper {
+            most.slack = upper.saturating_sub(start);
         }
+        for component in fact.components.as_slice() {
+            let increment = u64::from(component.increment);
+            most.coeffs = most.coeffs.saturating_add(u64::from(component.coeff));
+            most.increments = most.increments.saturating_add(increment);
+        }
+        most
     }
 
     /// Whether it matters when an operation starts: it costs something, or has an upper.

@@ -81,81 +81,184 @@ fn fork_at(
     fork
 }
 
-/// The first fork of a train.
-fn first_in_train(
-    view: View,
-    seeker: &mut Seeker,
-    ways: &mut Ways,
-    routes: &Routes,
-    first: u32,
-) -> Option<Fork> {
-    let mut found = None;
-    let Some(entry) = routes.order().last() else {
-        return found;
+/// A fork that was looked at, and how often its train had been looked at again by then.
+#[derive(Clone, Copy)]
+struct Looked {
+    fork: Option<Fork>,
+    turn: u64,
+}
+
+impl Looked {
+    /// Nothing was looked at.
+    const NOTHING: Looked = Looked {
+        fork: None,
+        turn: 0,
     };
-    let mut number = first.saturating_add(*entry);
-    for _ in routes.order() {
-        let Some(next) = view.spots.at(number).next else {
-            return found;
-        };
-        if routes.only_next(number.saturating_sub(first)).is_none() {
-            let parting = Parting {
-                first,
-                fork: number,
-                join: next,
-            };
-            found = first_of(found, fork_at(view, seeker, ways, routes, parting));
-        }
-        number = next;
-    }
-    found
 }
 
 /// What is known of a train's forks.
 #[derive(Clone, Copy)]
-enum Known {
-    /// They are to be looked at.
-    Stale,
-    /// The one that comes first, if there is one.
-    First(Option<Fork>),
+struct Known {
+    /// Whether the one that comes first is known.
+    current: bool,
+    /// It, if there is one.
+    first: Option<Fork>,
+    /// How often the train was looked at again.
+    turn: u64,
 }
 
-/// The first forks of the trains, as far as they are known.
+/// The forks of the trains, as far as they are known.
 #[derive(Drop)]
 pub(crate) struct Forks {
-    each: Vec<Known>,
+    trains: Vec<Known>,
+    /// Of each operation what was found of the fork there.
+    looked: Vec<Looked>,
+    /// Of each operation the number of the fork from which one way begins with it.
+    before: Vec<u32>,
 }
 
 impl Forks {
-    /// The forks of so many trains, of which nothing is known.
-    pub(crate) fn new(alloc: Global, trains: usize) -> Result<Forks, Memory> {
-        let mut each = Vec::with_capacity(alloc, trains)?;
+    /// The forks of so many operations of so many trains, of which nothing is known.
+    pub(crate) fn new(alloc: Global, count: usize, trains: usize) -> Result<Forks, Memory> {
+        let mut forks = Forks {
+            trains: Vec::with_capacity(alloc, trains)?,
+            looked: Vec::with_capacity(alloc, count)?,
+            before: Vec::with_capacity(alloc, count)?,
+        };
         for _ in 0..trains {
-            each.push(Known::Stale)?;
+            forks.trains.push(Known {
+                current: false,
+                first: None,
+                turn: 0,
+            })?;
         }
-        Ok(Forks { each })
+        for number in 0..count {
+            forks.looked.push(Looked::NOTHING)?;
+            forks
+                .before
+                .push(u32::try_from(number).unwrap_or(u32::MAX))?;
+        }
+        Ok(forks)
     }
 
-    /// Notes that a train's forks are to be looked at again.
+    /// Notes that all forks of a train are to be looked at again.
     pub(crate) fn forget(&mut self, train: u32) {
-        if let Some(known) = self.each.get_mut(train as usize) {
-            *known = Known::Stale;
+        if let Some(known) = self.trains.get_mut(train as usize) {
+            known.current = false;
+            known.turn = known.turn.saturating_add(1);
         }
     }
 
-    /// The first fork of a train, if it is known.
-    fn at(&self, train: u32) -> Known {
-        match self.each.get(train as usize) {
+    /// Notes that the fork of a train is to be looked at again from which one way begins with an
+    /// operation.
+    pub(crate) fn forget_before(&mut self, train: u32, number: u32) {
+        if let Some(known) = self.trains.get_mut(train as usize) {
+            known.current = false;
+        }
+        let Some(before) = self.before.get(number as usize) else {
+            return;
+        };
+        if let Some(looked) = self.looked.get_mut(*before as usize) {
+            looked.fork = None;
+        }
+    }
+
+    /// What is known of a train's forks.
+    fn of_train(&self, train: u32) -> Known {
+        match self.trains.get(train as usize) {
             Some(known) => *known,
-            None => Known::Stale,
+            None => Known {
+                current: false,
+                first: None,
+                turn: 0,
+            },
         }
     }
 
     /// Keeps the first fork of a train.
     fn keep(&mut self, train: u32, fork: Option<Fork>) {
-        if let Some(known) = self.each.get_mut(train as usize) {
-            *known = Known::First(fork);
+        if let Some(known) = self.trains.get_mut(train as usize) {
+            known.current = true;
+            known.first = fork;
         }
+    }
+
+    /// What was found of a fork, if its train was not looked at again since.
+    fn found(&self, number: u32, turn: u64) -> Option<Fork> {
+        let looked = self.looked.get(number as usize)?;
+        if looked.turn == turn {
+            looked.fork
+        } else {
+            None
+        }
+    }
+
+    /// Keeps what was found of a fork, whose ways begin with these operations.
+    fn keep_fork(&mut self, fork: Fork, turn: u64, first: u32, next: &[u32]) {
+        for op in next {
+            let number = first.saturating_add(*op);
+            if let Some(before) = self.before.get_mut(number as usize) {
+                *before = fork.number;
+            }
+        }
+        if let Some(looked) = self.looked.get_mut(fork.number as usize) {
+            *looked = Looked {
+                fork: Some(fork),
+                turn,
+            };
+        }
+    }
+
+    /// A fork, by what is known of it or by a look at each of its ways.
+    fn at(
+        &mut self,
+        view: View,
+        seeker: &mut Seeker,
+        ways: &mut Ways,
+        routes: &Routes,
+        parting: Parting,
+        turn: u64,
+    ) -> Fork {
+        if let Some(fork) = self.found(parting.fork, turn) {
+            return fork;
+        }
+        let fork = fork_at(view, seeker, ways, routes, parting);
+        let row = view.spots.at(parting.fork).row as usize;
+        if let Some(next) = routes.rows().get(row) {
+            self.keep_fork(fork, turn, parting.first, next.as_slice());
+        }
+        fork
+    }
+
+    /// The first fork of a train.
+    fn first_in_train(
+        &mut self,
+        view: View,
+        seeker: &mut Seeker,
+        ways: &mut Ways,
+        routes: &Routes,
+        train: u32,
+    ) -> Option<Fork> {
+        let first = view.facts.first(train);
+        let turn = self.of_train(train).turn;
+        let mut found = None;
+        let mut number = first.saturating_add(*routes.order().last()?);
+        for _ in routes.order() {
+            let Some(next) = view.spots.at(number).next else {
+                return found;
+            };
+            if routes.only_next(number.saturating_sub(first)).is_none() {
+                let parting = Parting {
+                    first,
+                    fork: number,
+                    join: next,
+                };
+                let fork = self.at(view, seeker, ways, routes, parting, turn);
+                found = first_of(found, fork);
+            }
+            number = next;
+        }
+        found
     }
 
     /// The fork that comes first.
@@ -164,15 +267,14 @@ impl Forks {
     {
         let mut found = None;
         for train in 0..view.problem.trains.len() as u32 {
-            let fork = match self.at(train) {
-                Known::First(fork) => fork,
-                Known::Stale => {
-                    let routes = view.graph.routes(train);
-                    let first = view.facts.first(train);
-                    let fork = first_in_train(view, seeker, ways, routes, first);
-                    self.keep(train, fork);
-                    fork
-                }
+            let known = self.of_train(train);
+            let fork = if known.current {
+                known.first
+            } else {
+                let routes = view.graph.routes(train);
+                let fork = self.first_in_train(view, seeker, ways, routes, train);
+                self.keep(train, fork);
+                fork
             };
             if let Some(fork) = fork {
                 found = first_of(found, fork);

@@ -2,6 +2,7 @@ use crate::meetings::Meeting;
 use crate::spots::{NEVER, Spot};
 use disp_model::{Listing, Memory, Problem};
 use std::alloc::Global;
+use std::mem;
 
 /// An operation that lists a resource, and what a node says of it.
 #[derive(Clone, Copy)]
@@ -23,6 +24,47 @@ impl Holder {
     }
 }
 
+/// A time in which holders of a resource were moved, from one beginning to one end.
+#[derive(Clone, Copy)]
+pub(crate) struct Span {
+    from: u64,
+    until: u64,
+}
+
+impl Span {
+    /// No time.
+    const NOTHING: Span = Span {
+        from: NEVER,
+        until: 0,
+    };
+
+    /// Takes in the time in which a holder keeps others out.
+    fn take_in(&mut self, holder: &Holder) {
+        self.from = self.from.min(holder.start);
+        self.until = self.until.max(holder.until());
+    }
+
+    /// Whether there is such a time.
+    fn is_some(&self) -> bool {
+        self.from < self.until
+    }
+
+    /// Whether a holder keeps others out, or is kept out, in that time.
+    pub(crate) fn meets(&self, holder: &Holder) -> bool {
+        holder.start < self.until && self.from < holder.until()
+    }
+}
+
+/// The holders of a resource of which some have moved.
+#[derive(Clone, Copy)]
+pub(crate) struct Moved<'a> {
+    pub holders: &'a [Holder],
+    /// When those were held, before or now, that have moved.
+    pub span: Span,
+    /// The same of those alone that are forced, before or now.
+    pub forced: Span,
+}
+
 /// How many meetings on a resource are kept at most.
 const MOST_KEPT: usize = 512;
 
@@ -33,6 +75,9 @@ pub(crate) struct Resource {
     meetings: Vec<Meeting>,
     /// Whether it is to be looked at again.
     stale: bool,
+    /// When holders have moved since it was looked at, and when forced ones have.
+    span: Span,
+    forced: Span,
 }
 
 /// The operations that list each resource. Only resources of which a holder has moved are looked at
@@ -88,6 +133,18 @@ fn place_of(holders: &[Holder], number: u32) -> Option<usize> {
     holders.iter().position(|holder| holder.number == number)
 }
 
+/// Notes when a holder was held before, and when it is now.
+fn note_move(span: &mut Span, forced: &mut Span, before: &Holder, now: &Holder) {
+    span.take_in(before);
+    span.take_in(now);
+    if before.forced {
+        forced.take_in(before);
+    }
+    if now.forced {
+        forced.take_in(now);
+    }
+}
+
 impl Resource {
     /// The operations that list it, as they start.
     pub(crate) fn holders(&self) -> &[Holder] {
@@ -131,17 +188,29 @@ impl Resource {
             return;
         };
         if let Some(holder) = holders.get_mut(place) {
+            let before = *holder;
             holder.forced = spot.forced;
             holder.start = spot.start;
             holder.end = spot.end;
+            note_move(&mut self.span, &mut self.forced, &before, holder);
         }
         sink(holders, place);
         rise(holders, place);
     }
 
+    /// When its holders have moved since it was asked last.
+    fn take_moved(&mut self) -> Moved {
+        let span = mem::replace(&mut self.span, Span::NOTHING);
+        let forced = mem::replace(&mut self.forced, Span::NOTHING);
+        Moved {
+            holders: self.holders.as_slice(),
+            span,
+            forced,
+        }
+    }
+
     /// Looks again at how its holders meet.
     fn look(&mut self) -> Result<(), Memory> {
-        self.stale = false;
         self.meetings.clear();
         for place in 0..self.holders.len() {
             self.meet_from(place)?;
@@ -159,6 +228,8 @@ impl Holders {
                 holders: Vec::new(alloc),
                 meetings: Vec::new(alloc),
                 stale: false,
+                span: Span::NOTHING,
+                forced: Span::NOTHING,
             })?;
         }
         let stale = Vec::with_capacity(alloc, each.len())?;
@@ -206,16 +277,20 @@ impl Holders {
         Ok(())
     }
 
-    /// Looks again at a resource of which a holder has moved, and gives its holders.
-    pub(crate) fn look_at_next(&mut self) -> Result<Option<&[Holder]>, Memory> {
+    /// Gives a resource of which a holder has moved, and looks again at how its holders meet where a
+    /// forced one has.
+    pub(crate) fn look_at_next(&mut self) -> Result<Option<Moved>, Memory> {
         let Some(number) = self.stale.pop() else {
             return Ok(None);
         };
         let Some(resource) = self.each.get_mut(number as usize) else {
-            return Ok(Some(&[]));
+            return Ok(None);
         };
-        resource.look()?;
-        Ok(Some(resource.holders()))
+        resource.stale = false;
+        if resource.forced.is_some() {
+            resource.look()?;
+        }
+        Ok(Some(resource.take_moved()))
     }
 
     /// Each resource.

@@ -4,7 +4,9 @@ use crate::holders::Holder;
 use crate::listed::listings_of;
 use crate::spots::{NEVER, Spot, Spots};
 use crate::view::View;
+use disp_model::Memory;
 use route_sets::Routes;
+use std::alloc::Global;
 
 /// How often a forced operation counts, where others count once.
 const FORCED: u64 = 8;
@@ -72,42 +74,163 @@ pub(crate) fn has_layers(spots: &Spots, routes: &Routes, first: u32) -> bool {
     false
 }
 
-/// The first of a crossing that may be known and those of a train.
-fn first_in_train(
-    view: View,
-    routes: &Routes,
-    first: u32,
-    known: Option<Crossing>,
-) -> Option<Crossing> {
-    let mut found = known;
-    for op in routes.order() {
-        let number = first.saturating_add(*op);
-        let spot = view.spots.at(number);
-        if spot.forced || spot.start == NEVER {
-            continue;
-        }
-        let crossing = crossing_at(view, number, spot);
-        let is_first = match found {
-            Some(before) => crossing.is_before(&before),
-            None => true,
-        };
-        if is_first {
-            found = Some(crossing);
-        }
-    }
-    found
+/// A crossing that was looked at, and how often its train had been looked at again by then.
+#[derive(Clone, Copy)]
+struct Looked {
+    crossing: Option<Crossing>,
+    turn: u64,
 }
 
-/// The crossing that comes first, of trains whose forks stand in layers.
-pub(crate) fn first_crossing(view: View, layered: &[bool]) -> Option<Crossing>
-    requires { view.graph.now.problem ≡ view.problem.now }
-{
-    let mut found = None;
-    for train in 0..view.problem.trains.len() as u32 {
-        if layered.get(train as usize) == Some(&true) {
-            let first = view.facts.first(train);
-            found = first_in_train(view, view.graph.routes(train), first, found);
+/// What is known of a train's crossings.
+#[derive(Clone, Copy)]
+struct Known {
+    /// Whether the one that comes first is known.
+    current: bool,
+    /// It, if there is one.
+    first: Option<Crossing>,
+    /// How often the train was looked at again.
+    turn: u64,
+}
+
+impl Known {
+    /// Nothing is known.
+    const NOTHING: Known = Known {
+        current: false,
+        first: None,
+        turn: 0,
+    };
+}
+
+/// The crossings of the trains, as far as they are known.
+#[derive(Drop)]
+pub(crate) struct Crossings {
+    trains: Vec<Known>,
+    /// Of each operation what was found of it.
+    looked: Vec<Looked>,
+}
+
+/// The one of a crossing that may be known and another that comes first.
+fn first_of(known: Option<Crossing>, crossing: Crossing) -> Option<Crossing> {
+    match known {
+        Some(before) if !crossing.is_before(&before) => known,
+        _ => Some(crossing),
+    }
+}
+
+impl Crossings {
+    /// The crossings of so many operations of so many trains, of which nothing is known.
+    pub(crate) fn new(alloc: Global, count: usize, trains: usize) -> Result<Crossings, Memory> {
+        let mut crossings = Crossings {
+            trains: Vec::with_capacity(alloc, trains)?,
+            looked: Vec::with_capacity(alloc, count)?,
+        };
+        for _ in 0..trains {
+            crossings.trains.push(Known::NOTHING)?;
+        }
+        for _ in 0..count {
+            crossings.looked.push(Looked {
+                crossing: None,
+                turn: 0,
+            })?;
+        }
+        Ok(crossings)
+    }
+
+    /// Notes that all crossings of a train are to be looked at again.
+    pub(crate) fn forget(&mut self, train: u32) {
+        if let Some(known) = self.trains.get_mut(train as usize) {
+            known.current = false;
+            known.turn = known.turn.saturating_add(1);
         }
     }
-    found
+
+    /// Notes that the crossing at an operation of a train is to be looked at again.
+    pub(crate) fn forget_at(&mut self, train: u32, number: u32) {
+        if let Some(known) = self.trains.get_mut(train as usize) {
+            known.current = false;
+        }
+        if let Some(looked) = self.looked.get_mut(number as usize) {
+            looked.crossing = None;
+        }
+    }
+
+    /// What is known of a train's crossings.
+    fn of_train(&self, train: u32) -> Known {
+        match self.trains.get(train as usize) {
+            Some(known) => *known,
+            None => Known::NOTHING,
+        }
+    }
+
+    /// What was found of an operation, if its train was not looked at again since.
+    fn found(&self, number: u32, turn: u64) -> Option<Crossing> {
+        let looked = self.looked.get(number as usize)?;
+        if looked.turn == turn {
+            looked.crossing
+        } else {
+            None
+        }
+    }
+
+    /// The crossing at an operation, by what is known of it or by a look.
+    fn at(&mut self, view: View, number: u32, spot: Spot, turn: u64) -> Crossing {
+        if let Some(crossing) = self.found(number, turn) {
+            return crossing;
+        }
+        let crossing = crossing_at(view, number, spot);
+        if let Some(looked) = self.looked.get_mut(number as usize) {
+            *looked = Looked {
+                crossing: Some(crossing),
+                turn,
+            };
+        }
+        crossing
+    }
+
+    /// The first crossing of a train.
+    fn first_in_train(&mut self, view: View, routes: &Routes, train: u32) -> Option<Crossing> {
+        let first = view.facts.first(train);
+        let turn = self.of_train(train).turn;
+        let mut found = None;
+        for op in routes.order() {
+            let number = first.saturating_add(*op);
+            let spot = view.spots.at(number);
+            if spot.forced || spot.start == NEVER {
+                continue;
+            }
+            let crossing = self.at(view, number, spot, turn);
+            found = first_of(found, crossing);
+        }
+        found
+    }
+
+    /// The first crossing of a train, by what is known of it or by a look.
+    fn of_routes(&mut self, view: View, routes: &Routes, train: u32) -> Option<Crossing> {
+        let known = self.of_train(train);
+        if known.current {
+            return known.first;
+        }
+        let first = self.first_in_train(view, routes, train);
+        if let Some(known) = self.trains.get_mut(train as usize) {
+            known.current = true;
+            known.first = first;
+        }
+        first
+    }
+
+    /// The crossing that comes first, of trains whose forks stand in layers.
+    pub(crate) fn first(&mut self, view: View, layered: &[bool]) -> Option<Crossing>
+        requires { view.graph.now.problem ≡ view.problem.now }
+    {
+        let mut found = None;
+        for train in 0..view.problem.trains.len() as u32 {
+            if layered.get(train as usize) == Some(&true) {
+                let routes = view.graph.routes(train);
+                if let Some(crossing) = self.of_routes(view, routes, train) {
+                    found = first_of(found, crossing);
+                }
+            }
+        }
+        found
+    }
 }

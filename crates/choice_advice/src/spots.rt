@@ -1,4 +1,4 @@
-use crate::facts::Facts;
+use crate::facts::{Facts, Most};
 use disp_model::Memory;
 use incremental_paths::Paths;
 use route_sets::Routes;
@@ -25,6 +25,8 @@ pub(crate) struct Spot {
     pub train: u32,
     /// The number of the operation that comes next on each route, or its own where there is none.
     pub behind: u32,
+    /// Of a forced one, how many stops of its train come before it.
+    pub stops: u32,
 }
 
 impl Spot {
@@ -38,6 +40,7 @@ impl Spot {
         sum: 0,
         train: 0,
         behind: 0,
+        stops: 0,
     };
 }
 
@@ -48,8 +51,8 @@ pub(crate) struct Stop {
     pub start: u64,
     /// The least time up to it from the first forced one of its train.
     pub sum: u64,
-    /// The place of its row.
-    pub row: u32,
+    /// How much more it and those behind it may cost.
+    pub most: Most,
 }
 
 /// When a forced operation starts.
@@ -131,12 +134,32 @@ impl Spots {
         }
     }
 
-    /// The operations of a train of which it matters when they start, in the order in which they
-    /// come.
-    pub(crate) fn stops(&self, train: u32) -> &[Stop] {
-        match self.stops.get(train as usize) {
-            Some(stops) => stops.as_slice(),
+    /// The operations of a train of which it matters when they start, from a forced one of it on, in the
+    /// order in which they come.
+    pub(crate) fn stops_from(&self, spot: &Spot) -> &[Stop] {
+        match self.stops.get(spot.train as usize) {
+            Some(stops) => stops.get(spot.stops as usize..).unwrap_or(&[]),
             None => &[],
+        }
+    }
+
+    /// How many stops of a train are known.
+    fn count_stops(&self, train: u32) -> u32 {
+        match self.stops.get(train as usize) {
+            Some(stops) => u32::try_from(stops.len()).unwrap_or(u32::MAX),
+            None => 0,
+        }
+    }
+
+    /// Adds up how much more a train may cost from each stop on.
+    fn add_up(&mut self, train: u32) {
+        let Some(stops) = self.stops.get_mut(train as usize) else {
+            return;
+        };
+        let mut most = Most::NOTHING;
+        for stop in stops.iter_mut().rev() {
+            most = most.with(&stop.most);
+            stop.most = most;
         }
     }
 
@@ -149,7 +172,7 @@ impl Spots {
             number,
             start: spot.start,
             sum: spot.sum,
-            row: spot.row,
+            most: facts.most_at(number, spot.start),
         };
         if let Some(stops) = self.stops.get_mut(spot.train as usize) {
             stops.push(stop)?;
@@ -185,6 +208,7 @@ impl Spots {
             sum: 0,
             train,
             behind,
+            stops: 0,
         }
     }
 
@@ -254,6 +278,7 @@ impl Spots {
                     self.go_on(first.saturating_add(before), number);
                 }
                 spot.sum = sum;
+                spot.stops = self.count_stops(train);
                 self.put(number, spot);
                 self.stop_at(facts, number, spot)?;
                 last = Some(*op);
@@ -271,6 +296,7 @@ impl Spots {
                 self.reach_from(facts, first, number, next.as_slice());
             }
         }
+        self.add_up(train);
         if let Some(place) = self.forks.get_mut(train as usize) {
             *place = fork;
         }

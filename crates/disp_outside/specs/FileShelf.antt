@@ -15,3 +15,7 @@ module _ {R : Type 0} where
   -- how often a putting under a name has failed
   abbrev pub put_fault_count_of : FileShelf R → List ℕ → ℕ
   put_fault_count_of shelf name = fault_count shelf.put_faults name
+
+  -- how many of its feeds are open
+  abbrev pub open_count : FileShelf R → ℕ
+  open_count shelf = shelf.open_feeds

@@ -17,21 +17,24 @@ pub struct FileShelf<R> {
     files: R,
     faults: FaultCounts,
     put_faults: FaultCounts,
+    open_feeds: u64,
 }
 
 impl<R: Files> FileShelf<R> {
-    ghost use Rattle.disp_outside.specs.FileShelf.{fault_count_of, put_fault_count_of, KnowsName};
+    ghost use Rattle.disp_outside.specs.FileShelf.{fault_count_of, put_fault_count_of, KnowsName, open_count};
 
     /// A shelf that knows no name yet.
     pub fn new(alloc: Global, files: R) -> Self
         ensures names { (name : List ℕ) → KnowsName result name → ⊥ }
         ensures faults { (name : List ℕ) → fault_count_of result name ≡ 0 }
         ensures put_faults { (name : List ℕ) → put_fault_count_of result name ≡ 0 }
+        ensures feeds { open_count result ≡ 0 }
     {
         FileShelf {
             files,
             faults: FaultCounts::new(alloc),
             put_faults: FaultCounts::new(alloc),
+            open_feeds: 0,
         }
     }
 
@@ -47,6 +50,13 @@ impl<R: Files> FileShelf<R> {
         ensures { result ≡ min (put_fault_count_of self.now name.now) (2 ^ 64 - 1) }
     {
         self.put_faults.count(name)
+    }
+
+    /// How many of its feeds are open.
+    pub fn open_feeds(&self) -> u64
+        ensures { result ≡ open_count self.now }
+    {
+        self.open_feeds
     }
 }
 
@@ -92,7 +102,7 @@ impl<R: Files + Send> Shelf for FileShelf<R>
 where
     R::File: Send,
 {
-    ghost use Rattle.disp_outside.specs.FileShelf.{fault_count_of, put_fault_count_of, KnowsName};
+    ghost use Rattle.disp_outside.specs.FileShelf.{fault_count_of, put_fault_count_of, KnowsName, open_count};
 
     type Feed = FileFeed<R::File>;
 
@@ -103,6 +113,8 @@ where
     ghost reading_faults = { λ shelf name. fault_count_of shelf name };
 
     ghost putting_faults = { λ shelf name. put_fault_count_of shelf name };
+
+    ghost open_feeds = { λ shelf. open_count shelf };
 
     // Room for a fault is made first, so that each fault is counted.
     fn fetch(&mut self, alloc: Global, name: &str, limit: u64) -> Result<Vec<u8>, FetchNo> {
@@ -143,10 +155,14 @@ where
     }
 
     fn feed(&mut self, alloc: Global, name: &str) -> Result<FileFeed<R::File>, FeedNo> {
+        let Some(open_feeds) = self.open_feeds.checked_add(1) else {
+            return Err(FeedNo::Memory);
+        };
         self.faults.make_room(alloc, name)?;
         match open_feed(alloc, &self.files, name) {
             Ok(feed) => {
                 self.faults.know(name);
+                self.open_feeds = open_feeds;
                 Ok(feed)
             }
             Err(FeedNo::Failed) => {
@@ -158,6 +174,7 @@ where
     }
 
     fn close(&mut self, feed: FileFeed<R::File>) {
+        self.open_feeds = self.open_feeds.saturating_sub(1);
         if let Some(ticket) = feed.into_fault() {
             self.faults.add_closed(ticket);
         }

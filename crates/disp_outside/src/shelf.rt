@@ -1,5 +1,5 @@
 // Files by name, as the program sees them.
-ghost use Rattle.std.specs.Prelude.{◌≡◌, ◌≢◌, ◌<◌, ◌≤◌, ◌↔◌, false, List, ℕ, length, Option, Some, IfOk, IfSome, IsOk, IsErrOf, IsSomeAnd, ◌⊎◌};
+ghost use Rattle.std.specs.Prelude.{◌≡◌, ◌≢◌, ◌<◌, ◌≤◌, ◌↔◌, ◌+◌, ◌-◌, false, List, ℕ, length, Option, Some, IfOk, IfSome, IsOk, OnOk, OnErr, IsErrOf, IsSomeAnd, ◌⊎◌};
 ghost use Rattle.disp_outside.specs.Lines.{HasLinesOf};
 ghost use Rattle.disp_outside.specs.declared.shelf.FetchNo.TheVariants.{Memory};
 ghost use Rattle.disp_outside.specs.declared.shelf.PutNo.TheVariants.{Memory as PutMemory};
@@ -63,6 +63,9 @@ pub trait Shelf: Send {
     /// How often a putting under a name has failed.
     ghost putting_faults: { Self → List ℕ → ℕ };
 
+    /// How many of its feeds are open: those that it gave, but for those that were closed.
+    ghost open_feeds: { Self → ℕ };
+
     /// The bytes of a file of at most `limit` bytes.
     ///
     /// # Errors
@@ -90,7 +93,8 @@ pub trait Shelf: Send {
         ensures known { IsErrOf result FetchNo.Memory ⊎ knows self.new name.now }
         ensures still_known { (other : List ℕ) → knows self.old other → knows self.new other }
         ensures memory { IsErrOf result FetchNo.Memory → (other : List ℕ) → knows self.new other
-            → knows self.old other };
+            → knows self.old other }
+        ensures feeds { open_feeds self.new ≡ open_feeds self.old };
 
     /// Makes these the bytes of the name's file.
     ///
@@ -118,7 +122,8 @@ pub trait Shelf: Send {
         ensures memory { IsErrOf result PutNo.Memory → (other : List ℕ) → knows self.new other
             → knows self.old other }
         ensures memory_held { IsErrOf result PutNo.Memory → holds self.new name.now
-            ≡ holds self.old name.now };
+            ≡ holds self.old name.now }
+        ensures feeds { open_feeds self.new ≡ open_feeds self.old };
 
     /// A feed of the lines that the name holds.
     ///
@@ -146,7 +151,11 @@ pub trait Shelf: Send {
         ensures known { IsErrOf result FeedNo.Memory ⊎ knows self.new name.now }
         ensures still_known { (other : List ℕ) → knows self.old other → knows self.new other }
         ensures memory { IsErrOf result FeedNo.Memory → (other : List ℕ) → knows self.new other
-            → knows self.old other };
+            → knows self.old other }
+
+        // One more is open where a feed is given, and no more where none is.
+        ensures opened { OnOk result (open_feeds self.new ≡ open_feeds self.old + 1) }
+        ensures unopened { OnErr result (open_feeds self.new ≡ open_feeds self.old) };
 
     /// Ends a feed. What failed in it counts as one fault of reading its name.
     fn close(&mut self, feed: Self::Feed)
@@ -164,5 +173,8 @@ pub trait Shelf: Send {
             ≡ putting_faults self.old other }
 
         ensures held { (other : List ℕ) → holds self.new other ≡ holds self.old other }
-        ensures known { (other : List ℕ) → knows self.new other ↔ knows self.old other };
+        ensures known { (other : List ℕ) → knows self.new other ↔ knows self.old other }
+
+        // One less is open.
+        ensures closed { open_feeds self.new ≡ open_feeds self.old - 1 };
 }

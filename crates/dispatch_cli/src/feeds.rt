@@ -1,26 +1,12 @@
-ghost use Rattle.std.specs.Prelude.{◌≡◌, ◌≢◌, ◌≤◌, All, List, ℕ, [], OnOk, OnErr, IfOk, IfErr};
+ghost use Rattle.std.specs.Prelude.{◌≡◌, ◌≢◌, ◌≤◌, ◌+◌, All, List, ℕ, [], OnOk, OnErr, IfOk, IfErr, length};
 ghost use Rattle.rolling_driver.specs.Opened.{AreNew};
 ghost use Rattle.dispatch_cli.specs.Feeds.{AreOpened, OpensOne, StopsFeed, StopsFeeds};
 
 use crate::roll_no::RollNo;
 use disp_model::Text;
 use disp_outside::{FeedNo, Shelf};
+use rolling_driver::close_feeds;
 use std::alloc::Global;
-
-/// Closes feeds of which nothing was read.
-fn close_feeds<S: Shelf>(shelf: &mut S, feeds: Vec<S::Feed>)
-    requires feeds { AreNew S.Feed.has_ended S.Feed.faults feeds.items }
-    requires known { All (λ feed. S.knows shelf.old (S.Feed.name feed)) feeds.items }
-    ensures counts { (name : List ℕ) → S.reading_faults shelf.new name
-        ≡ S.reading_faults shelf.old name }
-    ensures puttings { (name : List ℕ) → S.putting_faults shelf.new name
-        ≡ S.putting_faults shelf.old name }
-    ensures held { (name : List ℕ) → S.holds shelf.new name ≡ S.holds shelf.old name }
-{
-    for feed in feeds {
-        shelf.close(feed);
-    }
-}
 
 /// Opens the feed of a name, which has this number, behind those that are open.
 fn open_next<S: Shelf>(
@@ -45,6 +31,8 @@ fn open_next<S: Shelf>(
     ensures puttings { (other : List ℕ) → S.putting_faults shelf.new other
         ≡ S.putting_faults shelf.old other }
     ensures held { (other : List ℕ) → S.holds shelf.new other ≡ S.holds shelf.old other }
+    ensures opened { OnOk result (S.open_feeds shelf.new ≡ S.open_feeds shelf.old + 1) }
+    ensures unopened { OnErr result (S.open_feeds shelf.new ≡ S.open_feeds shelf.old) }
 {
     feeds.reserve(1)?;
     match shelf.feed(alloc, name) {
@@ -77,6 +65,8 @@ fn open_each<S: Shelf>(
     ensures puttings { (name : List ℕ) → S.putting_faults shelf.new name
         ≡ S.putting_faults shelf.old name }
     ensures held { (name : List ℕ) → S.holds shelf.new name ≡ S.holds shelf.old name }
+    ensures opened { S.open_feeds shelf.new
+        ≡ S.open_feeds shelf.old + length feeds.new.items }
 {
     let mut number = 0;
     for name in names {
@@ -110,6 +100,9 @@ pub(crate) fn open_feeds<S: Shelf>(
     ensures puttings { (name : List ℕ) → S.putting_faults shelf.new name
         ≡ S.putting_faults shelf.old name }
     ensures held { (name : List ℕ) → S.holds shelf.new name ≡ S.holds shelf.old name }
+    ensures opened { IfOk result (λ feeds. S.open_feeds shelf.new
+        ≡ S.open_feeds shelf.old + length feeds.items) }
+    ensures unopened { OnErr result (S.open_feeds shelf.new ≡ S.open_feeds shelf.old) }
 {
     let mut feeds = Vec::new(alloc);
     match open_each(alloc, shelf, names, &mut feeds) {

@@ -1,4 +1,4 @@
-ghost use Rattle.std.specs.Prelude.{map, string_bytes};
+ghost use Rattle.std.specs.Prelude.{◌≡◌, map, string_bytes};
 ghost use Rattle.text_puts.specs.Outside.{outside};
 ghost use Rattle.dispatch_cli.specs.Rolls.{EndsAs};
 
@@ -45,6 +45,7 @@ pub fn dispatch<R: Threads + Wait + Sync, S: Shelf, O: Sink, G: Gate>(
         (O.faults out.old) (O.written out.old))
         (outside (S.holds shelf.new) (S.reading_faults shelf.new) (S.putting_faults shelf.new)
         (O.faults out.new) (O.written out.new)) result.status result.journal.items }
+    ensures feeds { S.open_feeds shelf.new ≡ S.open_feeds shelf.old }
 {
     match read_words(alloc, words) {
         Ok(Task::Roll(task)) => run_roll(rt, alloc, &task, shelf, out, gate),

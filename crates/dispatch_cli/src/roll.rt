@@ -27,6 +27,7 @@ fn problem_of<S: Shelf>(alloc: Global, shelf: &mut S, task: &RollTask) -> Result
     ensures reads { ReadsOne task.now.problem (S.reading_faults shelf.old)
         (S.reading_faults shelf.new) (S.putting_faults shelf.old) (S.putting_faults shelf.new)
         (S.holds shelf.old) (S.holds shelf.new) (IsErrAnd result IsFault) }
+    ensures feeds { S.open_feeds shelf.new ≡ S.open_feeds shelf.old }
 {
     let count = task.feeds.len();
     if count > MOST_CALLERS as usize {
@@ -62,6 +63,7 @@ fn roll_feeds<R: Threads + Wait + Sync, S: Shelf, O: Sink, G: Gate>(
         ≡ S.holds shelf.old name) }
     ensures faults { OnErr result (O.faults out.new ≡ O.faults out.old) }
     ensures written { OnErr result (O.written out.new ≡ O.written out.old) }
+    ensures feeds { S.open_feeds shelf.new ≡ S.open_feeds shelf.old }
 {
     let feeds = match open_feeds(alloc, shelf, task.feeds.as_slice()) {
         Ok(feeds) => feeds,
@@ -105,6 +107,7 @@ fn rolled_of<R: Threads + Wait + Sync, S: Shelf, O: Sink, G: Gate>(
         (O.faults out.old) (O.written out.old))
         (outside (S.holds shelf.new) (S.reading_faults shelf.new) (S.putting_faults shelf.new)
         (O.faults out.new) (O.written out.new))) }
+    ensures feeds { S.open_feeds shelf.new ≡ S.open_feeds shelf.old }
 {
     match problem_of(alloc, shelf, task) {
         Ok(problem) => roll_feeds(rt, alloc, &problem, task, shelf, out, gate),
@@ -126,6 +129,7 @@ pub(crate) fn run_roll<R: Threads + Wait + Sync, S: Shelf, O: Sink, G: Gate>(
         (O.faults out.old) (O.written out.old))
         (outside (S.holds shelf.new) (S.reading_faults shelf.new) (S.putting_faults shelf.new)
         (O.faults out.new) (O.written out.new)) result.status result.journal.items }
+    ensures feeds { S.open_feeds shelf.new ≡ S.open_feeds shelf.old }
 {
     match rolled_of(rt, alloc, task, shelf, out, gate) {
         Ok(rolled) => Done {

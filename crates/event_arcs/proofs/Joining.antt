@@ -27,7 +27,7 @@ use Rattle.route_sets.specs.declared.routes.Routes.{Routes}
 use Rattle.route_sets.specs.Sets.{op_of}
 use Rattle.incremental_paths.specs.declared.arc.Arc.{Arc}
 use Rattle.incremental_paths.proofs.Members.{joined, longest_ge}
-use Rattle.incremental_paths.proofs.Steps.{Follows_part, steps_part}
+use Rattle.incremental_paths.proofs.Walking.{Follows_part, steps_part}
 use Rattle.event_arcs.specs.Listed.{IsArcOf, LeadsOver}
 use Rattle.event_arcs.specs.Chained.{Extends, LeadsAlong, IsGiven, EndsAt, StandsFrom, IsChained, AddsChain, AddsChains}
 use Rattle.event_arcs.proofs.Leading.{leads_then}

@@ -13,9 +13,9 @@ use Rattle.disp_model.specs.Node.{Node, node_at}
 use Rattle.disp_model.specs.Routes.{AgreesWithFixing, AgreesWithDecision, IsAllowed, HasRoute, IsForced}
 use Rattle.disp_model.specs.Arcs.{IsTrainArc, GoesTo}
 use Rattle.disp_laws.proofs.RouteSearch.{same_number, same_option}
-use Rattle.route_sets.specs.declared.marks.Mark.{Mark}
+use Rattle.route_marks.specs.declared.marks.Mark.{Mark}
 use Rattle.route_sets.specs.declared.routes.Routes.{Routes}
-use Rattle.route_sets.specs.Marks.{mark_at}
+use Rattle.route_marks.specs.Marks.{mark_at}
 use Rattle.route_sets.specs.Sets.{op_of, IsMarkOf, AreRoutesOf}
 use Rattle.event_arcs.specs.declared.owns.Own.{Own}
 use Rattle.event_arcs.specs.Owned.{train_of_fixing, train_of_decision, own_at, TakesFixing, TakesDecision, AreByTrain}

@@ -1,10 +1,9 @@
-ghost use Rattle.std.specs.Prelude.{◌≡◌, ℕ, List, true, All, IfOk, map, length};
+ghost use Rattle.std.specs.Prelude.{◌≡◌, ◌-◌, ℕ, List, true, All, IfOk, IfErr, map, length};
 ghost use Rattle.shared_board.specs.Board.{board_of, own_board, known, fetched, lines};
 ghost use Rattle.joined_passes.specs.Joined.{Joins};
 ghost use Rattle.feed_runs.specs.Readers.{MayRead, AreReaders, CountsFeeds, with_readers};
 
 use crate::reader::Reader;
-use disp_model::Memory;
 use disp_outside::{Feed, Shelf};
 use feed_reader::Reading;
 use joined_passes::join_next;
@@ -15,13 +14,13 @@ use std::alloc::Global;
 ///
 /// # Errors
 ///
-/// `Memory` where memory runs out.
+/// The feeds where memory runs out.
 pub fn readers_of<F: Feed + Drop>(
     alloc: Global,
     board: &Board,
     first: &mut Pass,
     feeds: Vec<F>,
-) -> Result<Vec<Reader<F>>, Memory>
+) -> Result<Vec<Reader<F>>, Vec<F>>
     requires board { own_board first.old ≡ board_of board.now }
     requires may { MayRead (known first.old) (length feeds.items) }
     ensures board { own_board first.new ≡ own_board first.old }
@@ -30,16 +29,19 @@ pub fn readers_of<F: Feed + Drop>(
         (λ readers. known first.new ≡ with_readers (known first.old) (length feeds.items)) }
     ensures feeds { IfOk result (λ readers. map (λ r. r.feed) readers.items ≡ feeds.items) }
     ensures readers { IfOk result (λ readers. AreReaders board.now (known first.old) readers.items) }
+    ensures back { IfErr result (λ back. back ≡ feeds) }
 {
-    let mut readers = Vec::with_capacity(alloc, feeds.len())?;
+    let Ok(mut readers) = Vec::with_capacity(alloc, feeds.len()) else {
+        return Err(feeds);
+    };
     let mut number = 0;
     for feed in feeds {
         let pass = board.split(first, number);
-        readers.push(Reader {
+        readers.push_reserved(Reader {
             pass,
             feed,
             reading: Reading::Ended,
-        })?;
+        });
         number += 1;
     }
     Ok(readers)
@@ -65,6 +67,7 @@ pub fn join_readers<S: Shelf>(
     ensures puttings { (name : List ℕ) → S.putting_faults shelf.new name
         ≡ S.putting_faults shelf.old name }
     ensures held { (name : List ℕ) → S.holds shelf.new name ≡ S.holds shelf.old name }
+    ensures closed { S.open_feeds shelf.new ≡ S.open_feeds shelf.old - length readers.items }
 {
     for reader in readers {
         let Reader { pass, feed, .. } = reader;

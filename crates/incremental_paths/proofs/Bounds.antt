@@ -13,7 +13,7 @@ use Rattle.std.proofs.lemmas.Map.Views.{Contains-from_any}
 use Rattle.incremental_paths.proofs.Members.{joining, longest_le}
 use Rattle.incremental_paths.specs.declared.arc.Arc.{Arc}
 use Rattle.incremental_paths.specs.Walks.{IsJoined, longest_arc, Follows, last_from, IsWalkTo, steps_length, walk_length, HasNoNodeTwice, HasCycle, WalksAreShort}
-use Rattle.incremental_paths.proofs.Steps.{apart_cons}
+use Rattle.incremental_paths.proofs.Walking.{apart_cons}
 
 -- the steps up to a place where x stands
 steps_to : (arcs : List Arc) (x u : ℕ) (rest : List ℕ) (k : ℕ) → Follows arcs u rest → k < length rest → get_or rest k 0 ≡ x

@@ -4,7 +4,7 @@ use Rattle.std.proofs.lemmas.List.Elements.{Contains-push, Contains-push_cases, 
 use Rattle.incremental_paths.specs.declared.arc.Arc.{Arc}
 use Rattle.incremental_paths.specs.Walks.{last_from, Leads, IsCycle}
 use Rattle.incremental_paths.proofs.Members.{IsPart, joined, joined_part}
-use Rattle.incremental_paths.proofs.Steps.{Follows_part}
+use Rattle.incremental_paths.proofs.Walking.{Follows_part}
 use Rattle.incremental_paths.proofs.Pairs.{contains_at}
 use Rattle.incremental_paths.proofs.KeptFields.{front_part}
 

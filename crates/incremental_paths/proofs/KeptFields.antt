@@ -13,7 +13,7 @@ use Rattle.incremental_paths.specs.Marked.{begins, ends, AreWithin, AreRising}
 use Rattle.incremental_paths.specs.Spread.{AreLengths, AreReached, AreSpread, WalksFit, Told, TellsMore, nothing_told, restored}
 use Rattle.incremental_paths.specs.Kept.{AreKept, AreUndone}
 use Rattle.incremental_paths.proofs.Members.{IsPart, Contains-nil, joining}
-use Rattle.incremental_paths.proofs.Steps.{walk_part, walk_length_part, walk_no_node_twice}
+use Rattle.incremental_paths.proofs.Walking.{walk_part, walk_length_part, walk_no_node_twice}
 use Rattle.incremental_paths.proofs.Reordering.{rising_free}
 use Rattle.incremental_paths.proofs.WaysBack.{way_back}
 use Rattle.incremental_paths.proofs.Pairs.{contains_at}

@@ -1,5 +1,5 @@
 pub mod Members
-pub mod Steps
+pub mod Walking
 pub mod Bounds
 pub mod WaysBack
 pub mod Linking

@@ -6,7 +6,7 @@ use Rattle.incremental_paths.specs.Walks.{Follows, last_from, IsJoined}
 use Rattle.incremental_paths.specs.Ordered.{is_marked}
 use Rattle.incremental_paths.specs.Marked.{AreWithin, AreRising, AreMarks}
 use Rattle.incremental_paths.proofs.Members.{joined}
-use Rattle.incremental_paths.proofs.Steps.{Follows_push, last_push}
+use Rattle.incremental_paths.proofs.Walking.{Follows_push, last_push}
 use Rattle.incremental_paths.proofs.Pairs.{contains_at}
 
 pub set_still : (M : List Bool) (t v : ℕ) → is_marked M v ≡ true → t < length M → is_marked (set M t true) v ≡ true

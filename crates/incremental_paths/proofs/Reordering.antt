@@ -6,7 +6,7 @@ use Rattle.incremental_paths.specs.Walks.{HasCycle, last_from}
 use Rattle.incremental_paths.specs.Ordered.{is_marked, IsLifted}
 use Rattle.incremental_paths.specs.Marked.{AreRising, AreMarks, AreWithin}
 use Rattle.incremental_paths.proofs.Members.{IsPart, joined}
-use Rattle.incremental_paths.proofs.Steps.{Follows_part, no_cycle}
+use Rattle.incremental_paths.proofs.Walking.{Follows_part, no_cycle}
 use Rattle.incremental_paths.proofs.WaysBack.{way_back}
 use Rattle.incremental_paths.proofs.Tracing.{no_way}
 

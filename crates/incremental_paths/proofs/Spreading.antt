@@ -1,13 +1,13 @@
 -- Lengths are spread along the arcs of a node.
 use Rattle.std.proofs.Common.{◌≡◌, ℕ, ◌+◌, ◌<◌, ◌≤◌, ◌^◌, inl, inr, List, [], ◌∷◌, ◌++◌, length, get_or, set, refl, sym, ap, ◌∙◌, subst, arith, Contains, get_or-set_other, get_or-set_same}
 use Rattle.std.proofs.lemmas.Bool.{cases_eq}
-use Rattle.std.proofs.lemmas.List.{length-set}
+use Rattle.std.proofs.lemmas.List.{length-append, length-set, get_or_push, get_or_append_left}
 use Rattle.std.proofs.lemmas.List.Elements.{Contains-push}
 use Rattle.incremental_paths.specs.declared.arc.Arc.{Arc}
 use Rattle.incremental_paths.specs.Walks.{IsWalkTo, walk_length}
-use Rattle.incremental_paths.specs.Spread.{AreReached, IsSpread, SpreadsOne, WalksFit}
+use Rattle.incremental_paths.specs.Spread.{AreReached, AreSpread, IsSpread, SpreadsOne, WalksFit}
 use Rattle.incremental_paths.proofs.Members.{joined, longest_ge}
-use Rattle.incremental_paths.proofs.Steps.{walk_push}
+use Rattle.incremental_paths.proofs.Walking.{walk_push}
 
 module _ (lowers : List ℕ) (arcs : List Arc) (lengths : List ℕ) (reached : AreReached lowers arcs lengths) (a : Arc) (has : Contains arcs a) (from : a.from < length lengths) where
   -- a walk along this arc that is as long as what it leads to
@@ -134,3 +134,13 @@ module _ (lowers : List ℕ) (node lower : ℕ) (lt : node < length lowers) (le 
           | inr other ↦ let h = old_walk v below in (h.0, h.1, omega (arith, h.2, get_or-set_other lengths node v value 0 other))
         ];
       }
+
+-- lengths that are spread along all arcs but the last, and along that one
+pub spread_push : (arcs front : List Arc) (a : Arc) (lengths : List ℕ) → arcs ≡ front ++ a ∷ [] → AreSpread front lengths → IsSpread lengths a → AreSpread arcs lengths
+spread_push arcs front a lengths is spread here k d lt =
+    elim (cases_eq k (length front)) [
+      | inl same ↦ subst (IsSpread lengths) (sym (ap (λ l. get_or l k d) is ∙ get_or_push front a d k (sym same))) here
+      | inr other ↦
+          let less : k < length front = omega (arith, lt, other, ap length is, length-append front (a ∷ [])) in
+          subst (IsSpread lengths) (sym (ap (λ l. get_or l k d) is ∙ get_or_append_left front (a ∷ []) d k less)) (spread k d less)
+    ]

@@ -9,7 +9,7 @@ use Rattle.incremental_paths.specs.Marked.{AreWithin, AreRising, AreMarks}
 use Rattle.incremental_paths.specs.Spread.{AreLengths, AreReached, AreSpread, IsSpread}
 use Rattle.incremental_paths.specs.Back.{Gives, ComesFromMarked}
 use Rattle.incremental_paths.proofs.Members.{joined, joining, longest_ge, longest_le}
-use Rattle.incremental_paths.proofs.Steps.{walk_push}
+use Rattle.incremental_paths.proofs.Walking.{walk_push}
 
 -- nodes that were noted from the end on, down to `at`
 pub record IsTraced (arcs : List Arc) (node at : ℕ) (noted : List ℕ) : Type 0 where

@@ -8,6 +8,11 @@ pub record Network : Type 0 where
   pub arcs : List Arc
   pub changed : List ℕ
 
+-- the same, with the order of the nodes that is kept: the place of each
+pub record Placed : Type 0 where
+  pub network : Network
+  pub places : List ℕ
+
 -- the node is there
 abbrev pub IsNode : Network → ℕ → Type 0
 IsNode network node = node < length network.lowers

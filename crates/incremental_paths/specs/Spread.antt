@@ -39,18 +39,14 @@ pub record Told : Type 0 where
 abbrev pub nothing_told : ℕ → Told
 nothing_told n = record { entries = []; lost = false; grown = record { size = n; listed = [] } }
 
--- the nodes of the changes that are told
-abbrev pub told_nodes : Told → List ℕ
-told_nodes told = map (λ c. c.node) told.entries
+-- along each arc the lengths are spread, or its beginning has grown, and stands at this place or behind it
+abbrev pub AreWaiting : List Arc → List ℕ → List ℕ → Told → ℕ → Type 0
+AreWaiting arcs places lengths told place = (k : ℕ) (d : Arc) → k < length arcs
+    → IsSpread lengths (slice_index_or arcs k d) ⊎ (Contains told.grown.listed (slice_index_or arcs k d).from × (place ≤ slice_index places (slice_index_or arcs k d).from))
 
--- where no changes are lost, they are of the first n nodes
-abbrev pub AreNodes : Told → ℕ → Type 0
-AreNodes told n = told.lost ≡ false → (i : ℕ) → i < length told.entries → slice_index (told_nodes told) i < n
-
--- along each arc the lengths are spread, or its beginning stands among the changes from a place on, where none are lost
-abbrev pub AreWaiting : List Arc → List ℕ → Told → ℕ → Type 0
-AreWaiting arcs lengths told from = told.lost ≡ false → (k : ℕ) (d : Arc) → k < length arcs
-    → IsSpread lengths (slice_index_or arcs k d) ⊎ ((i : ℕ) × (from ≤ i) × (i < length told.entries) × (slice_index (told_nodes told) i ≡ (slice_index_or arcs k d).from))
+-- no node that has grown since stands behind this place
+abbrev pub Reaches : List ℕ → Told → Told → ℕ → Type 0
+Reaches places old new top = (v : ℕ) → Contains new.grown.listed v → Contains old.grown.listed v ⊎ (slice_index places v ≤ top)
 
 -- along each arc the lengths are spread
 abbrev pub AreSpread : List Arc → List ℕ → Type 0

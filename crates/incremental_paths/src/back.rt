@@ -10,8 +10,10 @@ use crate::arc::Arc;
 use crate::marks::Marks;
 use crate::order::Order;
 use crate::search::mark_from;
+use crate::steps::Steps;
 use crate::threads::Threads;
 use std::alloc::{AllocError, Global};
+use std::sync::ledger::{Blank, Ledger};
 
 /// A walk to the node that is as long as the node's length, from the last node on the way back
 /// whose length is its lower.
@@ -146,7 +148,7 @@ pub fn comes_from_marked(arcs: &[Arc], ended: &Threads, marks: &[bool], node: u3
 }
 
 /// The nodes of a way from one node to another, where there is one.
-pub fn find_way(
+pub fn find_way<L: Ledger>(
     alloc: Global,
     arcs: &[Arc],
     begun: &Threads,
@@ -154,6 +156,7 @@ pub fn find_way(
     order: &Order,
     from: u32,
     to: u32,
+    blank: Blank,
 ) -> Result<Option<Vec<u32>>, AllocError>
     requires begun { begun.now ≡ record { size = length order.now; keys = begins arcs.now } }
     requires ended { ended.now ≡ record { size = length order.now; keys = ends arcs.now } }
@@ -161,10 +164,14 @@ pub fn find_way(
     requires rising { AreRising arcs.now order.now }
     requires from { from < length order.now }
     requires to { to < length order.now }
+    requires name { blank.name ≡ L.name }
+    requires parts { blank.parts ≡ L.parts }
+    requires some { 0 < blank.parts }
     ensures way { IfOk result (λ found. IfSome found (λ way. Leads arcs.now from to way.items)) }
     ensures none { IfOk result
         (λ found. IfNone found ((way : List ℕ) → ¬ Leads arcs.now from to way)) }
 {
+    let mut steps = Steps::<L>::new(blank);
     let mut marks = Marks::new(alloc, order.size())?;
     mark_from(
         arcs,
@@ -173,6 +180,7 @@ pub fn find_way(
         &mut marks,
         from,
         order.place(to) as usize,
+        &mut steps,
     );
     if !marks.has(to) {
         return Ok(None);

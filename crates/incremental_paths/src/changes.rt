@@ -1,4 +1,4 @@
-ghost use Rattle.std.specs.Prelude.{ℕ, ◌≡◌, ◌<◌, ◌⊎◌, ◌↔◌, ◌∷◌, ◌++◌, [], true, false, All, Contains, IfOk};
+ghost use Rattle.std.specs.Prelude.{ℕ, ◌≡◌, ◌<◌, ◌⊎◌, ◌↔◌, ◌∷◌, ◌++◌, [], IsTrue, true, false, All, Contains, IfOk};
 ghost use Rattle.incremental_paths.specs.declared.changes.Change.{Change};
 ghost use Rattle.incremental_paths.specs.Walks.{HasNoNodeTwice};
 ghost use Rattle.incremental_paths.specs.Spread.{nothing_told};
@@ -92,6 +92,14 @@ impl Changes {
         if self.entries.len() == self.room || self.entries.push(change).is_err() {
             self.lost = true;
         }
+    }
+
+    /// Whether the node is that of a change, told or not.
+    pub fn has(&self, node: u32) -> bool
+        requires { node < self.now.grown.size }
+        ensures { IsTrue result ↔ Contains self.now.grown.listed node }
+    {
+        self.grown.has(node)
     }
 
     /// The changes that are told.

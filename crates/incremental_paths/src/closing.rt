@@ -9,24 +9,30 @@ use crate::faults::AddNo;
 use crate::marks::Marks;
 use crate::order::Order;
 use crate::ordering::order_with;
+use crate::steps::Steps;
 use crate::threads::Threads;
 use crate::trail::{link_arc, shorten};
 use plain_values::Memory;
+use std::sync::ledger::{Blank, Ledger};
 
 /// A cycle that more arcs would close with these, if there is one. The arcs stay as they are, and
 /// only the order of the nodes changes.
-pub fn find_cycle(
+pub fn find_cycle<L: Ledger>(
     arcs: &mut Vec<Arc>,
     begun: &mut Threads,
     ended: &mut Threads,
     order: &mut Order,
     marks: &mut Marks,
     more: &[Arc],
+    blank: Blank,
 ) -> Result<Option<Vec<u32>>, Memory>
     requires arranged { AreArranged (length order.old)
         arcs.old.items begun.old ended.old order.old marks.old }
     requires nodes { All (λ arc. (arc.from < length order.old) × (arc.to < length order.old))
         more.now }
+    requires name { blank.name ≡ L.name }
+    requires parts { blank.parts ≡ L.parts }
+    requires some { 0 < blank.parts }
     ensures arcs { arcs.new.items ≡ arcs.old.items }
     ensures arranged { AreArranged (length order.old)
         arcs.new.items begun.new ended.new order.new marks.new }
@@ -34,8 +40,9 @@ pub fn find_cycle(
         (λ found. IfSome found (λ nodes. IsCycle (arcs.old.items ++ more.now) nodes.items)) }
     ensures none { IfOk result (λ found. IfNone found (¬ HasCycle (arcs.old.items ++ more.now))) }
 {
+    let mut steps = Steps::<L>::new(blank);
     let kept = arcs.len();
-    let found = link_all(arcs, begun, ended, order, marks, more);
+    let found = link_all(arcs, begun, ended, order, marks, more, &mut steps);
     let linked = arcs.len();
     arcs.truncate(kept);
     shorten(begun, linked, kept);
@@ -44,13 +51,14 @@ pub fn find_cycle(
 }
 
 // Puts the arcs behind the others, up to one that closes a cycle, and gives the nodes of that.
-fn link_all(
+fn link_all<L: Ledger>(
     arcs: &mut Vec<Arc>,
     begun: &mut Threads,
     ended: &mut Threads,
     order: &mut Order,
     marks: &mut Marks,
     more: &[Arc],
+    steps: &mut Steps<L>,
 ) -> Result<Option<Vec<u32>>, Memory>
     requires arranged { AreArranged (length order.old)
         arcs.old.items begun.old ended.old order.old marks.old }
@@ -64,7 +72,7 @@ fn link_all(
     ensures none { IfOk result (λ found. IfNone found (¬ HasCycle (arcs.old.items ++ more.now))) }
 {
     for arc in more {
-        if let Some(nodes) = link_or_close(arcs, begun, ended, order, marks, *arc)? {
+        if let Some(nodes) = link_or_close(arcs, begun, ended, order, marks, *arc, steps)? {
             return Ok(Some(nodes));
         }
     }
@@ -72,13 +80,14 @@ fn link_all(
 }
 
 // Puts an arc behind the others, or gives the nodes of the cycle that it would close.
-fn link_or_close(
+fn link_or_close<L: Ledger>(
     arcs: &mut Vec<Arc>,
     begun: &mut Threads,
     ended: &mut Threads,
     order: &mut Order,
     marks: &mut Marks,
     arc: Arc,
+    steps: &mut Steps<L>,
 ) -> Result<Option<Vec<u32>>, Memory>
     requires arranged { AreArranged (length order.old)
         arcs.old.items begun.old ended.old order.old marks.old }
@@ -94,7 +103,7 @@ fn link_or_close(
     ensures err { OnErr result (arcs.new.items ≡ arcs.old.items) }
 {
     let alloc = *arcs.allocator();
-    match order_with(alloc, arcs, begun, order, marks, arc.from, arc.to) {
+    match order_with(alloc, arcs, begun, order, marks, arc.from, arc.to, steps) {
         Ok(()) => {
             link_arc(arcs, begun, ended, arc)?;
             Ok(None)

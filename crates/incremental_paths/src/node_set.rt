@@ -1,4 +1,4 @@
-ghost use Rattle.std.specs.Prelude.{ℕ, ◌≡◌, ◌<◌, ◌⊎◌, ◌↔◌, [], All, Contains, IfOk};
+ghost use Rattle.std.specs.Prelude.{ℕ, ◌≡◌, ◌<◌, ◌⊎◌, ◌↔◌, [], All, Contains, IfOk, IsTrue};
 ghost use Rattle.incremental_paths.specs.Walks.{HasNoNodeTwice};
 
 use crate::marks::Marks;
@@ -59,6 +59,14 @@ impl NodeSet {
             self.nodes[self.count] = node;
             self.count += 1;
         }
+    }
+
+    /// Whether the node is in the set.
+    pub fn has(&self, node: u32) -> bool
+        requires { node < self.now.size }
+        ensures { IsTrue result ↔ Contains self.now.listed node }
+    {
+        self.marks.has(node)
     }
 
     /// The nodes, each once.

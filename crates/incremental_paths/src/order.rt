@@ -3,8 +3,10 @@ ghost use Rattle.incremental_paths.specs.Ordered.{IsLifted};
 
 use crate::marks::Marks;
 use crate::shifts::{count_up, lift_marked};
+use crate::steps::Steps;
 use std::alloc::{AllocError, Global};
 use std::marker::Model;
+use std::sync::ledger::Ledger;
 
 /// Nodes in an order: each has a place of its own, and each place a node.
 #[derive(Debug, Drop)]
@@ -65,12 +67,13 @@ impl Order {
     }
 
     /// Moves the marked nodes between two places behind the others that are there.
-    pub(crate) fn lift(
+    pub(crate) fn lift<L: Ledger>(
         &mut self,
         alloc: Global,
         marks: &Marks,
         low: usize,
         high: usize,
+        steps: &mut Steps<L>,
     ) -> Result<(), AllocError>
         requires marks { length marks.now ≡ length self.old }
         requires low { low ≤ high }
@@ -79,6 +82,14 @@ impl Order {
         ensures lifted { IfOk result (λ _. IsLifted marks.now low high self.old self.new) }
         ensures err { OnErr result (self.new ≡ self.old) }
     {
-        lift_marked(alloc, &mut self.nodes, &mut self.places, marks, low, high)
+        lift_marked(
+            alloc,
+            &mut self.nodes,
+            &mut self.places,
+            marks,
+            low,
+            high,
+            steps,
+        )
     }
 }

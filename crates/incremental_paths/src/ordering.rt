@@ -1,4 +1,4 @@
-ghost use Rattle.std.specs.Prelude.{ℕ, ◌≡◌, ◌≢◌, ◌<◌, ◌≤◌, ◌↔◌, ◌∷◌, ◌++◌, [], true, length, slice_index, OnOk, IfErr, IsErrOf};
+ghost use Rattle.std.specs.Prelude.{ℕ, ◌≡◌, ◌≢◌, ◌<◌, ◌≤◌, ◌+◌, ◌↔◌, ◌∷◌, ◌++◌, [], true, length, slice_index, OnOk, IfErr, IsErrOf};
 ghost use Rattle.incremental_paths.specs.Walks.{HasCycle};
 ghost use Rattle.incremental_paths.specs.Marked.{begins, AreWithin, AreRising, AreMarks};
 ghost use Rattle.incremental_paths.specs.Ordered.{is_marked};
@@ -8,11 +8,13 @@ use crate::faults::AddNo;
 use crate::marks::Marks;
 use crate::order::Order;
 use crate::search::mark_from;
+use crate::steps::Steps;
 use crate::threads::Threads;
 use std::alloc::Global;
+use std::sync::ledger::Ledger;
 
 /// Orders the nodes so that an arc between these two goes from a lower place to a higher, too.
-pub fn order_with(
+pub fn order_with<L: Ledger>(
     alloc: Global,
     arcs: &[Arc],
     begun: &Threads,
@@ -20,6 +22,7 @@ pub fn order_with(
     marks: &mut Marks,
     from: u32,
     to: u32,
+    steps: &mut Steps<L>,
 ) -> Result<(), AddNo>
     requires begun { begun.now ≡ record { size = length order.old; keys = begins arcs.now } }
     requires within { AreWithin (length order.old) arcs.now }
@@ -38,17 +41,21 @@ pub fn order_with(
     ensures searched { IsErrOf result (AddNo.Closes from to)
         → AreMarks arcs.now order.new to (slice_index order.new from) marks.new
         × (is_marked marks.new from ≡ true) }
+    ensures few { slice_index order.old from < slice_index order.old to
+        → steps.new ≡ steps.old + 2 }
 {
+    steps.look();
     let low = order.place(to) as usize;
+    steps.look();
     let high = order.place(from) as usize;
     if high < low {
         return Ok(());
     }
-    mark_from(arcs, begun, order, marks, to, high);
+    mark_from(arcs, begun, order, marks, to, high, steps);
     if marks.has(from) {
         return Err(AddNo::Closes { from, to });
     }
-    match order.lift(alloc, marks, low, high) {
+    match order.lift(alloc, marks, low, high, steps) {
         Ok(()) => Ok(()),
         Err(_) => Err(AddNo::Memory),
     }

@@ -1,99 +1,57 @@
-ghost use Rattle.std.specs.Prelude.{ℕ, ◌≡◌, ◌<◌, ◌≤◌, ◌↔◌, ◌^◌, ◌++◌, List, [], true, false, length, All, IfOk, IfErr, IfSome, IfNone, IsSome, IsNone, IsTrue, OnOk, OnErr, IsErrOf, ◌≢◌, slice_index};
+ghost use Rattle.std.specs.Prelude.{ℕ, ◌≡◌, ◌<◌, ◌≤◌, ◌+◌, ◌↔◌, ◌^◌, ◌++◌, List, [], true, false, length, All, IfOk, IfErr, IfSome, IfNone, IsTrue, OnOk, OnErr, IsErrOf, ◌≢◌, slice_index};
 ghost use Rattle.incremental_paths.specs.Walks.{IsWalkTo, IsJoined, walk_length, HasNoNodeTwice, Leads, IsLongest, IsCycle, HasCycle};
 ghost use Rattle.incremental_paths.specs.Marked.{AreRising};
 ghost use Rattle.incremental_paths.specs.Ordered.{is_marked};
 ghost use Rattle.incremental_paths.specs.Network.{IsNode, IsShort, with_arc, without_last, raised, unchanged, HasLength, TellsChanged};
 
 use crate::arc::Arc;
-use crate::back::{comes_from_marked, find_way, walk_back, way_back};
-use crate::changes::{Change, Changes};
-use crate::closing::find_cycle;
 use crate::faults::AddNo;
-use crate::marks::Marks;
 use crate::order::Order;
-use crate::ordering::order_with;
-use crate::spread::{raise_length, spread_anew, spread_last};
-use crate::threads::Threads;
-use crate::trail::{keep_arc, keep_changes, put_back, shorten};
+use crate::ordered::OrderedPaths;
+use crate::steps::Steps;
 use plain_values::Memory;
 use std::alloc::Global;
 use std::marker::Model;
-
-// The arc, if it was refused since it closes a cycle.
-fn refused_by(no: AddNo, arc: Arc) -> Option<Arc>
-    ensures some { IfSome result (λ refused. refused ≡ arc) }
-    ensures none { IsNone result ↔ no ≡ AddNo.Memory }
-{
-    match no {
-        AddNo::Closes { .. } => Some(arc),
-        AddNo::Memory => None,
-    }
-}
-
-// Whether there is an arc, and it leads from the one node to the other.
-fn is_arc(arc: Option<Arc>, from: u32, to: u32) -> bool
-    ensures { IsTrue result ↔ IsSome arc × IfSome arc (λ a. (a.from ≡ from) × (a.to ≡ to)) }
-{
-    match arc {
-        Some(arc) => arc.from == from && arc.to == to,
-        None => false,
-    }
-}
+use std::sync::ledger::Ledger;
 
 /// Nodes with their lowers and lengths, and the arcs that are kept between them.
 #[derive(Debug, Drop)]
 pub struct Paths {
-    lowers: Vec<u64>,
-    arcs: Vec<Arc>,
-    begun: Threads,
-    ended: Threads,
-    order: Order,
-    marks: Marks,
-    lengths: Vec<u64>,
-    changes: Changes,
-    trail: Vec<Change>,
-    starts: Vec<usize>,
-    stale: usize,
-    refused: Option<Arc>,
+    ordered: OrderedPaths,
 }
 
 impl Model for Paths {
-    ghost use Rattle.incremental_paths.specs.Marked.{AreRising};
     ghost use Rattle.incremental_paths.specs.Network.{Network};
-    ghost use Rattle.incremental_paths.specs.Kept.{AreKept, AreOfRefused};
 
     ghost Value = { Network };
 
-    ghost view = { λ p.
-        record { lowers = p.lowers.items; arcs = p.arcs.items; changed = p.changes.grown.listed } };
-
-    ghost invariant = { λ p.
-        AreKept p.lowers.items p.arcs.items p.begun p.ended p.order p.marks p.lengths.items
-        p.trail.items p.starts.items p.stale p.changes.grown.size
-        × AreOfRefused p.arcs.items p.order p.marks p.refused };
+    ghost view = { λ p. p.ordered.network };
 }
 
 impl Paths {
+    /// The paths with their order.
+    pub fn into_ordered(self) -> OrderedPaths
+        ensures { result.network ≡ self }
+    {
+        let Paths { ordered } = self;
+        ordered
+    }
+
+    /// The paths, whatever the order of their nodes.
+    pub fn of_ordered(ordered: OrderedPaths) -> Self
+        ensures { result ≡ ordered.network }
+    {
+        Paths { ordered }
+    }
+
     /// Nodes with these lowers, and no arcs.
     pub fn new(alloc: Global, lowers: &[u64]) -> Result<Self, Memory>
         requires { length lowers.now < 2 ^ 32 }
         ensures { IfOk result
             (λ paths. paths ≡ record { lowers = lowers.now; arcs = []; changed = [] }) }
     {
-        let nodes = lowers.len();
         Ok(Paths {
-            lowers: Vec::from_slice(alloc, lowers)?,
-            arcs: Vec::new(alloc),
-            begun: Threads::new(alloc, nodes)?,
-            ended: Threads::new(alloc, nodes)?,
-            order: Order::new(alloc, nodes)?,
-            marks: Marks::new(alloc, nodes)?,
-            lengths: Vec::from_slice(alloc, lowers)?,
-            changes: Changes::new(alloc, nodes)?,
-            trail: Vec::new(alloc),
-            starts: Vec::new(alloc),
-            stale: 0,
-            refused: None,
+            ordered: OrderedPaths::new(alloc, lowers)?,
         })
     }
 
@@ -101,7 +59,7 @@ impl Paths {
     pub fn size(&self) -> usize
         ensures { result ≡ length self.now.lowers }
     {
-        self.lowers.len()
+        self.ordered.size()
     }
 
     /// Adds an arc behind the others. Fails where it would close a cycle, also one of length 0, and
@@ -119,43 +77,36 @@ impl Paths {
         ensures faults { IfErr result (λ no. no ≢ AddNo.Memory → no ≡ AddNo.Closes from to) }
         ensures err { OnErr result (self.new ≡ unchanged self.old) }
     {
-        let alloc = *self.arcs.allocator();
-        let arc = Arc { from, to, length };
-        self.changes.clear();
-        self.refused = None;
-        if let Err(no) = order_with(
-            alloc,
-            &self.arcs,
-            &self.begun,
-            &mut self.order,
-            &mut self.marks,
-            from,
-            to,
-        ) {
-            self.refused = refused_by(no, arc);
-            return Err(no);
-        }
-        self.trail.reserve(self.lowers.len())?;
-        let start = self.trail.len();
-        keep_arc(
-            &mut self.arcs,
-            &mut self.starts,
-            &mut self.begun,
-            &mut self.ended,
-            arc,
-            start,
-        )?;
-        spread_last(
-            &self.arcs,
-            &self.begun,
-            &self.order,
-            &mut self.lengths,
-            &mut self.changes,
-            arc,
-        );
-        let count = self.arcs.len();
-        self.stale = keep_changes(&self.changes, &mut self.trail, self.stale, count);
-        Ok(())
+        self.ordered.add(from, to, length)
+    }
+
+    /// Does what `add` does, and counts the nodes and arcs that it looks at.
+    pub fn add_counted<L: Ledger>(
+        &mut self,
+        from: u32,
+        to: u32,
+        length: u64,
+        steps: &mut Steps<L>,
+    ) -> Result<(), AddNo>
+        requires from { IsNode self.old from }
+        requires to { IsNode self.old to }
+        requires short { IsShort (with_arc self.old from to length) }
+
+        ensures lowers { self.new.lowers ≡ self.old.lowers }
+        ensures ok { OnOk result (self.new.arcs ≡ (with_arc self.old from to length).arcs) }
+        ensures changed { OnOk result (TellsChanged self.old self.new) }
+        ensures closes { IsErrOf result (AddNo.Closes from to)
+            ↔ HasCycle (with_arc self.old from to length).arcs }
+        ensures faults { IfErr result (λ no. no ≢ AddNo.Memory → no ≡ AddNo.Closes from to) }
+        ensures err { OnErr result (self.new ≡ unchanged self.old) }
+
+        // Where the arc is along the order and raises no length, it takes at most four steps.
+        ensures few { (places : List ℕ) × AreRising self.old.arcs places
+            × (slice_index places from < slice_index places to → (at_from at_to : ℕ)
+            → HasLength self.old from at_from → HasLength self.old to at_to
+            → at_from + length ≤ at_to → steps.new ≤ steps.old + 4) }
+    {
+        self.ordered.add_counted(from, to, length, steps)
     }
 
     /// The nodes of a cycle that these arcs would close with the kept ones, and `None` where they
@@ -169,16 +120,7 @@ impl Paths {
         ensures none { IfOk result
             (λ found. IfNone found (¬ HasCycle (self.old.arcs ++ more.now))) }
     {
-        self.changes.clear();
-        self.refused = None;
-        find_cycle(
-            &mut self.arcs,
-            &mut self.begun,
-            &mut self.ended,
-            &mut self.order,
-            &mut self.marks,
-            more,
-        )
+        self.ordered.cycle_with(more)
     }
 
     /// Takes the last `k` arcs away.
@@ -186,33 +128,7 @@ impl Paths {
         requires { let kept = self.old.arcs in k ≤ length kept }
         ensures { self.new ≡ without_last self.old k }
     {
-        self.changes.clear();
-        self.refused = None;
-        if k == 0 {
-            return;
-        }
-        let count = self.arcs.len();
-        let left = count - k as usize;
-        let start = self.starts[left];
-        self.arcs.truncate(left);
-        self.starts.truncate(left);
-        shorten(&mut self.begun, count, left);
-        shorten(&mut self.ended, count, left);
-        if self.stale <= left {
-            put_back(&mut self.lengths, &mut self.trail, start);
-        } else {
-            self.stale = left;
-            self.trail.clear();
-            spread_anew(
-                &self.arcs,
-                &self.begun,
-                &self.order,
-                &self.lowers,
-                &mut self.lengths,
-                &mut self.changes,
-            );
-            self.changes.clear();
-        }
+        self.ordered.withdraw(k)
     }
 
     /// Raises a node's lower to `lower`, unless it is greater.
@@ -223,22 +139,7 @@ impl Paths {
         ensures arcs { self.new.arcs ≡ self.old.arcs }
         ensures changed { TellsChanged self.old self.new }
     {
-        self.changes.clear();
-        let at = node as usize;
-        if self.lowers[at] < lower {
-            self.lowers[at] = lower;
-            self.stale = self.arcs.len();
-            self.trail.clear();
-            raise_length(
-                &self.arcs,
-                &self.begun,
-                &self.order,
-                &self.lowers,
-                &mut self.lengths,
-                &mut self.changes,
-                node,
-            );
-        }
+        self.ordered.raise(node, lower)
     }
 
     /// The greatest length of a walk that ends in the node.
@@ -248,7 +149,7 @@ impl Paths {
         ensures of_all_walks { (nodes : List ℕ) → IsWalkTo self.now.lowers self.now.arcs node nodes
             → walk_length self.now.lowers self.now.arcs nodes ≤ result }
     {
-        self.lengths[node as usize]
+        self.ordered.length(node)
     }
 
     /// The nodes whose lengths the last call of `add` or `raise` made greater, each once. There are
@@ -260,7 +161,7 @@ impl Paths {
             self.now.changed }
         ensures once { HasNoNodeTwice self.now.changed }
     {
-        self.changes.grown()
+        self.ordered.changed()
     }
 
     /// An order of the nodes in which each kept arc leads from a lower place to a higher. Only
@@ -269,7 +170,7 @@ impl Paths {
         ensures size { length result.now ≡ length self.now.lowers }
         ensures rising { AreRising self.now.arcs result.now }
     {
-        &self.order
+        self.ordered.order()
     }
 
     /// The node's place in that order.
@@ -279,7 +180,7 @@ impl Paths {
         ensures rising { (places : List ℕ) × AreRising self.now.arcs places
             × (result ≡ slice_index places node) }
     {
-        self.order.place(node)
+        self.ordered.place(node)
     }
 
     /// The arcs that are kept, in the order in which they were added.
@@ -289,7 +190,7 @@ impl Paths {
             self.now.arcs }
         ensures no_cycle { ¬ HasCycle self.now.arcs }
     {
-        &self.arcs
+        self.ordered.arcs()
     }
 
     /// Whether a kept arc leads to the node from one that is marked. It takes no memory.
@@ -304,7 +205,7 @@ impl Paths {
         // Of the marked nodes the one at the lowest place is entered from none.
         ensures rising { (places : List ℕ) × AreRising self.now.arcs places }
     {
-        comes_from_marked(&self.arcs, &self.ended, marks, node)
+        self.ordered.is_entered_from(node, marks)
     }
 
     /// A walk to the node that is as long as the node's length.
@@ -317,16 +218,7 @@ impl Paths {
             IsLongest self.now.lowers self.now.arcs node
             (walk_length self.now.lowers self.now.arcs nodes.items)) }
     {
-        let alloc = *self.arcs.allocator();
-        Ok(walk_back(
-            alloc,
-            &self.arcs,
-            &self.ended,
-            &self.order,
-            &self.lowers,
-            &self.lengths,
-            node,
-        )?)
+        self.ordered.walk(node)
     }
 
     /// The nodes of a way along kept arcs from one node to another, both among them, and `None`
@@ -344,26 +236,6 @@ impl Paths {
         ensures no_cycle { IfOk result (λ found. IfNone found ((length : ℕ)
             → ¬ HasCycle (with_arc self.now to from length).arcs)) }
     {
-        let alloc = *self.arcs.allocator();
-        if is_arc(self.refused, to, from) {
-            return Ok(Some(way_back(
-                alloc,
-                &self.arcs,
-                &self.ended,
-                &self.order,
-                &self.marks,
-                from,
-                to,
-            )?));
-        }
-        Ok(find_way(
-            alloc,
-            &self.arcs,
-            &self.begun,
-            &self.ended,
-            &self.order,
-            from,
-            to,
-        )?)
+        self.ordered.between(from, to)
     }
 }

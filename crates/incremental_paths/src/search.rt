@@ -6,17 +6,20 @@ ghost use Rattle.incremental_paths.specs.Marked.{begins, AreWithin, AreRising, A
 use crate::arc::Arc;
 use crate::marks::Marks;
 use crate::order::Order;
+use crate::steps::Steps;
 use crate::threads::Threads;
+use std::sync::ledger::Ledger;
 
 /// Marks the nodes that arcs lead to from `start` on, as far as they lead on from below the place
 /// `end`, the start among them, and no others.
-pub fn mark_from(
+pub fn mark_from<L: Ledger>(
     arcs: &[Arc],
     begun: &Threads,
     order: &Order,
     marks: &mut Marks,
     start: u32,
     end: usize,
+    steps: &mut Steps<L>,
 )
     requires begun { begun.now ≡ record { size = length order.now; keys = begins arcs.now } }
     requires within { AreWithin (length order.now) arcs.now }
@@ -30,15 +33,22 @@ pub fn mark_from(
     marks.clear();
     marks.mark(start);
     for place in order.place(start) as usize..end {
+        steps.look();
         let node = order.node(place);
         if marks.has(node) {
-            mark_ends(arcs, begun, marks, node);
+            mark_ends(arcs, begun, marks, node, steps);
         }
     }
 }
 
 // Marks the ends of the arcs that begin at the node.
-fn mark_ends(arcs: &[Arc], begun: &Threads, marks: &mut Marks, node: u32)
+fn mark_ends<L: Ledger>(
+    arcs: &[Arc],
+    begun: &Threads,
+    marks: &mut Marks,
+    node: u32,
+    steps: &mut Steps<L>,
+)
     requires begun { begun.now ≡ record { size = length marks.old; keys = begins arcs.now } }
     requires within { AreWithin (length marks.old) arcs.now }
     requires node { node < length marks.old }
@@ -55,6 +65,7 @@ fn mark_ends(arcs: &[Arc], begun: &Threads, marks: &mut Marks, node: u32)
     let mut front = begun.last(node);
     while front > 0 {
         let at = front - 1;
+        steps.look_along();
         marks.mark(arcs[at].to);
         front = begun.before(at);
     }

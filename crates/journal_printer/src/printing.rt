@@ -39,6 +39,7 @@ fn put_tree<S: Shelf>(
     ensures readings { (name : List ℕ) → S.reading_faults shelf.new name
         ≡ S.reading_faults shelf.old name }
     ensures known { (name : List ℕ) → S.knows shelf.old name → S.knows shelf.new name }
+    ensures feeds { S.open_feeds shelf.new ≡ S.open_feeds shelf.old }
 {
     let Ok(puts) = entry_puts(alloc, trees, entry) else {
         return Err(PutNo::Memory);
@@ -79,6 +80,7 @@ fn print_entry<S: Shelf, O: Sink>(
         (outside (S.holds shelf.new) (S.reading_faults shelf.new) (S.putting_faults shelf.new)
         (O.faults out.new) (O.written out.new)) result }
     ensures known { (name : List ℕ) → S.knows shelf.old name → S.knows shelf.new name }
+    ensures feeds { S.open_feeds shelf.new ≡ S.open_feeds shelf.old }
 {
     put_tree(alloc, shelf, trees, entry)?;
     write_line(alloc, out, entry)?;
@@ -110,6 +112,7 @@ pub fn print_entries<S: Shelf, O: Sink>(
         (outside (S.holds shelf.new) (S.reading_faults shelf.new) (S.putting_faults shelf.new)
         (O.faults out.new) (O.written out.new)) result }
     ensures known { (name : List ℕ) → S.knows shelf.old name → S.knows shelf.new name }
+    ensures feeds { S.open_feeds shelf.new ≡ S.open_feeds shelf.old }
 {
     for entry in entries {
         print_entry(alloc, shelf, out, trees, entry)?;

@@ -18,7 +18,8 @@ use Rattle.train_orders.proofs.Ordered.{last_is_entry, has_last}
 use Rattle.node_facts.specs.declared.demands.Demand.{Demand}
 use Rattle.node_facts.specs.declared.demands.Demand.TheVariants.{Has, Lacks, Goes, Follows}
 use Rattle.node_facts.specs.Demands.{Meets, AreDemands, Allows}
-use Rattle.node_facts.specs.Ways.{ArePlaces, IsWay}
+use Rattle.node_facts.specs.Ways.{IsWay}
+use Rattle.route_marks.specs.Marks.{ArePlaces}
 use Rattle.node_facts.proofs.Placing.{falls, apart, place_within}
 
 -- what is known of a train before its ways are looked for

@@ -21,7 +21,8 @@ use Rattle.train_orders.proofs.Places.{at_contains}
 use Rattle.train_orders.proofs.Ordered.{one_place, has_last, last_is_entry}
 use Rattle.node_facts.specs.declared.train.TrainKnowledge.{TrainKnowledge}
 use Rattle.node_facts.specs.Demands.{AreDemands}
-use Rattle.node_facts.specs.Ways.{ArePlaces, AreSums, last_of}
+use Rattle.node_facts.specs.Ways.{AreSums, last_of}
+use Rattle.route_marks.specs.Marks.{ArePlaces}
 use Rattle.node_facts.specs.Known.{AreOnEach, IsKnown}
 
 pub train_read : (trains items : List (List Operation)) (t : ℕ) (found operations : List Operation) → items ≡ trains → found ≡ get_or items t found → operations ≡ found → t < length trains → get_or trains t [] ≡ operations

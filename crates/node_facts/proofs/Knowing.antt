@@ -1,68 +1,22 @@
 -- What the ways of a train say of its allowed routes.
-use Rattle.std.proofs.Common.{◌≡◌, ℕ, ◌+◌, ◌<◌, List, [], ◌∷◌, ◌++◌, length, Option, Some, None, Bool, true, false, refl, sym, ap, subst, ◌∙◌, inl, inr, arith}
-use Rattle.std.specs.Prelude.{Contains, IsTrue, IsSome, not, slice_index_or, ◌↔◌, ◌&&◌}
-use Rattle.std.proofs.lemmas.Bool.{cases_lt, false≢true}
-use Rattle.std.proofs.lemmas.List.{length_push, get_or_append_left, get_or_push, get_or_past}
-use Rattle.std.proofs.lemmas.List.Elements.{All-append, All-cons, All-nil, All-head}
-use Rattle.disp_model.specs.declared.train.Operation.{Operation}
+use Rattle.std.proofs.Common.{◌≡◌, ℕ, ◌<◌, List, [], ◌∷◌, length, Option, Some, None, Bool, true, false, refl, sym, subst, ◌∙◌}
+use Rattle.std.specs.Prelude.{Contains, IsTrue, IsSome, slice_index_or, ◌↔◌, ◌&&◌}
+use Rattle.std.proofs.lemmas.Bool.{false≢true}
 use Rattle.disp_model.specs.Valid.{train_at}
 use Rattle.disp_model.specs.Node.{Node}
 use Rattle.disp_model.specs.Routes.{HasRoute, IsForced}
-use Rattle.disp_laws.proofs.Paths.{is_in, contains_in, in_or_not}
+use Rattle.disp_laws.proofs.Paths.{is_in}
 use Rattle.disp_laws.proofs.RouteSearch.{each_within}
-use Rattle.node_facts.specs.declared.demands.Demand.{Demand}
-use Rattle.node_facts.specs.declared.demands.Demand.TheVariants.{Lacks}
 use Rattle.node_facts.specs.declared.train.TrainKnowledge.{TrainKnowledge}
-use Rattle.node_facts.specs.Ways.{IsWay, way_sum, IsLeastOf, HasSum, sum_at}
-use Rattle.node_facts.specs.Known.{op_of, IsOnEach, AreOnEach, IsKnown}
-use Rattle.node_facts.proofs.Demanding.{all_parts}
-use Rattle.node_facts.proofs.Allowing.{IsLaidOut, Keeps, keeps_lacks, lacks_keeps, way_goes, way_keeps, keeps_way, IsAsked, allowed_is_way, way_is_allowed}
+use Rattle.node_facts.specs.Ways.{way_sum, IsLeastOf, HasSum, sum_at}
+use Rattle.node_facts.specs.Known.{op_of, IsKnown}
+use Rattle.node_facts.proofs.Allowing.{IsLaidOut, way_goes, IsAsked, allowed_is_way, way_is_allowed}
 
 -- ---- what has a least number
 
 pub some_has : (P : ℕ → Type 0) (least : Option ℕ) → IsLeastOf P least → IsSome least ↔ ((n : ℕ) × P n)
 some_has P None is = (λ some. absurd (false≢true some), λ h. absurd (is h.0 h.1))
 some_has P (Some n) is = (λ some. (n, is.reached), λ h. refl)
-
--- ---- ways that lack an operation
-
-way_lacks : (train : List Operation) (places : List ℕ) (demands : List Demand) (e o : ℕ) (rest : List ℕ) → IsWay train places (demands ++ Lacks o ∷ []) e rest → IsWay train places demands e rest × (Contains (e ∷ rest) o → ⊥)
-way_lacks train places demands e o rest way =
-    let keeps = way_keeps train places (demands ++ Lacks o ∷ []) e rest way in
-    let parts = all_parts (λ demand. Keeps places demand e rest) demands (Lacks o ∷ []) keeps in (
-      keeps_way train places demands e rest (way_goes train places (demands ++ Lacks o ∷ []) e rest way) parts.0,
-      λ there. keeps_lacks places o e rest (All-head (λ demand. Keeps places demand e rest) (Lacks o) [] parts.1) (is_in o (e ∷ rest) there),
-    )
-
-lacks_way : (train : List Operation) (places : List ℕ) (demands : List Demand) (e o : ℕ) (rest : List ℕ) → IsWay train places demands e rest → (Contains (e ∷ rest) o → ⊥) → IsWay train places (demands ++ Lacks o ∷ []) e rest
-lacks_way train places demands e o rest way not =
-    let P = λ (demand : Demand). Keeps places demand e rest in
-    keeps_way train places (demands ++ Lacks o ∷ []) e rest (way_goes train places demands e rest way)
-    (All-append P demands (Lacks o ∷ []) (way_keeps train places demands e rest way) (All-cons P (Lacks o) [] (lacks_keeps places o e rest (λ there. not (contains_in o (e ∷ rest) there))) (All-nil P)))
-
-pub needed_is : (train : List Operation) (places : List ℕ) (demands : List Demand) (e o : ℕ) (found : Option ℕ) (has : Bool) → IsLeastOf (HasSum train places (demands ++ Lacks o ∷ []) e) found → (IsTrue has ↔ IsSome found)
-    → IsTrue (not has) ↔ IsOnEach train places demands e o
-needed_is train places demands e o found has least says = (
-  λ none rest way. elim (in_or_not o (e ∷ rest)) [
-    | inl there ↦ contains_in o (e ∷ rest) there
-    | inr missing ↦ absurd (both has none (says.1 ((some_has (HasSum train places more e) found least).1 (way_sum train e rest, record { rest = rest; way = lacks_way train places demands e o rest way (λ h. missing (is_in o (e ∷ rest) h)); sum_is = refl }))))
-  ],
-  λ on_each. not_true has (λ true.
-      let way = (some_has (HasSum train places more e) found least).0 (says.0 true) in
-      let lacks = way_lacks train places demands e o way.1.rest way.1.way in
-      lacks.1 (on_each way.1.rest lacks.0)),
-)
-  where
-    more : List Demand
-    more = demands ++ Lacks o ∷ []
-
-    both : (has : Bool) → IsTrue (not has) → IsTrue has → ⊥
-    both true none some = false≢true none
-    both false none some = false≢true some
-
-    not_true : (has : Bool) → (IsTrue has → ⊥) → IsTrue (not has)
-    not_true true never = absurd (never refl)
-    not_true false never = refl
 
 -- ---- what is known of a train
 
@@ -124,32 +78,3 @@ forced_is node t o known left marked is says mark = (
 pub forced_when : (node : Node) (t o : ℕ) (known : TrainKnowledge) (left value marked : Bool) → IsKnown node t known → (IsTrue left ↔ HasRoute node t) → left ≡ value → marked ≡ slice_index_or known.needed.items o false
     → IsTrue (value && marked) ↔ IsForced node (op_of t o)
 forced_when node t o known left value marked is says e mark = forced_is node t o known value marked is (subst (λ (b : Bool). IsTrue b ↔ HasRoute node t) e says) mark
-
--- ---- marks, one after another
-
-pub record AreMarked (train : List Operation) (places : List ℕ) (demands : List Demand) (e i : ℕ) (marks : List Bool) : Type 0 where
-  pub long : length marks ≡ i
-  pub each : (o : ℕ) → IsTrue (slice_index_or marks o false) ↔ ((o < i) × IsOnEach train places demands e o)
-
-pub marked_more : (train : List Operation) (places : List ℕ) (demands : List Demand) (e i : ℕ) (marks : List Bool) (mark : Bool) → (IsTrue mark ↔ IsOnEach train places demands e i) → AreMarked train places demands e i marks
-    → AreMarked train places demands e (i + 1) (marks ++ mark ∷ [])
-marked_more train places demands e i marks mark says before = record {
-  long = length_push marks mark ∙ ap (λ (n : ℕ). n + 1) before.long;
-  each = λ o. elim (cases_lt o i) [
-    | inl early ↦ rw (get_or_append_left marks (mark ∷ []) false o (omega (arith, early, before.long))) (λ h. (omega (arith, early), ((before.each o).0 h).1), λ h. (before.each o).1 (early, h.1))
-    | inr late ↦ elim (cases_lt i o) [
-      | inl past ↦ rw (get_or_past (marks ++ mark ∷ []) o false (omega (arith, past, length_push marks mark, before.long))) (λ h. absurd (false≢true h), λ h. absurd (omega (arith, past, h.0)))
-      | inr at ↦ own o (omega (arith, late, at))
-    ]
-  ];
-}
-  where
-    own : (o : ℕ) → i ≡ o → IsTrue (slice_index_or (marks ++ mark ∷ []) o false) ↔ ((o < i + 1) × IsOnEach train places demands e o)
-    own o same = subst (λ (x : ℕ). IsTrue (slice_index_or (marks ++ mark ∷ []) x false) ↔ ((x < i + 1) × IsOnEach train places demands e x)) same
-        (rw (get_or_push marks mark false i before.long) (λ h. (omega arith, says.0 h), λ h. says.1 h.1))
-
-pub marked_none : (train : List Operation) (places : List ℕ) (demands : List Demand) (e : ℕ) (marks : List Bool) → marks ≡ [] → AreMarked train places demands e 0 marks
-marked_none train places demands e marks none = rw none (record { long = refl; each = λ o. (λ h. absurd (false≢true h), λ h. absurd (omega (arith, h.0))) })
-
-pub marked_all : (train : List Operation) (places : List ℕ) (demands : List Demand) (e i : ℕ) (marks : List Bool) → i ≡ length train → AreMarked train places demands e i marks → AreOnEach train places demands e marks
-marked_all train places demands e i marks all marked = subst (λ (n : ℕ). (o : ℕ) → IsTrue (slice_index_or marks o false) ↔ ((o < n) × IsOnEach train places demands e o)) all marked.each

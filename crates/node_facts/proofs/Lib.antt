@@ -10,3 +10,4 @@ pub mod Sharing
 pub mod Lengths
 pub mod Closing
 pub mod Pricing
+pub mod Marking

@@ -9,7 +9,7 @@ use Rattle.disp_model.specs.Train.{IsSuccessor}
 use Rattle.train_orders.specs.Orders.{IsOrder}
 use Rattle.train_orders.proofs.Places.{at_contains, contains_at}
 use Rattle.train_orders.proofs.Ordered.{at_taken, one_place}
-use Rattle.node_facts.specs.Ways.{ArePlaces}
+use Rattle.route_marks.specs.Marks.{ArePlaces}
 
 -- ---- the places so far
 

@@ -4,7 +4,7 @@ use Rattle.std.specs.Prelude.{nat_eq, Contains, IsSome, IsTrue, ◌↔◌}
 use Rattle.std.proofs.lemmas.Bool.{cases_Bool, eqb-true, eq-eqb, false≢true}
 use Rattle.std.proofs.lemmas.Option.{none-some, same_Some}
 use Rattle.disp_model.specs.declared.train.Operation.{Operation}
-use Rattle.disp_model.specs.Train.{next_of, GoesOn}
+use Rattle.disp_model.specs.Train.{IsSuccessor, next_of, GoesOn}
 use Rattle.disp_model.specs.WellFormed.{IsAcyclic}
 use Rattle.disp_model.specs.Fixing.{after}
 use Rattle.disp_model.specs.Valid.{train_at}
@@ -156,6 +156,9 @@ goes_some node t o h s found is says = (
   λ true. let both = (says o).0 (is ∙ ap (λ (x : ℕ). Some x) (eqb-true s o true)) in record { forced = both.0; goes = both.1 },
   λ holder. eq-eqb s o (same_Some s o (sym is ∙ (says o).1 (holder.forced, holder.goes))),
 )
+
+pub not_next : (node : Node) (t o h : ℕ) (known : TrainKnowledge) → IsKnown node t known → (IsSuccessor (train_at node.problem t) h o → ⊥) → IsTrue false ↔ IsHolder node t o h
+not_next node t o h known is not = (λ yes. absurd (false≢true yes), λ holder. absurd (not (goes_step node t h o known is holder.forced holder.goes).there))
 
 pub goes_none : (node : Node) (t o h : ℕ) (found : Option ℕ) → found ≡ None → ((n : ℕ) → (found ≡ Some n) ↔ (IsForced node (op_of t h) × GoesTo node (op_of t h) (op_of t n))) → IsTrue false ↔ IsHolder node t o h
 goes_none node t o h found is says = (λ e. absurd (false≢true e), λ holder. absurd (none-some o (sym is ∙ (says o).1 (holder.forced, holder.goes))))

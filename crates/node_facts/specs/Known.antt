@@ -11,7 +11,8 @@ use Rattle.train_orders.specs.Orders.{IsOrder}
 use Rattle.node_facts.specs.declared.demands.Demand.{Demand}
 use Rattle.node_facts.specs.declared.train.TrainKnowledge.{TrainKnowledge}
 use Rattle.node_facts.specs.Demands.{AreDemands}
-use Rattle.node_facts.specs.Ways.{ArePlaces, MayGo, IsWay, sum_at, AreSums}
+use Rattle.node_facts.specs.Ways.{MayGo, IsWay, sum_at, AreSums}
+use Rattle.route_marks.specs.Marks.{ArePlaces}
 
 -- an operation of a train
 abbrev pub op_of : ℕ → ℕ → Op

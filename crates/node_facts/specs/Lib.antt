@@ -1,5 +1,6 @@
 pub mod Demands
 pub mod Ways
+pub mod Live
 pub mod Known
 pub mod Orders
 pub mod Windows

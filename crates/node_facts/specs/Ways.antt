@@ -1,14 +1,9 @@
 -- The ways through a train that fixings and decisions allow, and their least sums of durations.
-use Rattle.std.specs.Prelude.{◌≡◌, ◌⊎◌, ℕ, ◌+◌, ◌-◌, ◌≤◌, List, [], ◌∷◌, length, All, Contains, Option, Some, None, slice_get, slice_index, slice_index_or, min, MatchOption}
+use Rattle.std.specs.Prelude.{◌≡◌, ◌⊎◌, ℕ, ◌+◌, ◌-◌, ◌≤◌, List, [], ◌∷◌, length, All, Contains, Option, Some, None, slice_index, slice_index_or, min, MatchOption}
 use Rattle.disp_model.specs.declared.train.Operation.{Operation}
 use Rattle.disp_model.specs.Train.{duration_of, IsSuccessor, IsExit}
 use Rattle.node_facts.specs.declared.demands.Demand.{Demand}
 use Rattle.node_facts.specs.Demands.{Allows}
-
--- where each operation of an order stands
-pub record ArePlaces (train : List Operation) (order places : List ℕ) : Type 0 where
-  pub long : length places ≡ length train
-  pub at : (k o : ℕ) → slice_get order k ≡ Some o → slice_index places o ≡ k
 
 -- by all that is asked a route may go on from an operation to one, or end there
 abbrev pub MayGo : List ℕ → List Demand → ℕ → Option ℕ → Type 0

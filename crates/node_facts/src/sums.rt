@@ -1,27 +1,12 @@
 ghost use Rattle.std.specs.Prelude.{◌≡◌, ◌↔◌, ◌+◌, ◌*◌, ◌<◌, ◌≤◌, ◌^◌, ℕ, All, IfOk, IfSome, IsSome, IsTrue, Some, length};
 ghost use Rattle.disp_model.specs.WellFormed.{IsAcyclic};
 ghost use Rattle.train_orders.specs.Orders.{IsInside, IsOrder};
-ghost use Rattle.node_facts.specs.Ways.{ArePlaces, MayGo, IsLeastOf, lesser, sum_at, AreSums, IsOnward, GoesOnward, IsSumBy};
+ghost use Rattle.node_facts.specs.Ways.{MayGo, IsLeastOf, lesser, sum_at, AreSums, IsOnward, GoesOnward, IsSumBy};
+ghost use Rattle.route_marks.specs.Marks.{ArePlaces};
 
 use crate::demands::{Demand, may_go};
 use disp_model::{Memory, Operation};
 use std::alloc::Global;
-
-/// Where each operation of a train stands in an order.
-pub(crate) fn places_of(
-    alloc: Global,
-    train: &[Operation],
-    order: &[u32],
-) -> Result<Vec<usize>, Memory>
-    requires { IsOrder train.now order.now }
-    ensures { IfOk result (λ places. ArePlaces train.now order.now places.items) }
-{
-    let mut places = vec![in alloc; 0; train.len()]?;
-    for (place, number) in order.iter().enumerate() {
-        places[*number as usize] = place;
-    }
-    Ok(places)
-}
 
 /// The least sum that is kept of an operation.
 pub(crate) fn sum_at(sums: &[Option<u64>], op: u32) -> Option<u64>

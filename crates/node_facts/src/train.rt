@@ -7,9 +7,10 @@ ghost use Rattle.node_facts.specs.Ways.{last_of, sum_at};
 
 use crate::demands::{Demand, demands_of, may_go, place_at};
 use crate::needed::{is_marked, needed_of};
-use crate::reading::{nexts_of, train_of};
-use crate::sums::{has_way, places_of, sum_at, sums_of};
+use crate::reading::{comes_next, nexts_of, train_of};
+use crate::sums::{has_way, sum_at, sums_of};
 use disp_model::{Decision, Fixing, Memory, Operation, Problem};
+use route_marks::places_of;
 use std::alloc::Global;
 use train_orders::order_of;
 
@@ -59,7 +60,7 @@ impl TrainKnowledge {
         let places = places_of(alloc, operations, &order)?;
         let entry = last_of(&order);
         let sums = sums_of(alloc, operations, &order, &places, &demands)?;
-        let needed = needed_of(alloc, operations, &order, &places, &demands, entry)?;
+        let needed = needed_of(alloc, operations, &order, &places, &demands, &sums, entry)?;
         Ok(TrainKnowledge {
             places,
             demands,
@@ -138,6 +139,9 @@ impl TrainKnowledge {
         ensures { (node : Node) (t : ℕ) → IsKnown node t self.now
             → train_at node.problem t ≡ train.now → IsTrue result ↔ IsHolder node t next op }
     {
+        if !comes_next(train, op, next) {
+            return false;
+        }
         match self.only_next(train, op) {
             Some(found) => found == next,
             None => false,

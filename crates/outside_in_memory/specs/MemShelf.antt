@@ -49,6 +49,10 @@ put_count shelf = shelf.puts
 abbrev pub NextPutBreaks : MemShelf → Type 0
 NextPutBreaks shelf = Contains (broken_puts shelf) (put_count shelf + 1)
 
+-- how many of its feeds are open
+abbrev pub open_count : MemShelf → ℕ
+open_count shelf = shelf.open_feeds
+
 -- the name's file is as it was
 pub record KeepsFile (old new : MemShelf) (name : List ℕ) : Type 0 where
   pub file : held_file new name ≡ held_file old name

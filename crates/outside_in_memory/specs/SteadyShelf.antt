@@ -7,3 +7,7 @@ use Rattle.outside_in_memory.specs.declared.steady_shelf.SteadyShelf.{SteadyShel
 -- what the name's file holds, and nothing where none was placed
 abbrev pub held_bytes : SteadyShelf → List ℕ → List ℕ
 held_bytes shelf name = option_map_or (λ file. file.items) (get_by_text shelf.files name) []
+
+-- how many of its feeds are open
+abbrev pub open_count : SteadyShelf → ℕ
+open_count shelf = shelf.open_feeds

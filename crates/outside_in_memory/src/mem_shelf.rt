@@ -22,10 +22,11 @@ pub struct MemShelf {
     put_faults: FaultCounts,
     broken_puts: Vec<u64>,
     puts: u64,
+    open_feeds: u64,
 }
 
 impl MemShelf {
-    ghost use Rattle.outside_in_memory.specs.MemShelf.{held_file, broken_calls, broken_lines, call_count, broken_puts, put_count, reading_faults, putting_faults, KnowsName, KeepsFile, KeepsPuts};
+    ghost use Rattle.outside_in_memory.specs.MemShelf.{held_file, broken_calls, broken_lines, call_count, broken_puts, put_count, reading_faults, putting_faults, KnowsName, open_count, KeepsFile, KeepsPuts};
 
     /// A shelf of no files.
     pub fn new(alloc: Global) -> Self
@@ -34,6 +35,7 @@ impl MemShelf {
         ensures put_faults { (name : List ℕ) → putting_faults result name ≡ 0 }
         ensures broken_puts { broken_puts result ≡ [] }
         ensures puts { put_count result ≡ 0 }
+        ensures feeds { open_count result ≡ 0 }
         ensures names { (name : List ℕ) → ¬ KnowsName result name }
     {
         MemShelf {
@@ -43,6 +45,7 @@ impl MemShelf {
             put_faults: FaultCounts::new(alloc),
             broken_puts: Vec::new(alloc),
             puts: 0,
+            open_feeds: 0,
         }
     }
 
@@ -61,6 +64,7 @@ impl MemShelf {
             ≡ putting_faults self.old other }
         ensures names { (other : List ℕ) → KnowsName self.new other ↔ KnowsName self.old other }
         ensures puts { KeepsPuts self.old self.new }
+        ensures feeds { open_count self.new ≡ open_count self.old }
     {
         self.set_file(name, bytes, broken)
     }
@@ -98,6 +102,7 @@ impl MemShelf {
         ensures put_faults { (name : List ℕ) → putting_faults self.new name
             ≡ putting_faults self.old name }
         ensures names { (name : List ℕ) → KnowsName self.new name ↔ KnowsName self.old name }
+        ensures feeds { open_count self.new ≡ open_count self.old }
     {
         self.broken_puts = calls.to_vec(self.alloc)?;
         Ok(())
@@ -124,6 +129,13 @@ impl MemShelf {
         Ok(())
     }
 
+    /// How many of its feeds are open.
+    pub fn open_feeds(&self) -> u64
+        ensures { result ≡ open_count self.now }
+    {
+        self.open_feeds
+    }
+
     /// How often a putting under the name has failed, and the greatest number where it is more.
     pub fn put_faults(&self, name: &str) -> u64
         ensures { result ≡ min (putting_faults self.now name.now) (2 ^ 64 - 1) }
@@ -147,7 +159,7 @@ impl MemShelf {
 }
 
 impl Shelf for MemShelf {
-    ghost use Rattle.outside_in_memory.specs.MemShelf.{held_file, broken_calls, broken_lines, call_count, broken_puts, put_count, reading_faults, putting_faults, KnowsName, NextBreaks, NextPutBreaks, KeepsFile, KeepsPuts, HasNoBreaks};
+    ghost use Rattle.outside_in_memory.specs.MemShelf.{held_file, broken_calls, broken_lines, call_count, broken_puts, put_count, reading_faults, putting_faults, KnowsName, open_count, NextBreaks, NextPutBreaks, KeepsFile, KeepsPuts, HasNoBreaks};
     ghost use Rattle.outside_in_memory.specs.MemFeed.{feed_name, lines_left, fault_count, has_ended, broken_calls as feed_broken, call_count as feed_calls};
 
     type Feed = MemFeed;
@@ -159,6 +171,8 @@ impl Shelf for MemShelf {
     ghost reading_faults = { λ shelf name. reading_faults shelf name };
 
     ghost putting_faults = { λ shelf name. putting_faults shelf name };
+
+    ghost open_feeds = { λ shelf. open_count shelf };
 
     #[tactic(auto, using(std::proofs::lemmas::Map::Text::text_keys))]
     fn fetch(&mut self, alloc: Global, name: &str, limit: u64) -> Result<Vec<u8>, FetchNo>
@@ -183,6 +197,7 @@ impl Shelf for MemShelf {
             → KnowsName self.new other }
         ensures memory { IsErrOf result FetchNo.Memory → (other : List ℕ) → KnowsName self.new other
             → KnowsName self.old other }
+        ensures feeds { open_count self.new ≡ open_count self.old }
 
         // It fails exactly where there is no file, and in the calls of the list.
         ensures breaks { IsErrOf result FetchNo.Failed → NextBreaks self.old name.now }
@@ -240,6 +255,7 @@ impl Shelf for MemShelf {
             → KnowsName self.old other }
         ensures memory_held { IsErrOf result PutNo.Memory → Some (held_file self.new name.now)
             ≡ Some (held_file self.old name.now) }
+        ensures feeds { open_count self.new ≡ open_count self.old }
 
         // It fails exactly in the calls of the list, and then the file stays.
         ensures breaks { IsErrOf result PutNo.Failed → NextPutBreaks self.old }
@@ -294,6 +310,8 @@ impl Shelf for MemShelf {
             → KnowsName self.new other }
         ensures memory { IsErrOf result FeedNo.Memory → (other : List ℕ) → KnowsName self.new other
             → KnowsName self.old other }
+        ensures opened { OnOk result (open_count self.new ≡ open_count self.old + 1) }
+        ensures unopened { OnErr result (open_count self.new ≡ open_count self.old) }
 
         // It fails exactly where there is no file, and in the readings of the list.
         ensures breaks { IsErrOf result FeedNo.Failed → NextBreaks self.old name.now }
@@ -315,6 +333,9 @@ impl Shelf for MemShelf {
         ensures line_lists { broken_lines self.new name.now ≡ broken_lines self.old name.now }
         ensures puts { KeepsPuts self.old self.new }
     {
+        let Some(open_feeds) = self.open_feeds.checked_add(1) else {
+            return Err(FeedNo::Memory);
+        };
         self.faults.make_room(alloc, name)?;
         let Some(file) = self.files.get_mut(name) else {
             self.faults.add(name);
@@ -323,6 +344,7 @@ impl Shelf for MemShelf {
         match file.open(alloc, name) {
             Ok(feed) => {
                 self.faults.know(name);
+                self.open_feeds = open_feeds;
                 Ok(feed)
             }
             Err(FeedNo::Failed) => {
@@ -347,12 +369,14 @@ impl Shelf for MemShelf {
         ensures held { (other : List ℕ) → Some (held_file self.new other)
             ≡ Some (held_file self.old other) }
         ensures known { (other : List ℕ) → KnowsName self.new other ↔ KnowsName self.old other }
+        ensures closed { open_count self.new ≡ open_count self.old - 1 }
 
         ensures once { 0 < fault_count feed → reading_faults self.new (feed_name feed)
             ≡ reading_faults self.old (feed_name feed) + 1 }
         ensures files { (other : List ℕ) → KeepsFile self.old self.new other }
         ensures puts { KeepsPuts self.old self.new }
     {
+        self.open_feeds = self.open_feeds.saturating_sub(1);
         if let Some(ticket) = feed.into_fault() {
             self.faults.add_closed(ticket);
         }

@@ -13,18 +13,21 @@ use std::collections::BTreeMap;
 pub struct SteadyShelf {
     alloc: Global,
     files: BTreeMap<String, Vec<u8>>,
+    open_feeds: u64,
 }
 
 impl SteadyShelf {
-    ghost use Rattle.outside_in_memory.specs.SteadyShelf.{held_bytes};
+    ghost use Rattle.outside_in_memory.specs.SteadyShelf.{held_bytes, open_count};
 
     /// A shelf of empty files.
     pub fn new(alloc: Global) -> Self
-        ensures { (name : List ℕ) → held_bytes result name ≡ [] }
+        ensures files { (name : List ℕ) → held_bytes result name ≡ [] }
+        ensures feeds { open_count result ≡ 0 }
     {
         SteadyShelf {
             alloc,
             files: BTreeMap::new(alloc),
+            open_feeds: 0,
         }
     }
 
@@ -36,6 +39,7 @@ impl SteadyShelf {
             ≡ held_bytes self.old other }
         ensures err { OnErr result ((other : List ℕ) → held_bytes self.new other
             ≡ held_bytes self.old other) }
+        ensures feeds { open_count self.new ≡ open_count self.old }
     {
         let key = String::from_str(self.alloc, name)?;
         let file = bytes.to_vec(self.alloc)?;
@@ -52,10 +56,17 @@ impl SteadyShelf {
             None => &[],
         }
     }
+
+    /// How many of its feeds are open.
+    pub fn open_feeds(&self) -> u64
+        ensures { result ≡ open_count self.now }
+    {
+        self.open_feeds
+    }
 }
 
 impl Shelf for SteadyShelf {
-    ghost use Rattle.outside_in_memory.specs.SteadyShelf.{held_bytes};
+    ghost use Rattle.outside_in_memory.specs.SteadyShelf.{held_bytes, open_count};
 
     type Feed = SteadyFeed;
 
@@ -67,6 +78,8 @@ impl Shelf for SteadyShelf {
 
     ghost putting_faults = { λ _ _. 0 };
 
+    ghost open_feeds = { λ shelf. open_count shelf };
+
     fn fetch(&mut self, alloc: Global, name: &str, limit: u64) -> Result<Vec<u8>, FetchNo> {
         copy_within(alloc, self.file(name), limit)
     }
@@ -77,8 +90,15 @@ impl Shelf for SteadyShelf {
     }
 
     fn feed(&mut self, alloc: Global, name: &str) -> Result<SteadyFeed, FeedNo> {
-        Ok(SteadyFeed::new(alloc, name, self.file(name))?)
+        let Some(open_feeds) = self.open_feeds.checked_add(1) else {
+            return Err(FeedNo::Memory);
+        };
+        let feed = SteadyFeed::new(alloc, name, self.file(name))?;
+        self.open_feeds = open_feeds;
+        Ok(feed)
     }
 
-    fn close(&mut self, _feed: SteadyFeed) {}
+    fn close(&mut self, _feed: SteadyFeed) {
+        self.open_feeds = self.open_feeds.saturating_sub(1);
+    }
 }

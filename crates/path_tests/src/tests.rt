@@ -1,9 +1,11 @@
 // Arcs that are added and withdrawn, and lowers that are raised.
-ghost use Rattle.std.specs.Prelude.{◌≡◌, ◌<◌, ◌≤◌, ◌^◌, length, All, IfOk};
+ghost use Rattle.std.specs.Prelude.{◌≡◌, ◌<◌, ◌≤◌, ◌+◌, ◌^◌, length, All, IfOk};
 
-use incremental_paths::{AddNo, Arc, Memory, Paths};
+use incremental_paths::{AddNo, Arc, Memory, OrderedPaths, Paths, Steps};
 use std::alloc::Global;
+use std::marker::Brand;
 use std::process::Abort;
+use std::sync::ledger::{Blank, Ledger};
 use std::test::Fail;
 
 // One call, and for an arc whether it is taken.
@@ -102,7 +104,9 @@ fn run(
     lowers: &[u64],
     rows: &[(Step, &[u64], &[u32])],
 ) -> Result<Paths, Fail>
-    ensures { IfOk result (λ paths. length paths.lowers ≡ length lowers.now) }
+    ensures nodes { IfOk result (λ paths. length paths.lowers ≡ length lowers.now) }
+    ensures lowers { IfOk result (λ paths. All (λ lower. lower < 2 ^ 32) paths.lowers) }
+    ensures lengths { IfOk result (λ paths. All (λ arc. arc.length < 2 ^ 32) paths.arcs) }
 {
     let nodes = lowers.len();
     assert!(rt; nodes < 1000);
@@ -224,6 +228,67 @@ fn a_chain_is_as_long_as_its_arcs_and_not_closed(rt: HostRuntime) -> Result<(), 
     let refused = add(&rt, &mut paths, 1000, 0, 999, 0);
     assert_eq!(rt; refused, Err(AddNo::Closes { from: 0, to: 999 }));
     assert_eq!(rt; paths.changed().len(), 0);
+    Ok(())
+}
+
+// Adds an arc that is along the order and raises no length. That takes at most four steps.
+fn add_along<L: Ledger>(
+    rt: &impl Abort,
+    paths: &mut OrderedPaths,
+    nodes: usize,
+    arc: Arc,
+    steps: &mut Steps<L>,
+) -> Result<(), AddNo>
+    requires nodes { length paths.old.network.lowers ≡ nodes }
+    requires lowers { All (λ lower. lower < 2 ^ 32) paths.old.network.lowers }
+    requires lengths { All (λ arc. arc.length < 2 ^ 32) paths.old.network.arcs }
+    ensures steps { steps.new ≤ steps.old + 4 }
+{
+    let kept = paths.arcs().len();
+    assert!(rt; kept < 1000);
+    assert!(rt; (arc.from as usize) < nodes);
+    assert!(rt; (arc.to as usize) < nodes);
+    let low = paths.place(arc.from);
+    let high = paths.place(arc.to);
+    assert!(rt; low < high);
+    let start = paths.length(arc.from);
+    let end = paths.length(arc.to);
+    assert!(rt; start < 1000);
+    assert!(rt; arc.length < 1000);
+    assert!(rt; start + arc.length <= end);
+    paths.add_counted(arc.from, arc.to, arc.length, steps)
+}
+
+// Beside arcs from 2 to 1 to 0, one from 2 to 0 that is as long as both.
+fn add_beside<L: Ledger>(rt: &impl Abort, paths: Paths, blank: Blank) -> Result<(), AddNo>
+    requires name { blank.name ≡ L.name }
+    requires parts { blank.parts ≡ L.parts }
+    requires some { 0 < blank.parts }
+    requires nodes { length paths.lowers ≡ 3 }
+    requires lowers { All (λ lower. lower < 2 ^ 32) paths.lowers }
+    requires lengths { All (λ arc. arc.length < 2 ^ 32) paths.arcs }
+{
+    let mut paths = paths.into_ordered();
+    let mut steps = Steps::<L>::new(blank);
+    let arc = Arc {
+        from: 2,
+        to: 0,
+        length: 15,
+    };
+    add_along(rt, &mut paths, 3, arc, &mut steps)?;
+    assert_eq!(rt; paths.changed().len(), 0);
+    assert_eq!(rt; paths.arcs().len(), 3);
+    Ok(())
+}
+
+#[test]
+fn an_arc_that_raises_nothing_takes_four_steps(rt: HostRuntime) -> Result<(), Fail> {
+    let rows: [(Step, &[u64], &[u32]); 2] = [
+        (Step::Add(2, 1, 10), &[0, 10, 0], &[1]),
+        (Step::Add(1, 0, 5), &[15, 10, 0], &[0]),
+    ];
+    let paths = run(&rt, rt.alloc(), &[0, 0, 0], &rows)?;
+    add_beside::<Brand>(&rt, paths, Blank::new(1))?;
     Ok(())
 }
 

@@ -1,5 +1,6 @@
 mod answers;
 mod beside_feeds;
+mod failing;
 mod faults;
 mod feed_lines;
 mod holds;

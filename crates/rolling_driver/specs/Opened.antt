@@ -9,7 +9,10 @@ use Rattle.shared_board.specs.declared.terms.Terms.{Terms}
 use Rattle.shared_board.specs.Board.{board_of, own_board, known, fetched}
 use Rattle.crew_runs.specs.Seats.{AreSeats, IsSeated, with_searchers}
 use Rattle.feed_runs.specs.Readers.{AreReaders, AreReady, with_readers}
+use Rattle.feed_runs.specs.declared.reader.Reader.{Reader}
 use Rattle.rolling_driver.specs.declared.opening.Run.{Run}
+use Rattle.rolling_driver.specs.declared.opening.Left.{Left}
+use Rattle.rolling_driver.specs.declared.opening.Left.TheVariants.{Feeds, Readers}
 
 -- what the board of a run is given
 abbrev pub terms_for : Problem → Settings → ℕ → ℕ → Terms
@@ -27,6 +30,11 @@ module _ {F : Type 0} where
   -- feeds of which nothing was read
   abbrev pub AreNew : (F → Bool) → (F → ℕ) → List F → Type 0
   AreNew has_ended faults feeds = All (λ feed. (has_ended feed ≡ false) × (faults feed ≡ 0)) feeds
+
+  -- the feeds of a run that may not start
+  abbrev pub feeds_of : Left F → List F
+  feeds_of (Feeds feeds) = feeds.items
+  feeds_of (Readers readers) = map (λ r. r.feed) readers.items
 
   -- each feed and each searcher has its pass, and may begin
   pub record IsOpened (has_ended : F → Bool) (faults : F → ℕ) (problem : Problem) (settings : Settings) (workers : ℕ) (feeds : List F) (run : Run F) : Type 0 where

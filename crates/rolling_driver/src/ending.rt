@@ -1,4 +1,4 @@
-ghost use Rattle.std.specs.Prelude.{◌≡◌, All, ℕ, List, OnOk, option_map, drop, length};
+ghost use Rattle.std.specs.Prelude.{◌≡◌, ◌-◌, All, ℕ, List, OnOk, option_map, drop, length};
 ghost use Rattle.text_puts.specs.Outside.{outside};
 ghost use Rattle.shared_board.specs.Board.{board_of, own_board, known, fetched};
 ghost use Rattle.rolling_driver.specs.Ended.{MayEnd, IsEnded, PrintsBehind};
@@ -37,6 +37,7 @@ fn print_rest<W: Wait, S: Shelf, O: Sink>(
         (O.faults out.new) (O.written out.new)) printed result }
     ensures readings { (name : List ℕ) → S.reading_faults shelf.new name
         ≡ S.reading_faults shelf.old name }
+    ensures feeds { S.open_feeds shelf.new ≡ S.open_feeds shelf.old }
 {
     match printed {
         Ok(()) => print_news(rt, alloc, board, first, shelf, out, trees),
@@ -67,6 +68,7 @@ pub(crate) fn end_run<W: Wait, S: Shelf, O: Sink>(
         (O.faults out.old) (O.written out.old))
         (outside (S.holds shelf.new) (S.reading_faults shelf.new) (S.putting_faults shelf.new)
         (O.faults out.new) (O.written out.new)) result.0 result.1 }
+    ensures closed { S.open_feeds shelf.new ≡ S.open_feeds shelf.old - length readers.items }
 {
     let mut first = first;
     join_readers(&board, &mut first, shelf, readers);

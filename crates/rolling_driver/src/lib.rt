@@ -6,6 +6,7 @@
 //! lines in order, and what was written is the journal's text.
 #![tactic(auto)]
 
+mod closing;
 mod ending;
 mod opening;
 mod printing;
@@ -13,4 +14,5 @@ mod rolling;
 mod running;
 mod status;
 
+pub use closing::close_feeds;
 pub use rolling::{Rolled, roll};

@@ -1,4 +1,4 @@
-ghost use Rattle.std.specs.Prelude.{◌≡◌, ◌≤◌, All, IfOk, OnErr, length, option_map};
+ghost use Rattle.std.specs.Prelude.{◌≡◌, ◌≤◌, ◌-◌, All, IfOk, OnErr, length, option_map};
 ghost use Rattle.disp_model.specs.declared.limits.TheConstants.{MOST_CALLERS};
 ghost use Rattle.text_puts.specs.Outside.{outside};
 ghost use Rattle.rolling_driver.specs.Opened.{AreNew};
@@ -24,7 +24,7 @@ pub struct Rolled {
 /// Runs feeds and searchers on a problem until all feeds have ended and the newest edition is settled
 /// or stopped, and prints the journal as it comes: the line of each entry, and before that of a
 /// settled edition its tree, which is put under `trees` and the edition's number. The feeds are
-/// closed.
+/// closed, whatever comes.
 ///
 /// # Errors
 ///
@@ -57,6 +57,7 @@ pub fn roll<R: Threads + Wait + Sync, S: Shelf, O: Sink, G: Gate>(
         (O.faults out.new) (O.written out.new)
         ≡ outside (S.holds shelf.old) (S.reading_faults shelf.old) (S.putting_faults shelf.old)
         (O.faults out.old) (O.written out.old)) }
+    ensures closed { S.open_feeds shelf.new ≡ S.open_feeds shelf.old - length feeds.items }
 {
     let Run {
         board,
@@ -64,7 +65,7 @@ pub fn roll<R: Threads + Wait + Sync, S: Shelf, O: Sink, G: Gate>(
         crew,
         mut readers,
         mut searchers,
-    } = open_run(alloc, problem, settings, workers, feeds)?;
+    } = open_run(alloc, problem, settings, workers, feeds, shelf)?;
     let printed = run_all(
         rt,
         alloc,

@@ -17,13 +17,13 @@ use Rattle.disp_model.specs.Arcs.{IsTrainArc, GoesTo}
 use Rattle.train_orders.specs.Orders.{IsInside, IsOrder}
 use Rattle.train_orders.proofs.Ordered.{has_last}
 use Rattle.route_sets.specs.declared.asks.Ask.{Ask}
-use Rattle.route_sets.specs.declared.marks.Mark.{Mark}
+use Rattle.route_marks.specs.declared.marks.Mark.{Mark}
 use Rattle.route_sets.specs.declared.routes.Routes.{Routes}
 use Rattle.route_sets.specs.declared.sweep.Swept.{Swept}
 use Rattle.route_sets.specs.Asks.{AreAsks}
 use Rattle.route_sets.specs.Sweeps.{HasWay, IsSwept}
-use Rattle.route_sets.specs.Ways.{last_of}
-use Rattle.route_sets.specs.Marks.{IsLaid, mark_at, HasMarks}
+use Rattle.route_marks.specs.Ways.{last_of}
+use Rattle.route_marks.specs.Marks.{IsLaid, mark_at, HasMarks}
 use Rattle.route_sets.specs.Sets.{op_of, IsMarkOf, AreAllowedRows, AreRoutesOf}
 use Rattle.route_sets.proofs.Walking.{IsTrimmedFor, route_is_way}
 use Rattle.route_sets.proofs.Knowing.{AreWalks, are_walks, marks_are, ordered_are, route_there, marked_forced}

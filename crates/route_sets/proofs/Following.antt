@@ -19,10 +19,10 @@ use Rattle.disp_laws.proofs.Composed.{after_behind}
 use Rattle.train_orders.specs.Orders.{IsOrder}
 use Rattle.train_orders.proofs.Places.{contains_at, contains_none}
 use Rattle.train_orders.proofs.Ordered.{contains_here, one_place}
-use Rattle.route_sets.specs.declared.marks.Mark.{Mark}
+use Rattle.route_marks.specs.declared.marks.Mark.{Mark}
 use Rattle.route_sets.specs.declared.routes.Routes.{Routes}
-use Rattle.route_sets.specs.Ways.{last_of}
-use Rattle.route_sets.specs.Marks.{mark_at, HasMarks}
+use Rattle.route_marks.specs.Ways.{last_of}
+use Rattle.route_marks.specs.Marks.{mark_at, HasMarks}
 use Rattle.route_sets.specs.Sets.{op_of, follow, mark_followed, next_followed, BeginsEach, AreRoutesOf, IsOnlyRoute}
 use Rattle.route_sets.proofs.Knowing.{AreWalks, marked, order_fits, after_first, marked_forced, forced_marked}
 

@@ -24,14 +24,15 @@ use Rattle.train_orders.specs.Orders.{IsOrder}
 use Rattle.train_orders.proofs.Places.{at_contains, contains_at}
 use Rattle.train_orders.proofs.Ordered.{one_place}
 use Rattle.route_sets.specs.declared.asks.Ask.{Ask}
-use Rattle.route_sets.specs.declared.marks.Mark.{Mark}
+use Rattle.route_marks.specs.declared.marks.Mark.{Mark}
 use Rattle.route_sets.specs.Sweeps.{HasWay}
-use Rattle.route_sets.specs.Ways.{Steps, Goes, IsWalk, Chain, IsOnEach, last_of}
-use Rattle.route_sets.specs.Marks.{IsLaid, IsMark, mark_at, HasMarks}
+use Rattle.route_marks.specs.Ways.{Steps, Goes, IsWalk, Chain, IsOnEach, last_of}
+use Rattle.route_marks.specs.Marks.{IsLaid, IsMark, mark_at, HasMarks}
 use Rattle.route_sets.specs.Sets.{op_of, IsMarkOf, AreOrdered}
-use Rattle.route_sets.proofs.Walking.{IsTrimmedFor, earlier, row_at, route_is_walk, walk_is_route}
-use Rattle.route_sets.proofs.Chaining.{chain_walk, walk_parts, goes_on, goes_below, chain_above, last_here}
-use Rattle.route_sets.proofs.Passing.{matched}
+use Rattle.route_marks.proofs.Keeping.{earlier}
+use Rattle.route_sets.proofs.Walking.{IsTrimmedFor, row_at, route_is_walk, walk_is_route}
+use Rattle.route_marks.proofs.Chaining.{chain_walk, walk_parts, goes_on, goes_below, chain_above, last_here}
+use Rattle.route_marks.proofs.Passing.{matched}
 
 -- ---- an order is no longer than its train
 

@@ -17,9 +17,9 @@ use Rattle.disp_laws.proofs.Paths.{contains_in}
 use Rattle.disp_laws.proofs.Branching.{route_from}
 use Rattle.disp_laws.proofs.RouteSearch.{denied, same_option, IsListed, allowed_routes}
 use Rattle.disp_laws.proofs.LongestArcs.{some_or_not}
-use Rattle.route_sets.specs.declared.marks.Mark.{Mark}
+use Rattle.route_marks.specs.declared.marks.Mark.{Mark}
 use Rattle.route_sets.specs.declared.routes.Routes.{Routes}
-use Rattle.route_sets.specs.Marks.{mark_at}
+use Rattle.route_marks.specs.Marks.{mark_at}
 use Rattle.route_sets.specs.Sets.{op_of, parting, mark_parted, next_parted, AreRoutesOf, IsAloneUnparted}
 use Rattle.route_sets.proofs.Knowing.{after_first, marked_forced, forced_marked}
 use Rattle.route_sets.proofs.Following.{Goes_by, goes_further, none_behind, there, after_on, here_in, begin_forced}

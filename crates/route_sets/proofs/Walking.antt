@@ -19,7 +19,8 @@ use Rattle.train_orders.proofs.Ordered.{contains_here, contains_later, contains_
 use Rattle.route_sets.specs.declared.asks.Ask.{Ask}
 use Rattle.route_sets.specs.Asks.{Meets, free, ask_at, AreMet, IsWithin, AreAsks}
 use Rattle.route_sets.specs.Sweeps.{MayGo, MayEnd, IsWanted, Keeps, IsWay, HasWay, AreRows}
-use Rattle.route_sets.specs.Ways.{Steps, Goes, IsWalk}
+use Rattle.route_marks.specs.Ways.{Steps, Goes, IsWalk}
+use Rattle.route_marks.proofs.Keeping.{earlier}
 
 -- what the walks of a train go along
 pub record IsTrimmed (train : List Operation) (asks : List Ask) (order : List ℕ) (rows : List (List ℕ)) : Type 0 where
@@ -27,13 +28,6 @@ pub record IsTrimmed (train : List Operation) (asks : List Ask) (order : List �
   pub order_is : IsOrder train order
   pub asks_long : length asks ≡ length train
   pub rows_are : AreRows train asks order (length order) rows
-
--- a successor stands before the operation
-pub earlier : (train : List Operation) (order : List ℕ) (k o s : ℕ) → IsOrder train order → slice_get order k ≡ Some o → IsSuccessor train o s → (j : ℕ) × (j < k) × (slice_get order j ≡ Some s)
-earlier train order k o s is here goes =
-    let place = at_contains (take k order) s (is.is_behind.behind k o s here goes) in
-    let found = at_taken order k place.0 s place.1 in
-    (place.0, found.0, found.1)
 
 -- what a row says at its operation's place
 pub row_at : (train : List Operation) (asks : List Ask) (order : List ℕ) (rows : List (List ℕ)) (k o s : ℕ) → IsTrimmed train asks order rows → slice_get order k ≡ Some o → Steps order rows o s

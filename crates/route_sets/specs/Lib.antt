@@ -1,5 +1,3 @@
 pub mod Asks
-pub mod Marks
 pub mod Sets
 pub mod Sweeps
-pub mod Ways

@@ -7,10 +7,10 @@ use Rattle.disp_model.specs.Valid.{train_at}
 use Rattle.disp_model.specs.Routes.{IsAllowed, HasRoute, HasOneRoute, IsForced}
 use Rattle.disp_model.specs.Arcs.{IsTrainArc, GoesTo}
 use Rattle.train_orders.specs.Orders.{IsOrder}
-use Rattle.route_sets.specs.declared.marks.Mark.{Mark}
+use Rattle.route_marks.specs.declared.marks.Mark.{Mark}
 use Rattle.route_sets.specs.declared.routes.Routes.{Routes}
-use Rattle.route_sets.specs.Ways.{IsWalk, last_of}
-use Rattle.route_sets.specs.Marks.{IsLaid, mark_at}
+use Rattle.route_marks.specs.Ways.{IsWalk, last_of}
+use Rattle.route_marks.specs.Marks.{IsLaid, mark_at}
 
 -- an operation of a train
 abbrev pub op_of : ℕ → ℕ → Op

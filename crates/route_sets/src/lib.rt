@@ -7,10 +7,7 @@
 #![tactic(auto)]
 
 mod asks;
-mod marks;
 mod routes;
-mod row;
 mod sweep;
 
 pub use routes::Routes;
-pub use row::Row;

@@ -3,17 +3,16 @@ ghost use Rattle.disp_model.specs.Node.{Node, node_at};
 ghost use Rattle.disp_model.specs.Routes.{HasRoute, IsForced};
 ghost use Rattle.disp_model.specs.Arcs.{IsTrainArc, GoesTo};
 ghost use Rattle.disp_model.specs.Earliest.{IsFork};
-ghost use Rattle.route_sets.specs.Ways.{last_of};
+ghost use Rattle.route_marks.specs.Ways.{last_of};
 ghost use Rattle.disp_model.specs.Valid.{train_at};
 ghost use Rattle.train_orders.specs.Orders.{IsOrder};
-ghost use Rattle.route_sets.specs.Marks.{mark_at};
+ghost use Rattle.route_marks.specs.Marks.{mark_at};
 ghost use Rattle.route_sets.specs.Sets.{AreRoutesOf};
 
 use crate::asks::asks_of;
-use crate::marks::{Mark, marks_of, places_of};
-use crate::row::Row;
 use crate::sweep::sweep;
 use disp_model::{Decision, Fixing, List, Memory, Problem};
+use route_marks::{Mark, Row, marks_of, places_of};
 use std::alloc::Global;
 use train_orders::order_of;
 

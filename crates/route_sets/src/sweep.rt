@@ -1,11 +1,11 @@
-ghost use Rattle.std.specs.Prelude.{◌≡◌, ◌↔◌, ◌⊎◌, ◌<◌, ◌^◌, ℕ, [], ◌∷◌, ◌++◌, All, IfOk, IfSome, OnOk, IsTrue, Some, None, Contains, length, if◌then◌else◌};
+ghost use Rattle.std.specs.Prelude.{◌≡◌, ◌↔◌, ◌⊎◌, ◌<◌, ◌^◌, ℕ, [], ◌∷◌, ◌++◌, All, IfOk, IfSome, IsTrue, Some, None, Contains, length, if◌then◌else◌};
 ghost use Rattle.disp_model.specs.WellFormed.{IsAcyclic};
 ghost use Rattle.train_orders.specs.Orders.{IsInside, IsOrder};
 ghost use Rattle.route_sets.specs.Sweeps.{MayGo, CanEnd, IsKept, IsSwept, counted};
 
 use crate::asks::Ask;
-use crate::row::Row;
 use disp_model::{List, Memory, Operation};
+use route_marks::Row;
 use std::alloc::Global;
 
 /// What is kept of the operations of a train, in an order from the exit back.
@@ -51,16 +51,6 @@ fn is_kept(ask: Ask, held: &[Option<usize>], count: usize, next: u32) -> bool
     may_go(ask, next) && held[next as usize] == Some(count)
 }
 
-/// Adds an operation to a row, where it is kept.
-fn keep(row: &mut Row, next: u32, kept: bool) -> Result<(), Memory>
-    ensures { OnOk result (row.new ≡ (if kept then row.old ++ next ∷ [] else row.old)) }
-{
-    if kept {
-        row.push(next)?;
-    }
-    Ok(())
-}
-
 /// The successors of an operation that have a way with so many wanted operations.
 fn row_of(
     alloc: Global,
@@ -76,7 +66,7 @@ fn row_of(
     let mut row = Row::new(alloc);
     for next in operation.next.as_slice() {
         let kept = is_kept(ask, held, count, *next);
-        keep(&mut row, *next, kept)?;
+        row.push_if(*next, kept)?;
     }
     Ok(row)
 }

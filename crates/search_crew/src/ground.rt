@@ -4,6 +4,7 @@ ghost use Rattle.disp_model.specs.Node.{node_at};
 ghost use Rattle.event_graph.specs.Joined.{IsOfEdition};
 ghost use Rattle.node_leaves.specs.Reckoned.{ReckonsFor};
 ghost use Rattle.search_workers.specs.Grown.{IsGrownOf};
+ghost use Rattle.share_bound.specs.Known.{HoldFor};
 ghost use Rattle.search_crew.specs.Grounds.{IsGround, IsNoMore};
 
 use disp_model::{Copied, Fixing, Leaf, Memory, Problem};
@@ -11,6 +12,7 @@ use event_graph::Graph;
 use node_leaves::Reckoning;
 use open_nodes::Work;
 use search_workers::{Growth, grow, leaf_alone, refused_leaf, target_after};
+use share_bound::KnownShares;
 use std::alloc::Global;
 use train_insertion::{INSERTIONS, target};
 use tree_dives::Guide;
@@ -18,10 +20,12 @@ use tree_dives::Guide;
 /// How many trains are put in for a target where an order of trains is known from the last one.
 const INSERTIONS_AGAIN: u32 = 4000;
 
-/// A graph of an edition, which is moved from work to work, and what guides the dives.
+/// A graph of an edition, which is moved from work to work, what is known of shares where it is, and
+/// what guides the dives.
 #[derive(Drop)]
 pub(crate) struct Alive<'p> {
     graph: Graph<'p>,
+    known: KnownShares,
     guide: Guide,
 }
 
@@ -67,8 +71,13 @@ pub(crate) fn ground_of<'p>(
     ensures { IfOk result (IsGround problem.now fixings.now) }
 {
     let guide = guide_to(alloc, problem, fixings, order)?;
+    let known = KnownShares::new(alloc, problem)?;
     match Graph::new(alloc, problem, fixings) {
-        Ok(graph) => Ok(Ground::Alive(Alive { graph, guide })),
+        Ok(graph) => Ok(Ground::Alive(Alive {
+            graph,
+            known,
+            guide,
+        })),
         Err(no) => Ok(Ground::Dead(refused_leaf(no)?)),
     }
 }
@@ -106,6 +115,8 @@ impl<'p> Alive<'p> {
     ) -> Result<Growth, Memory>
         requires reckons { ReckonsFor problem.now reckoning.now }
         requires graph { (self.old.graph.problem ≡ problem.now) × IsOfEdition self.old.graph }
+        requires known { HoldFor self.old.graph self.old.known }
+        ensures known { HoldFor self.new.graph self.new.known }
         ensures beside { (self.new.graph.problem ≡ self.old.graph.problem)
             × (self.new.graph.fixings ≡ self.old.graph.fixings) }
         ensures grown { IfOk result (IsGrownOf reckoning.now.rule
@@ -117,6 +128,7 @@ impl<'p> Alive<'p> {
             problem,
             reckoning,
             &mut self.graph,
+            &mut self.known,
             work,
             best,
             &mut self.guide,

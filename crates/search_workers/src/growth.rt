@@ -4,6 +4,7 @@ ghost use Rattle.disp_model.specs.declared.settings.Rule.{Rule as RuleOf};
 ghost use Rattle.disp_model.specs.Node.{Node, node_at};
 ghost use Rattle.event_graph.specs.Joined.{IsOfEdition};
 ghost use Rattle.node_leaves.specs.Reckoned.{ReckonsFor};
+ghost use Rattle.share_bound.specs.Known.{HoldFor};
 ghost use Rattle.tree_dives.specs.Dives.{IsDive};
 ghost use Rattle.search_workers.specs.declared.growth.Growth.TheVariants.{Subtree};
 ghost use Rattle.search_workers.specs.Grown.{IsGrownOf};
@@ -14,6 +15,7 @@ use disp_model::{Leaf, List, Memory, Plan, Problem, TreeNode};
 use event_graph::Graph;
 use node_leaves::Reckoning;
 use open_nodes::Work;
+use share_bound::KnownShares;
 use std::alloc::Global;
 use train_insertion::Target;
 use tree_dives::{Dive, End, Guide, dive};
@@ -96,7 +98,8 @@ fn of_dive(found: Dive, allowance: u32, bound: u64) -> Growth
 }
 
 /// Grows the leaf of a work, by a dive from its node along a guide, where what branches costs less
-/// than this best. Where the node is not reached, a leaf shows that it is dead.
+/// than this best. Where the node is not reached, a leaf shows that it is dead. What is known of
+/// shares holds where the graph is then.
 ///
 /// # Errors
 ///
@@ -106,6 +109,7 @@ pub fn grow(
     problem: &Problem,
     reckoning: &Reckoning,
     graph: &mut Graph,
+    known: &mut KnownShares,
     work: &Work,
     best: Option<u64>,
     guide: &mut Guide,
@@ -113,12 +117,14 @@ pub fn grow(
     requires problem { graph.old.problem ≡ problem.now }
     requires edition { IsOfEdition graph.old }
     requires reckons { ReckonsFor problem.now reckoning.now }
+    requires known { HoldFor graph.old known.old }
+    ensures known { HoldFor graph.new known.new }
     ensures beside { IsBeside graph.old graph.new }
     ensures grown { IfOk result (IsGrownOf reckoning.now.rule
         (node_at graph.old.problem graph.old.fixings work.now.decisions) best work.now.allowance
         work.now.bound) }
 {
-    if let Some(leaf) = go_to(graph, work.decisions.as_slice())? {
+    if let Some(leaf) = go_to(graph, known, work.decisions.as_slice())? {
         return leaf_alone(alloc, leaf);
     }
     let found = dive(
@@ -126,6 +132,7 @@ pub fn grow(
         problem,
         reckoning,
         graph,
+        known,
         best,
         work.allowance,
         guide,

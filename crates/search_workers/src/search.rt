@@ -4,6 +4,7 @@ ghost use Rattle.disp_model.specs.History.{edition_of};
 ghost use Rattle.disp_model.specs.Node.{node_at};
 ghost use Rattle.node_leaves.specs.Reckoned.{ReckonsFor};
 ghost use Rattle.node_leaves.specs.Shown.{IsDeadLeaf};
+ghost use Rattle.share_bound.specs.Known.{HoldFor};
 ghost use Rattle.search_workers.specs.declared.growth.Growth.TheVariants.{Subtree};
 ghost use Rattle.search_workers.specs.Searched.{GoesOn, IsClosed, IsOfNewest};
 
@@ -16,6 +17,7 @@ use disp_model::{Copied, Fixing, Leaf, Memory, Problem, Rule};
 use dispatch_core::Core;
 use event_graph::Graph;
 use node_leaves::Reckoning;
+use share_bound::KnownShares;
 use std::alloc::Global;
 use train_insertion::{INSERTIONS, target};
 use tree_dives::Guide;
@@ -44,6 +46,7 @@ fn round(
     reckoning: &Reckoning,
     core: &mut Core,
     graph: &mut Graph,
+    known: &mut KnownShares,
     guide: &mut Guide,
     effort: &mut Effort,
 ) -> Result<bool, Memory>
@@ -51,6 +54,8 @@ fn round(
     requires reckons { ReckonsFor problem.now reckoning.now }
     requires rule { core.old.settings.rule ≡ reckoning.now.rule }
     requires newest { IsOfNewest core.old graph.old }
+    requires known { HoldFor graph.old known.old }
+    ensures known { HoldFor graph.new known.new }
     ensures on { GoesOn core.old core.new }
     ensures newest { IsOfNewest core.new graph.new }
     ensures closed { IfOk result (λ closed. closed ≡ true → IsClosed core.new) }
@@ -58,7 +63,9 @@ fn round(
     let want = effort.want();
     match next_turn(alloc, core, want)? {
         Turn::Work(work) => {
-            let growth = grow(alloc, problem, reckoning, graph, &work, work.best, guide);
+            let growth = grow(
+                alloc, problem, reckoning, graph, known, &work, work.best, guide,
+            );
             guide.count_dive();
             effort.count(work.allowance, &growth);
             aim_at(alloc, problem, guide, &growth);
@@ -106,8 +113,18 @@ fn rounds(
     ensures closed { OnOk result (IsClosed core.new) }
 {
     let mut effort = Effort::new(FOR_PLAN);
+    let mut known = KnownShares::new(alloc, problem)?;
     for _ in 0..u64::MAX {
-        if round(alloc, problem, reckoning, core, graph, guide, &mut effort)? {
+        if round(
+            alloc,
+            problem,
+            reckoning,
+            core,
+            graph,
+            &mut known,
+            guide,
+            &mut effort,
+        )? {
             return Ok(());
         }
     }

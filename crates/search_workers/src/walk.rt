@@ -2,11 +2,13 @@ ghost use Rattle.std.specs.Prelude.{◌≡◌, ◌≤◌, ◌↔◌, IsTrue, IfO
 ghost use Rattle.disp_model.specs.Node.{Node, node_at, with_decision};
 ghost use Rattle.event_graph.specs.Kept.{IsRefusedAt};
 ghost use Rattle.node_leaves.specs.Shown.{IsDeadLeaf};
+ghost use Rattle.share_bound.specs.Known.{HoldFor};
 ghost use Rattle.search_workers.specs.Walks.{Arrives, IsBeside};
 
 use disp_model::{Decision, Leaf, Memory};
 use event_graph::{ExtendNo, Graph};
-use tree_dives::rewind;
+use share_bound::KnownShares;
+use tree_dives::rewind_knowing;
 
 /// Whether two decisions are the same.
 fn is_same(one: Decision, other: Decision) -> bool
@@ -41,10 +43,17 @@ pub fn refused_leaf(no: ExtendNo) -> Result<Leaf, Memory>
 }
 
 /// Adds a decision; where it is refused, gives the leaf that shows it.
-fn step(graph: &mut Graph, decision: Decision) -> Result<Option<Leaf>, Memory>
+fn step(
+    graph: &mut Graph,
+    known: &mut KnownShares,
+    decision: Decision,
+) -> Result<Option<Leaf>, Memory>
+    requires known { HoldFor graph.old known.old }
+    ensures known { HoldFor graph.new known.new }
     ensures beside { IsBeside graph.old graph.new }
     ensures at { IfOk result (Arrives (with_decision graph.old decision) graph.new) }
 {
+    let _aside = known.set_aside(decision);
     match graph.extend(decision) {
         Ok(()) => Ok(None),
         Err(no) => Ok(Some(refused_leaf(no)?)),
@@ -53,16 +62,22 @@ fn step(graph: &mut Graph, decision: Decision) -> Result<Option<Leaf>, Memory>
 
 /// Moves a graph to the node of these decisions, over those that it has in common with the node
 /// where it is. Where one on the way is refused, gives the leaf that shows it; the graph stays
-/// there.
-pub(crate) fn go_to(graph: &mut Graph, decisions: &[Decision]) -> Result<Option<Leaf>, Memory>
+/// there. What is known of shares holds where the graph is.
+pub(crate) fn go_to(
+    graph: &mut Graph,
+    known: &mut KnownShares,
+    decisions: &[Decision],
+) -> Result<Option<Leaf>, Memory>
+    requires known { HoldFor graph.old known.old }
+    ensures known { HoldFor graph.new known.new }
     ensures beside { IsBeside graph.old graph.new }
     ensures at { IfOk result
         (Arrives (node_at graph.old.problem graph.old.fixings decisions.now) graph.new) }
 {
     let shared = common(graph.decisions(), decisions);
-    rewind(graph, shared);
+    rewind_knowing(graph, known, shared);
     for place in shared..decisions.len() {
-        match step(graph, decisions[place])? {
+        match step(graph, known, decisions[place])? {
             Some(leaf) => return Ok(Some(leaf)),
             None => {}
         }

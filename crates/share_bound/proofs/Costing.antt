@@ -11,7 +11,7 @@ use Rattle.disp_model.specs.Shares.{reached_from, route_cost, IsShareOver}
 use Rattle.disp_laws.proofs.Paths.{IsIn, contains_in}
 use Rattle.disp_laws.proofs.RouteSearch.{each_within}
 use Rattle.disp_laws.proofs.Shares.{route_grows, share_exists, train_there}
-use Rattle.route_sets.specs.Ways.{Goes, last_of}
+use Rattle.route_marks.specs.Ways.{Goes, last_of}
 use Rattle.route_sets.specs.Sets.{AreAllowedRows}
 use Rattle.share_bound.specs.Times.{AreTimes, reach_in}
 use Rattle.share_bound.specs.Prices.{own_price, priced_along, AreFittedPrices, HasOwn}

@@ -7,8 +7,8 @@ use Rattle.std.proofs.lemmas.List.{length-set, length-replicate}
 use Rattle.disp_model.specs.declared.train.Operation.{Operation}
 use Rattle.disp_model.specs.Train.{duration_of}
 use Rattle.train_orders.proofs.Places.{set_at, set_elsewhere, same_number}
-use Rattle.route_sets.specs.Ways.{Steps, Chain, last_of}
-use Rattle.route_sets.specs.Marks.{IsLaid, Relaxes}
+use Rattle.route_marks.specs.Ways.{Steps, Chain, last_of}
+use Rattle.route_marks.specs.Marks.{IsLaid, Relaxes}
 use Rattle.share_bound.proofs.Stepping.{chain_more, chain_last, steps_row, row_steps, last_here}
 use Rattle.share_bound.specs.Times.{left_after, AreTimes, IsEntering}
 

@@ -7,8 +7,8 @@ use Rattle.std.proofs.lemmas.List.{length-set, get_or-set_same, get_or-set_other
 use Rattle.disp_model.specs.declared.train.Operation.{Operation}
 use Rattle.train_orders.proofs.Places.{contains_none}
 use Rattle.train_orders.proofs.Ordered.{contains_here}
-use Rattle.route_sets.specs.Ways.{Steps, Goes, last_of}
-use Rattle.route_sets.specs.Marks.{IsLaid}
+use Rattle.route_marks.specs.Ways.{Steps, Goes, last_of}
+use Rattle.route_marks.specs.Marks.{IsLaid}
 use Rattle.share_bound.proofs.Stepping.{steps_row, row_steps, last_here}
 use Rattle.share_bound.specs.Prices.{fitted, priced_along}
 use Rattle.share_bound.specs.Leasts.{IsCheapest, IsPaidBehind, ArePaidTo}

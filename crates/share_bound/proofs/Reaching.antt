@@ -10,8 +10,8 @@ use Rattle.disp_model.specs.Node.{Node}
 use Rattle.disp_model.specs.Shares.{reached_from, IsReach}
 use Rattle.disp_laws.proofs.Paths.{IsIn}
 use Rattle.disp_laws.proofs.Shares.{reached_in}
-use Rattle.route_sets.specs.Ways.{Goes, IsWalk, Chain, last_of}
-use Rattle.route_sets.specs.Marks.{IsLaid}
+use Rattle.route_marks.specs.Ways.{Goes, IsWalk, Chain, last_of}
+use Rattle.route_marks.specs.Marks.{IsLaid}
 use Rattle.route_sets.specs.Sets.{AreAllowedRows}
 use Rattle.share_bound.proofs.Stepping.{goes_on, goes_below, last_here}
 use Rattle.share_bound.specs.Times.{left_after, AreTimes, reach_in}

@@ -11,8 +11,8 @@ use Rattle.disp_model.specs.Train.{duration_of}
 use Rattle.disp_laws.proofs.Paths.{IsIn}
 use Rattle.train_orders.proofs.Places.{contains_none, set_at, set_elsewhere, same_number}
 use Rattle.train_orders.proofs.Ordered.{contains_here}
-use Rattle.route_sets.specs.Ways.{Steps, Goes, Chain, last_of}
-use Rattle.route_sets.specs.Marks.{IsLaid, lowered, Relaxes, IsLowest}
+use Rattle.route_marks.specs.Ways.{Steps, Goes, Chain, last_of}
+use Rattle.route_marks.specs.Marks.{IsLaid, lowered, Relaxes, IsLowest}
 
 -- ---- chains and ways
 

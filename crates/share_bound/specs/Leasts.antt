@@ -3,8 +3,8 @@ use Rattle.std.specs.Prelude.{◌≡◌, ◌≢◌, ◌⊎◌, ℕ, ◌-◌, ◌
 use Rattle.disp_model.specs.declared.train.Operation.{Operation}
 use Rattle.disp_model.specs.Node.{Node}
 use Rattle.disp_model.specs.Shares.{IsShareOver}
-use Rattle.route_sets.specs.Ways.{Goes}
-use Rattle.route_sets.specs.Marks.{IsLowest}
+use Rattle.route_marks.specs.Ways.{Goes}
+use Rattle.route_marks.specs.Marks.{IsLowest}
 use Rattle.share_bound.specs.Prices.{fitted, priced_along}
 
 -- what a way along the rows from an operation on costs at least, as far as 64 bits hold it

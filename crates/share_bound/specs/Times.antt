@@ -3,7 +3,7 @@
 use Rattle.std.specs.Prelude.{◌≡◌, ℕ, ◌+◌, ◌*◌, ◌^◌, ◌≤◌, max, List, [], ◌∷◌, ◌++◌, length, Option, Some, None, slice_get, slice_index, slice_index_or, unwrap_or}
 use Rattle.disp_model.specs.declared.train.Operation.{Operation}
 use Rattle.disp_model.specs.Train.{duration_of}
-use Rattle.route_sets.specs.Ways.{Steps, Chain, last_of}
+use Rattle.route_marks.specs.Ways.{Steps, Chain, last_of}
 
 -- the base of an operation that is kept in a list
 abbrev pub base_in : List ℕ → ℕ → ℕ

@@ -1,8 +1,8 @@
 ghost use Rattle.std.specs.Prelude.{◌≡◌, ◌<◌, ◌≤◌, ◌+◌, ◌^◌, ℕ, All, IfOk, length, slice_index};
 ghost use Rattle.disp_model.specs.Node.{Node};
 ghost use Rattle.disp_model.specs.Valid.{train_at};
-ghost use Rattle.route_sets.specs.Ways.{last_of};
-ghost use Rattle.route_sets.specs.Marks.{IsLaid, IsLowest};
+ghost use Rattle.route_marks.specs.Ways.{last_of};
+ghost use Rattle.route_marks.specs.Marks.{IsLaid, IsLowest};
 ghost use Rattle.route_sets.specs.Sets.{AreAllowedRows};
 ghost use Rattle.share_bound.specs.Times.{base_in};
 ghost use Rattle.share_bound.specs.Prices.{AreFittedPrices, HasOwn};
@@ -11,7 +11,7 @@ ghost use Rattle.share_bound.specs.Leasts.{IsPaidBehind, IsCheapest, ArePaidTo, 
 use crate::prices::prices_of;
 use crate::times::times_of;
 use disp_model::{Component, Memory, Operation};
-use route_sets::Row;
+use route_marks::Row;
 use std::alloc::Global;
 
 /// The least of one cost and those of a row's operations.

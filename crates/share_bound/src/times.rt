@@ -1,10 +1,10 @@
 ghost use Rattle.std.specs.Prelude.{◌≡◌, ◌<◌, ◌≤◌, ◌+◌, ◌^◌, ℕ, All, IfOk, Some, None, length, max, replicate, slice_index, slice_set};
-ghost use Rattle.route_sets.specs.Ways.{last_of};
-ghost use Rattle.route_sets.specs.Marks.{IsLaid, Relaxes, lowered};
+ghost use Rattle.route_marks.specs.Ways.{last_of};
+ghost use Rattle.route_marks.specs.Marks.{IsLaid, Relaxes, lowered};
 ghost use Rattle.share_bound.specs.Times.{base_in, reach_in, AreTimes, IsEntering};
 
 use disp_model::{Memory, Operation};
-use route_sets::Row;
+use route_marks::Row;
 use std::alloc::Global;
 
 /// The lesser of a time that may be known and one that is.

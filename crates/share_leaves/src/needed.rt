@@ -1,5 +1,5 @@
 use disp_model::{Component, Memory, Operation};
-use route_sets::Row;
+use route_marks::Row;
 use share_bound::cost_of;
 use std::alloc::Global;
 

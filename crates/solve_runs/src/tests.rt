@@ -1,5 +1,6 @@
 mod answers;
 mod doubles;
+mod failing;
 mod faults;
 mod limits;
 mod made;

@@ -26,6 +26,7 @@ pub fn put_all<S: Shelf>(alloc: Global, shelf: &mut S, puts: &[Put]) -> Result<(
     ensures readings { (name : List ℕ) → S.reading_faults shelf.new name
         ≡ S.reading_faults shelf.old name }
     ensures known { (name : List ℕ) → S.knows shelf.old name → S.knows shelf.new name }
+    ensures feeds { S.open_feeds shelf.new ≡ S.open_feeds shelf.old }
 {
     for due in puts {
         shelf.put(alloc, due.name.as_str(), due.bytes.as_slice())?;

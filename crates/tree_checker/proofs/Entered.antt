@@ -13,7 +13,8 @@ use Rattle.train_orders.specs.Orders.{IsInside, IsOrder}
 use Rattle.train_orders.proofs.Places.{at_contains, contains_at, contains_none, same_number}
 use Rattle.train_orders.proofs.Ordered.{contains_cases}
 use Rattle.node_facts.specs.declared.demands.Demand.{Demand}
-use Rattle.node_facts.specs.Ways.{ArePlaces, MayGo, lesser, sum_at}
+use Rattle.node_facts.specs.Ways.{MayGo, lesser, sum_at}
+use Rattle.route_marks.specs.Marks.{ArePlaces}
 use Rattle.node_facts.proofs.Placing.{falls, apart, place_within}
 use Rattle.tree_checker.specs.TrainCosts.{Comes, Enters, Leaves, AreEntered, base_by}
 use Rattle.tree_checker.proofs.Coming.{comes_more, comes_last}

@@ -14,7 +14,8 @@ use Rattle.disp_model.specs.Shares.{Arrival, AreWalksOn, IsShareOver, shown_base
 use Rattle.disp_laws.proofs.Shares.{train_there}
 use Rattle.train_orders.specs.Orders.{IsOrder}
 use Rattle.train_orders.proofs.Ordered.{has_last, last_is_entry}
-use Rattle.node_facts.specs.Ways.{ArePlaces, last_of, sum_at}
+use Rattle.node_facts.specs.Ways.{last_of, sum_at}
+use Rattle.route_marks.specs.Marks.{ArePlaces}
 use Rattle.tree_checker.specs.TrainCosts.{asked, AreEntered, base_by, reach_by, price_of, AreCosts, AreLowers, AreRaised, IsLeastCost, IsShown}
 use Rattle.tree_checker.proofs.Enough.{arrivals_once}
 use Rattle.tree_checker.proofs.LeastCosts.{least_cost_is, share_moves}

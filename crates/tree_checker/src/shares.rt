@@ -6,11 +6,12 @@ ghost use Rattle.tree_checker.specs.TrainCosts.{base_by, IsLeastCost, IsShown};
 
 use crate::entering::{entered_of, kept_at};
 use crate::landings::{lowers_of, raise_all};
-use crate::orders::{last_of, places_of};
+use crate::orders::last_of;
 use crate::owning::{own_decisions, own_fixings};
 use crate::paying::costs_over;
 use disp_model::{Decision, Fixing, Memory, Problem, TrainWalks};
 use node_facts::{TrainKnowledge, train_of};
+use route_marks::places_of;
 use std::alloc::Global;
 use train_orders::order_of;
 

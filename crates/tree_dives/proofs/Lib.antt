@@ -1,3 +1,4 @@
 pub mod Growing
 pub mod Downs
 pub mod Ending
+pub mod Returning

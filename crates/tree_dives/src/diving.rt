@@ -12,7 +12,7 @@ use crate::down::{Halves, go_down};
 use crate::given::Dive;
 use crate::grown::{append_back, nothing, push_leaf};
 use crate::guide::Guide;
-use crate::rewinding::rewind;
+use crate::rewinding::rewind_knowing;
 use crate::stage::{End, Stage, stage_of};
 use disp_model::{List, Memory, Problem};
 use event_graph::Graph;
@@ -47,7 +47,9 @@ fn ended(
     requires node { graph.now.problem ≡ problem.now }
     requires reckons { ReckonsFor problem.now reckoning.now }
     requires known { HoldFor graph.now known.old }
-    ensures { IfOk result (λ dive. (shown : NodeLeafOf) × IsLeafOf reckoning.now.rule graph.now shown
+    ensures known { HoldFor graph.now known.new }
+    ensures whole { IfOk result (λ dive. (shown : NodeLeafOf)
+        × IsLeafOf reckoning.now.rule graph.now shown
         × IsWhole (with_leaf (sides_of halves) shown) end dive) }
 {
     let leaf = leaf_of(alloc, problem, reckoning, graph, known)?;
@@ -70,6 +72,7 @@ fn dive_down(
     requires reckons { ReckonsFor problem.now reckoning.now }
     requires known { HoldFor graph.old known.old }
     ensures below { IsBelowNode graph.old graph.new }
+    ensures known { HoldFor graph.new known.new }
     ensures dive { IfOk result (IsDive reckoning.now.rule graph.old best allowance) }
 {
     let mut halves = Halves {
@@ -117,7 +120,7 @@ fn dive_down(
 /// often. The child that the target takes is followed, or else the one that costs least; the others
 /// become leaves. It ends earlier at a node that is dead, or whose bound is not below the best cost,
 /// or where nothing is picked. Choices are picked, and bounds reckoned, by the rule of the reckoning. The graph is as
-/// before.
+/// before, and what is known of shares holds for its node.
 ///
 /// # Errors
 ///
@@ -127,21 +130,23 @@ pub fn dive(
     problem: &Problem,
     reckoning: &Reckoning,
     graph: &mut Graph,
+    known: &mut KnownShares,
     best: Option<u64>,
     allowance: u32,
     guide: &mut Guide,
 ) -> Result<Dive, Memory>
     requires node { graph.old.problem ≡ problem.now }
     requires reckons { ReckonsFor problem.now reckoning.now }
+    requires known { HoldFor graph.old known.old }
     ensures same { graph.new ≡ graph.old }
+    ensures known { HoldFor graph.new known.new }
     ensures dive { IfOk result (IsDive reckoning.now.rule graph.old best allowance) }
 {
     guide.begin();
     let depth = graph.decisions().len();
-    let mut known = KnownShares::new(alloc, problem)?;
     let dive = dive_down(
-        alloc, problem, reckoning, graph, &mut known, best, allowance, guide,
+        alloc, problem, reckoning, graph, known, best, allowance, guide,
     );
-    rewind(graph, depth);
+    rewind_knowing(graph, known, depth);
     dive
 }

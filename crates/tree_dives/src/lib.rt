@@ -20,5 +20,5 @@ mod stage;
 pub use diving::dive;
 pub use given::Dive;
 pub use guide::Guide;
-pub use rewinding::rewind;
+pub use rewinding::{rewind, rewind_knowing};
 pub use stage::End;

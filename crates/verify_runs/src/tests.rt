@@ -1,3 +1,4 @@
+mod failing;
 mod files;
 mod fixed;
 mod judged;

@@ -4,6 +4,7 @@ ghost use Rattle.std.specs.Prelude.{◌≡◌, IfOk};
 use disp_model::{Leaf, Problem, Rule, TreeNode};
 use event_graph::Graph;
 use node_leaves::Reckoning;
+use share_bound::KnownShares;
 use std::alloc::Global;
 use std::process::Abort;
 use std::test::Fail;
@@ -65,8 +66,9 @@ fn check(
     let mut graph = root(alloc, problem)?;
     let mut guide = Guide::new(alloc, problem, Target::none(alloc))?;
     let reckoning = Reckoning::new(alloc, problem, rule)?;
+    let mut known = KnownShares::new(alloc, problem)?;
     let found = dive(
-        alloc, problem, &reckoning, &mut graph, best, allowance, &mut guide,
+        alloc, problem, &reckoning, &mut graph, &mut known, best, allowance, &mut guide,
     )?;
     assert_eq!(rt; shown(alloc, &found)?.as_str(), wanted);
     assert_eq!(rt; graph.decisions().len(), 0);

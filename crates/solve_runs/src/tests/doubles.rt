@@ -41,6 +41,8 @@ impl Shelf for ClosedShelf {
 
     ghost putting_faults = { λ _ _. 0 };
 
+    ghost open_feeds = { λ _. 0 };
+
     fn fetch(&mut self, _alloc: Global, _name: &str, _limit: u64) -> Result<Vec<u8>, FetchNo> {
         if self.all_too_long {
             return Err(FetchNo::TooLong);

@@ -70,6 +70,8 @@ impl Shelf for LongShelf {
 
     ghost putting_faults = { λ _ _. 0 };
 
+    ghost open_feeds = { λ _. 0 };
+
     fn fetch(&mut self, alloc: Global, name: &str, limit: u64) -> Result<Vec<u8>, FetchNo> {
         let text = if name == "t" { TREE } else { TWO };
         if name == self.long || text.len() as u64 > limit {

@@ -1,4 +1,4 @@
-use Rattle.std.proofs.Common.{refl}
+use Rattle.std.proofs.Common.{◌∙◌, refl}
 use Rattle.text_puts.specs.Outside.{outside}
 use Rattle.answered_tasks.proofs.Ended.{ends_of_answer, ends_of_stop, read_well}
 use Rattle.answered_tasks.proofs.program.answer.Goals as goal
@@ -22,6 +22,7 @@ returns-in-Ok g c =
           (λ name. (c.in-Ok.ensures.counts words name read).never_falls) c.in-Ok.ensures.failed (λ e. e)
           c.publish-status.ensures.readings) c.in-Ok.ensures.held c.in-Ok.ensures.puttings refl refl
           c.publish-status.ensures.ends c.publish-status.ensures.risen c.publish-status.ensures.others;
+      feeds = c.publish-status.ensures.feeds ∙ c.in-Ok.ensures.feeds;
     }
 
 pub returns-in-Err : goal.returns-in-Err
@@ -37,4 +38,5 @@ returns-in-Err g c =
           c.stop.ensures (record { held = c.in-Err.ensures.held; counts = c.in-Err.ensures.puttings })
           c.new.ensures.items (λ name. c.in-Err.ensures.counts words name read) c.in-Err.ensures.one
           c.in-Err.ensures.failed;
+      feeds = c.in-Err.ensures.feeds;
     }

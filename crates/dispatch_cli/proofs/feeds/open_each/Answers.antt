@@ -1,4 +1,5 @@
-use Rattle.std.proofs.Common.{ℕ, ◌+◌, ◌∙◌, length, refl, ap}
+use Rattle.std.proofs.Common.{◌≡◌, ℕ, ◌+◌, ◌∙◌, ◌++◌, ◌∷◌, [], length, refl, ap, sym, subst, arith}
+use Rattle.std.proofs.lemmas.List.{length-append}
 use Rattle.std.proofs.lemmas.Option.{slice_get_read}
 use Rattle.text_puts.proofs.Counting.{same_all}
 use Rattle.dispatch_cli.proofs.Opening.{stops_more, opened_more, known_more, read_at}
@@ -24,5 +25,15 @@ loop-name-preserved g c =
           (g.S.Shelf.knows c.open_next.new.shelf) (g.S.Shelf.holds c.loop-name.shelf) one _ _ c.open_next.ensures.still c.in-Ok.ensures.known inv.known c.in-Ok.ensures.ok;
       quiet = λ name. same_all one _ _ c.in-Ok.ensures.quiet c.open_next.ensures.others name ∙ inv.quiet name;
       puttings = λ name. c.open_next.ensures.puttings name ∙ inv.puttings name;
+      are_open =
+          let before = inv.are_open in let more = c.in-Ok.ensures.opened in
+          let longer : length c.open_next.new.feeds.items ≡ length c.loop-name.feeds.items + 1 =
+          ap (λ l. length l) c.in-Ok.ensures.ok.is ∙ length-append c.loop-name.feeds.items (c.in-Ok.ensures.ok.feed ∷ []) in
+          omega (arith, before, more, longer);
       held = λ name. c.open_next.ensures.held name ∙ inv.held name;
     }
+
+pub returns-in-Err-clause-opened : goal.returns-in-Err-clause-opened
+returns-in-Err-clause-opened g c =
+    subst (λ l. g.S.Shelf.open_feeds c.open_next.new.shelf ≡ g.S.Shelf.open_feeds c.args.shelf.now + length l) (sym c.in-Err.ensures.same)
+    (c.in-Err.ensures.unopened ∙ c.loop-name.invariant.are_open)

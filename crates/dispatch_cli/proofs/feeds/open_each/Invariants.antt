@@ -1,5 +1,5 @@
 -- the feeds of the names so far are open, and no count has risen
-use Rattle.std.proofs.Common.{◌≡◌, ℕ, List, All, take}
+use Rattle.std.proofs.Common.{◌≡◌, ◌+◌, ℕ, List, All, length, take}
 use Rattle.dispatch_cli.specs.Feeds.{AreOpened}
 use Rattle.dispatch_cli.proofs.feeds.open_each.Given as goal
 
@@ -10,5 +10,6 @@ invariant-loop-name g l = record {
   known : All (λ feed. g.S.Shelf.knows l.shelf (g.S.Feed.Feed.name feed)) l.feeds.items;
   quiet : (name : List ℕ) → g.S.Shelf.reading_faults l.shelf name ≡ g.S.Shelf.reading_faults l.fn.shelf name;
   puttings : (name : List ℕ) → g.S.Shelf.putting_faults l.shelf name ≡ g.S.Shelf.putting_faults l.fn.shelf name;
+  are_open : g.S.Shelf.open_feeds l.shelf ≡ g.S.Shelf.open_feeds l.fn.shelf + length l.feeds.items;
   held : (name : List ℕ) → g.S.Shelf.holds l.shelf name ≡ g.S.Shelf.holds l.fn.shelf name;
 }

@@ -10,4 +10,5 @@ returns-in-Ok-Roll g c = record {
     is_task = subst (λ (t : Task). IsTask (map (λ word. string_bytes word) c.args.words.now) t) c.in-Ok-Roll.field-0-is c.in-Ok-Roll.ensures.ok;
     ends = c.run_roll.ensures.ends;
   });
+  feeds = c.run_roll.ensures.feeds;
 }

@@ -1,4 +1,4 @@
-use Rattle.std.proofs.Common.{refl}
+use Rattle.std.proofs.Common.{refl, arith}
 use Rattle.text_puts.specs.Outside.{outside}
 use Rattle.dispatch_cli.proofs.Rolling.{fed_of_opened, runs_of}
 use Rattle.dispatch_cli.proofs.roll.roll_feeds.Goals as goal
@@ -18,3 +18,9 @@ returns-in-Ok-roll-clause-ok g c =
       faults = refl;
       written = refl;
     }) c.in-Ok-roll.ensures.rolled
+
+pub returns-in-Ok-roll-clause-feeds : goal.returns-in-Ok-roll-clause-feeds
+returns-in-Ok-roll-clause-feeds g c = let opened = c.in-Ok.ensures.opened in let closed = c.roll.ensures.closed in omega (arith, opened, closed)
+
+pub returns-in-Err-roll-clause-feeds : goal.returns-in-Err-roll-clause-feeds
+returns-in-Err-roll-clause-feeds g c = let opened = c.in-Ok.ensures.opened in let closed = c.roll.ensures.closed in omega (arith, opened, closed)

@@ -11,4 +11,5 @@ returns-in-Err g c =
           (outside (g.S.Shelf.holds c.rolled_of.new.shelf) (g.S.Shelf.reading_faults c.rolled_of.new.shelf) (g.S.Shelf.putting_faults c.rolled_of.new.shelf) (g.O.Sink.faults c.rolled_of.new.out) (g.O.Sink.written c.rolled_of.new.out))
           (outside (g.S.Shelf.holds c.rolled_of.new.shelf) (g.S.Shelf.reading_faults c.rolled_of.new.shelf) (g.S.Shelf.putting_faults c.rolled_of.new.shelf) (g.O.Sink.faults c.stop_roll.new.out) (g.O.Sink.written c.stop_roll.new.out))
           c.in-Err.no _ _ c.in-Err.ensures.no c.stop_roll.ensures refl refl refl c.new.ensures.items);
+      feeds = c.in-Err.ensures.feeds;
     }

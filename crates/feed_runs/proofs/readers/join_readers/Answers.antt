@@ -1,7 +1,7 @@
-use Rattle.std.proofs.Common.{◌∙◌, List, map, rules, sym, ap, subst}
+use Rattle.std.proofs.Common.{◌≡◌, ◌∙◌, ◌+◌, ◌-◌, ◌++◌, ◌∷◌, [], List, length, map, rules, sym, ap, subst, arith}
 use Rattle.std.proofs.lemmas.Iterator.Adapters.{YieldsList-from_vec}
 use Rattle.std.proofs.lemmas.Iterator.Consumers.{YieldsList-end}
-use Rattle.std.proofs.lemmas.List.{map-append, map-id}
+use Rattle.std.proofs.lemmas.List.{length-append, map-append, map-id}
 use Rattle.shared_board.specs.declared.pass.Pass.{Pass}
 use Rattle.joined_passes.specs.Joined.{Joins}
 use Rattle.feed_runs.specs.Readers.{CountsFeeds}
@@ -25,6 +25,9 @@ loop-reader-preserved g c = let inv = c.loop-reader.invariant in record {
       }));
   puttings = λ name. c.close.ensures.putting_counts name ∙ inv.puttings name;
   held = λ name. c.close.ensures.held name ∙ inv.held name;
+  closed =
+      let longer : length (c.loop-reader.yielded ++ c.in-Some.reader ∷ []) ≡ length c.loop-reader.yielded + 1 = length-append c.loop-reader.yielded (c.in-Some.reader ∷ []) in
+      let before = inv.closed in let one = c.close.ensures.closed in omega (arith, longer, before, one);
 }
 
 pub returns-clause-joins : goal.returns-clause-joins
@@ -39,3 +42,9 @@ returns-clause-counts g c =
     let seen = YieldsList-end (YieldsList-from_vec c.args.readers.items gives.0 (search rules)) c.loop-reader.yielded c.loop-reader.reader-iterator c.loop-reader.yielded_by c.next.result c.next.new.self c.in-None.is c.next.ensures.steps in
     subst (λ readers. CountsFeeds g.S.Feed.Feed.name g.S.Feed.Feed.faults (map (λ r. r.feed) readers) (g.S.Shelf.reading_faults c.args.shelf.now) (g.S.Shelf.reading_faults c.loop-reader.shelf))
     (sym (map-id c.loop-reader.yielded) ∙ seen.0) c.loop-reader.invariant.counts
+
+pub returns-clause-closed : goal.returns-clause-closed
+returns-clause-closed g c =
+    let gives = c.into_iter-reader-iterator.ensures.into_iter_gives in
+    let seen = YieldsList-end (YieldsList-from_vec c.args.readers.items gives.0 (search rules)) c.loop-reader.yielded c.loop-reader.reader-iterator c.loop-reader.yielded_by c.next.result c.next.new.self c.in-None.is c.next.ensures.steps in
+    subst (λ readers. g.S.Shelf.open_feeds c.loop-reader.shelf ≡ g.S.Shelf.open_feeds c.args.shelf.now - length readers) (sym (map-id c.loop-reader.yielded) ∙ seen.0) c.loop-reader.invariant.closed

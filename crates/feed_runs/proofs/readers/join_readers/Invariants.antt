@@ -1,5 +1,5 @@
 -- the readers so far are joined, and their feeds closed
-use Rattle.std.proofs.Common.{◌≡◌, ◌↔◌, ℕ, List, true, map}
+use Rattle.std.proofs.Common.{◌≡◌, ◌↔◌, ◌-◌, ℕ, List, true, length, map}
 use Rattle.shared_board.specs.Board.{board_of, own_board, known}
 use Rattle.joined_passes.specs.Joined.{Joins}
 use Rattle.feed_runs.specs.Readers.{CountsFeeds}
@@ -14,5 +14,6 @@ invariant-loop-reader g l = record {
   knows : (name : List ℕ) → g.S.Shelf.knows l.shelf name ↔ g.S.Shelf.knows l.fn.shelf name;
   counts : CountsFeeds g.S.Feed.Feed.name g.S.Feed.Feed.faults (map (λ r. r.feed) l.yielded) (g.S.Shelf.reading_faults l.fn.shelf) (g.S.Shelf.reading_faults l.shelf);
   puttings : (name : List ℕ) → g.S.Shelf.putting_faults l.shelf name ≡ g.S.Shelf.putting_faults l.fn.shelf name;
+  closed : g.S.Shelf.open_feeds l.shelf ≡ g.S.Shelf.open_feeds l.fn.shelf - length l.yielded;
   held : (name : List ℕ) → g.S.Shelf.holds l.shelf name ≡ g.S.Shelf.holds l.fn.shelf name;
 }

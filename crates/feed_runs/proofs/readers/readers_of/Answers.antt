@@ -1,4 +1,4 @@
-use Rattle.std.proofs.Common.{◌≡◌, ◌∙◌, ◌+◌, ◌++◌, ◌∷◌, [], ℕ, suc, List, Contains, length, map, rules, sym, ap, subst, arith}
+use Rattle.std.proofs.Common.{◌≡◌, ◌≤◌, ◌∙◌, ◌+◌, ◌++◌, ◌∷◌, [], ℕ, suc, List, Contains, length, map, rules, sym, ap, subst, arith}
 use Rattle.std.proofs.lemmas.Iterator.Adapters.{YieldsList-from_vec}
 use Rattle.std.proofs.lemmas.Iterator.Consumers.{YieldsList-turn}
 use Rattle.std.proofs.lemmas.List.{length-append, length-map, map-append}
@@ -46,8 +46,10 @@ loop-feed-preserved g c =
           c.split-pass.ensures.pass.0
           ∙ (ap (λ (k : Known Entry Terms). with_given k c.loop-feed.number) inv.knows
           ∙ (ap (with_given (with_readers v place)) inv.next ∙ (more_given v place ∙ ap (with_readers v) (sym longer))));
-      feeds = ap (map (λ r. r.feed)) c.in_ok-push.ensures.items ∙ (map-append (λ r. r.feed) c.loop-feed.readers.items _ ∙ ap (λ l. l ++ c.in-Some.feed ∷ []) inv.feeds);
-      readers = subst (AreReaders c.args.board.now v) (sym c.in_ok-push.ensures.items)
+      feeds = ap (map (λ r. r.feed)) c.push_reserved.ensures.items ∙ (map-append (λ r. r.feed) c.loop-feed.readers.items _ ∙ ap (λ l. l ++ c.in-Some.feed ∷ []) inv.feeds);
+      count = c.push_reserved.ensures.len ∙ (ap (λ (n : ℕ). n + 1) inv.count ∙ sym (longer ∙ omega arith));
+      room = subst (λ (n : ℕ). length c.args.feeds.items ≤ n) (sym c.push_reserved.ensures.capacity) inv.room;
+      readers = subst (AreReaders c.args.board.now v) (sym c.push_reserved.ensures.items)
           (readers_more c.args.board.now v c.loop-feed.readers.items _ inv.readers (record {
             board_is = c.split-pass.ensures.board.1 ∙ (inv.board ∙ c.requires.board);
             knows =
@@ -57,3 +59,9 @@ loop-feed-preserved g c =
             none = c.split-pass.ensures.given.2;
           }));
     }
+
+pub push_reserved-requires : goal.push_reserved-requires
+push_reserved-requires g c =
+    let gives = c.into_iter-feed-iterator.ensures.into_iter_gives in
+    let within = (YieldsList-turn (YieldsList-from_vec c.args.feeds.items gives.0 (search rules)) c.loop-feed.yielded c.loop-feed.feed-iterator c.loop-feed.yielded_by c.next.result c.next.new.self c.in-Some.feed c.in-Some.is c.next.ensures.steps).0 in
+    let count = c.loop-feed.invariant.count in let room = c.loop-feed.invariant.room in omega (arith, within, count, room)

@@ -1,5 +1,5 @@
 -- as many passes are given as feeds have come
-use Rattle.std.proofs.Common.{◌≡◌, length, map}
+use Rattle.std.proofs.Common.{◌≡◌, ◌≤◌, length, map, vec_len, vec_capacity}
 use Rattle.shared_board.specs.Board.{own_board, known, fetched, lines}
 use Rattle.feed_runs.specs.Readers.{AreReaders, with_readers}
 use Rattle.feed_runs.proofs.readers.readers_of.Given as goal
@@ -12,5 +12,7 @@ invariant-loop-feed g l = record {
   next : l.number ≡ length l.yielded;
   knows : known l.first ≡ with_readers (known l.fn.first) (length l.yielded);
   feeds : map (λ r. r.feed) l.readers.items ≡ l.yielded;
+  count : vec_len l.readers ≡ length l.yielded;
+  room : length l.fn.feeds.items ≤ vec_capacity l.readers;
   readers : AreReaders l.board (known l.fn.first) l.readers.items;
 }

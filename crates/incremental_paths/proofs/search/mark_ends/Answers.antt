@@ -12,7 +12,7 @@ abbrev none : Arc
 none = record { from = 0; to = 0; length = 0 }
 
 pub loop-front-init : goal.loop-front-init
-loop-front-init c =
+loop-front-init g c =
     let keys = ap (λ (t : Threaded). t.keys) c.requires.begun in
     record {
       size = refl;
@@ -23,7 +23,7 @@ loop-front-init c =
     }
 
 pub loop-front-preserved : goal.loop-front-preserved
-loop-front-preserved c =
+loop-front-preserved g c =
     let keys = ap (λ (t : Threaded). t.keys) c.requires.begun in
     let keys_list = c.args.begun.now.keys in
     let arcs = c.args.arcs.now in

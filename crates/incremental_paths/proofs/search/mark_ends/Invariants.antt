@@ -5,7 +5,7 @@ use Rattle.incremental_paths.proofs.Threading.{IsAt}
 use Rattle.incremental_paths.proofs.search.mark_ends.Given as goal
 
 abbrev pub invariant-loop-front : goal.invariant-loop-front
-invariant-loop-front l = record {
+invariant-loop-front g l = record {
   size : length l.marks ≡ length l.fn.marks;
   at : IsAt l.begun.keys l.node l.front;
   still : (v : ℕ) → is_marked l.fn.marks v ≡ true → is_marked l.marks v ≡ true;
@@ -14,4 +14,4 @@ invariant-loop-front l = record {
 }
 
 abbrev pub decreases-loop-front : goal.decreases-loop-front
-decreases-loop-front l = l.front
+decreases-loop-front g l = l.front

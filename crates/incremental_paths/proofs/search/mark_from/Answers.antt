@@ -5,7 +5,7 @@ use Rattle.incremental_paths.proofs.search.mark_from.Goals as goal
 use Rattle.incremental_paths.proofs.search.mark_from.Goals.{then-has, else-has}
 
 pub loop-place-preserved : goal.loop-place-preserved
-loop-place-preserved c =
+loop-place-preserved g c =
     let arcs = c.args.arcs.now in
     let places = c.args.order.now in
     let node = c.node-node.result in

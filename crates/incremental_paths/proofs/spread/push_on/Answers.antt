@@ -1,45 +1,35 @@
-use Rattle.std.proofs.Common.{◌≡◌, ℕ, ◌<◌, List, length, get_or, map, sym, ap, ◌∙◌, arith}
-use Rattle.std.proofs.lemmas.List.{get_or-map}
-use Rattle.incremental_paths.specs.declared.changes.Change.{Change}
-use Rattle.incremental_paths.proofs.Telling.{tells_both, tells_lost}
-use Rattle.incremental_paths.proofs.Pushing.{waiting_next, waiting_none, nodes_more}
+use Rattle.std.proofs.Common.{inl, inr, get_or, ap, sym, subst, arith}
+use Rattle.incremental_paths.specs.Spread.{AreWaiting}
+use Rattle.incremental_paths.proofs.Telling.{tells_none, tells_both}
+use Rattle.incremental_paths.proofs.Pushing.{waiting_none}
 use Rattle.incremental_paths.proofs.spread.push_on.Goals as goal
 
--- a change that no node has
-abbrev none : Change
-none = record { node = 0; before = 0 }
+pub loop-place-init : goal.loop-place-init
+loop-place-init g c = record {
+  reached = λ lowers r. r;
+  waiting = subst (AreWaiting c.args.arcs.now c.args.order.now c.args.lengths.now c.args.changes.now) (sym c.place-low.ensures.is) c.requires.waiting;
+  tells = tells_none c.args.changes.now c.args.lengths.now;
+  within = c.place-low.ensures.within;
+  reach = λ v has. omega (arith, c.place-low.ensures.is, ap (λ z. get_or c.args.order.now z 0) (c.requires.lone v has));
+}
 
-node_at : (entries : List Change) (next : ℕ) → next < length entries → get_or (map (λ (e : Change). e.node) entries) next 0 ≡ (get_or entries next none).node
-node_at entries next lt = get_or-map (λ (e : Change). e.node) entries next none 0 lt
-
-pub raise_ends-requires-clause-node : goal.raise_ends-requires-clause-node
-raise_ends-requires-clause-node c =
-    let loop = c.loop-next.invariant in
-    let told = c.loop-next.changes in
-    let next = c.loop-next.next in
-    let below : next < length told.entries = omega (arith, c.if-next-entries.false, ap length c.entries.ensures) in
-    omega (arith, loop.told (sym c.is_lost.ensures ∙ c.if-is_lost.false) next below, node_at told.entries next below, ap (λ l. (get_or l next none).node) c.entries-in-loop-next.ensures, loop.tells.sized)
-
-pub loop-next-preserved : goal.loop-next-preserved
-loop-next-preserved c =
-    let loop = c.loop-next.invariant in
-    let told = c.loop-next.changes in
-    let next = c.loop-next.next in
-    let below : next < length told.entries = omega (arith, c.if-next-entries.false, ap length c.entries.ensures) in
-    let node = (get_or c.entries-in-loop-next.result.now next none).node in
-    let is : get_or (map (λ (e : Change). e.node) told.entries) next 0 ≡ node = node_at told.entries next below ∙ ap (λ l. (get_or l next none).node) (sym c.entries-in-loop-next.ensures) in
+pub loop-place-preserved : goal.loop-place-preserved
+loop-place-preserved g c =
+    let loop = c.loop-place.invariant in
     record {
-      reached = λ lowers r. c.raise_ends.ensures.reached lowers (loop.reached lowers r);
-      told = nodes_more told c.raise_ends.new.changes c.loop-next.lengths c.raise_ends.new.lengths (length c.args.lengths.now) loop.told loop.tells.sized c.raise_ends.ensures.tells;
-      waiting = waiting_next c.args.arcs.now c.loop-next.lengths c.raise_ends.new.lengths told c.raise_ends.new.changes next node loop.waiting below is c.raise_ends.ensures.spreads c.raise_ends.ensures.tells;
-      tells = tells_both c.args.changes.now told c.raise_ends.new.changes c.args.lengths.now c.loop-next.lengths c.raise_ends.new.lengths loop.tells c.raise_ends.ensures.tells;
+      reached = λ lowers r. c.push_place-top.ensures.reached lowers (loop.reached lowers r);
+      waiting = c.push_place-top.ensures.waiting;
+      tells = tells_both c.args.changes.now c.loop-place.changes c.push_place-top.new.changes c.args.lengths.now c.loop-place.lengths c.push_place-top.new.lengths loop.tells c.push_place-top.ensures.tells;
+      within = c.push_place-top.ensures.within;
+      reach = λ v has. elim (c.push_place-top.ensures.reach v has) [ inl was ↦ omega (arith, loop.reach v was, c.push_place-top.ensures.above) | inr top ↦ top ];
     }
 
-pub returns-else-entries-lengths-clause-spread : goal.returns-else-entries-lengths-clause-spread
-returns-else-entries-lengths-clause-spread c =
-    let told = c.loop-next.changes in
-    waiting_none c.args.arcs.now c.loop-next.lengths told c.loop-next.next c.loop-next.invariant.waiting (omega (arith, c.if-entries-lengths.false, ap length c.entries-2.ensures))
+pub returns-then-place-top-clause-spread : goal.returns-then-place-top-clause-spread
+returns-then-place-top-clause-spread g c =
+    let loop = c.loop-place.invariant in
+    waiting_none c.args.arcs.now c.args.order.now c.loop-place.lengths c.loop-place.changes c.loop-place.place loop.waiting (λ v has. omega (arith, loop.reach v has, c.if-place-top.true))
 
-pub returns-then-entries-lengths-clause-tells : goal.returns-then-entries-lengths-clause-tells
-returns-then-entries-lengths-clause-tells c =
-    tells_lost c.args.changes.now c.loop-next.changes c.lose.new.self c.args.lengths.now c.loop-next.lengths c.loop-next.invariant.tells c.lose.ensures.lost c.lose.ensures.grown
+pub returns-clause-spread : goal.returns-clause-spread
+returns-clause-spread g c =
+    let loop = c.loop-place.invariant in
+    waiting_none c.args.arcs.now c.args.order.now c.loop-place.lengths c.loop-place.changes c.loop-place.place loop.waiting (λ v has. omega (arith, loop.reach v has, loop.within, c.loop-place-test.false, c.size-place-end.ensures.is))

@@ -7,6 +7,7 @@ use Rattle.incremental_paths.specs.Spread.{IsSpread}
 use Rattle.incremental_paths.proofs.Threading.{at_last, at_next, none_first, ends_next, key_here, in_arcs}
 use Rattle.incremental_paths.proofs.Telling.{tells_none, tells_both}
 use Rattle.incremental_paths.proofs.Pairs.{contains_at}
+use Rattle.incremental_paths.proofs.Pushing.{reach_self, reach_both}
 use Rattle.incremental_paths.proofs.Spreading.{reached_fits, reached_one, one_grows, one_only, one_long, one_spread, still_spread}
 use Rattle.incremental_paths.proofs.spread.raise_ends.Goals as goal
 
@@ -15,7 +16,7 @@ abbrev none : Arc
 none = record { from = 0; to = 0; length = 0 }
 
 pub loop-front-init : goal.loop-front-init
-loop-front-init c =
+loop-front-init g c =
     let keys = ap (λ (t : Threaded). t.keys) c.requires.begun in
     record {
       at = at_last c.args.begun.now.keys c.args.node c.last-front.result c.last-front.ensures;
@@ -26,10 +27,13 @@ loop-front-init c =
       here = λ k d le lt e. absurd (none_first (λ (a : Arc). a.from) c.args.arcs.now c.args.begun.now.keys keys c.args.node c.last-front.result c.last-front.ensures k d le lt e);
       reached = λ lowers r. r;
       tells = tells_none c.args.changes.now c.args.lengths.now;
+      above = omega arith;
+      top_within = c.requires.least;
+      reach = reach_self c.args.changes.now c.args.order.now c.args.least;
     }
 
-pub raise_end-requires-clause-fits : goal.raise_end-requires-clause-fits
-raise_end-requires-clause-fits c =
+pub raise_behind-top-requires-clause-fits : goal.raise_behind-top-requires-clause-fits
+raise_behind-top-requires-clause-fits g c =
     let keys = ap (λ (t : Threaded). t.keys) c.requires.begun in
     let arcs = c.args.arcs.now in
     let loop = c.loop-front.invariant in
@@ -39,7 +43,7 @@ raise_end-requires-clause-fits c =
     reached_fits lowers arcs c.loop-front.lengths (loop.reached lowers c.requires.reached.1) (get_or arcs at none) (contains_at arcs at none lt) (omega (arith, (c.requires.within at none lt).0, loop.sized)) c.requires.reached.2
 
 pub loop-front-preserved : goal.loop-front-preserved
-loop-front-preserved c =
+loop-front-preserved g c =
     let keys = ap (λ (t : Threaded). t.keys) c.requires.begun in
     let keys_list = c.args.begun.now.keys in
     let arcs = c.args.arcs.now in
@@ -48,14 +52,14 @@ loop-front-preserved c =
     let front = c.loop-front.front in
     let first = c.args.lengths.now in
     let old = c.loop-front.lengths in
-    let new = c.raise_end.new.lengths in
+    let new = c.raise_behind-top.new.lengths in
     let some : 0 < front = omega arith in
     let lt = in_arcs (λ (a : Arc). a.from) arcs keys_list keys node front loop.at some in
     let a = get_or arcs (front - 1) none in
     let within = c.requires.within (front - 1) none lt in
     let from_within : a.from < length old = omega (arith, within.0, loop.sized) in
     let to_within : a.to < length old = omega (arith, within.1, loop.sized) in
-    let one = c.raise_end.ensures.spreads in
+    let one = c.raise_behind-top.ensures.spreads in
     let grows_one = one_grows a old new to_within one in
     let apart = c.requires.apart (front - 1) none lt in
     let here : (d : Arc) → get_or arcs (front - 1) d ≡ a = λ d. get_or_default arcs (front - 1) d none lt in
@@ -75,5 +79,8 @@ loop-front-preserved c =
           (λ k d le l e. still_spread (get_or arcs k d) old new grows_one (loop.here k d le l e) (ap (λ z. get_or old z 0) e ∙ node_same ∙ ap (λ z. get_or new z 0) (sym e)))
           (λ d. subst (IsSpread new) (sym (here d)) (one_spread a old new to_within apart one));
       reached = λ lowers r. reached_one lowers arcs old (loop.reached lowers r) a (contains_at arcs (front - 1) none lt) from_within new to_within one;
-      tells = tells_both c.args.changes.now c.loop-front.changes c.raise_end.new.changes first old new loop.tells c.raise_end.ensures.tells;
+      above = omega (arith, loop.above, c.raise_behind-top.ensures.above);
+      top_within = c.raise_behind-top.ensures.within;
+      reach = reach_both c.args.order.now c.args.changes.now c.loop-front.changes c.raise_behind-top.new.changes c.loop-front.top c.raise_behind-top.result c.raise_behind-top.ensures.above loop.reach c.raise_behind-top.ensures.reach;
+      tells = tells_both c.args.changes.now c.loop-front.changes c.raise_behind-top.new.changes first old new loop.tells c.raise_behind-top.ensures.tells;
     }

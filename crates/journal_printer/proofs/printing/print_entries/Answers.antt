@@ -1,4 +1,4 @@
-use Rattle.std.proofs.Common.{option_map}
+use Rattle.std.proofs.Common.{◌∙◌, option_map}
 use Rattle.std.proofs.lemmas.Result.{err_from_is_err_and}
 use Rattle.text_puts.specs.Outside.{outside}
 use Rattle.journal_printer.proofs.Printed.{all_at, stopped_at}
@@ -41,4 +41,5 @@ loop-entry-preserved g c = record {
       c.loop-entry-test.true c.entry-item.is c.loop-entry.invariant.printed
       c.in_ok-print_entry.ensures.printed.all;
   known = λ name known. c.print_entry.ensures.known name (c.loop-entry.invariant.known name known);
+  feeds = c.print_entry.ensures.feeds ∙ c.loop-entry.invariant.feeds;
 }

@@ -1,5 +1,5 @@
 -- all entries so far were printed, and no name was forgotten
-use Rattle.std.proofs.Common.{ℕ, List, take, option_map}
+use Rattle.std.proofs.Common.{◌≡◌, ℕ, List, take, option_map}
 use Rattle.text_puts.specs.Outside.{outside}
 use Rattle.journal_printer.specs.Printing.{PrintsAll}
 use Rattle.journal_printer.proofs.printing.print_entries.Given as goal
@@ -15,4 +15,5 @@ invariant-loop-entry g l = record {
       (g.S.Shelf.putting_faults l.shelf)
       (g.O.Sink.faults l.out) (g.O.Sink.written l.out));
   known : (name : List ℕ) → g.S.Shelf.knows l.fn.shelf name → g.S.Shelf.knows l.shelf name;
+  feeds : g.S.Shelf.open_feeds l.shelf ≡ g.S.Shelf.open_feeds l.fn.shelf;
 }

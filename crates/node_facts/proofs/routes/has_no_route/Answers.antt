@@ -1,4 +1,4 @@
-use Rattle.std.proofs.Common.{◌≡◌, ◌<◌, ℕ, refl, sym, subst, inl, inr, arith}
+use Rattle.std.proofs.Common.{◌≡◌, refl, subst, inl, inr, arith}
 use Rattle.std.proofs.lemmas.Bool.{false≢true, cases_lt}
 use Rattle.disp_model.specs.Routes.{HasRoute}
 use Rattle.node_facts.proofs.Sharing.{known_at}

@@ -58,4 +58,5 @@ loop-preserved g c = record {
       c.loop.invariant.so_far c.in_ok-print_new.ensures.watches c.in_ok-print_new.ensures.fetched
       c.in_ok-print_new.ensures.printed;
   known = λ name known. c.print_new.ensures.known name (c.loop.invariant.known name known);
+  feeds = c.print_new.ensures.feeds ∙ c.loop.invariant.feeds;
 }

@@ -16,4 +16,5 @@ invariant-loop g l = record {
       (g.S.Shelf.putting_faults l.shelf)
       (g.O.Sink.faults l.out) (g.O.Sink.written l.out));
   known : (name : List ℕ) → g.S.Shelf.knows l.initial.shelf name → g.S.Shelf.knows l.shelf name;
+  feeds : g.S.Shelf.open_feeds l.shelf ≡ g.S.Shelf.open_feeds l.initial.shelf;
 }

@@ -2,8 +2,8 @@ use Rattle.std.proofs.Common.{◌≡◌, ◌∙◌, ℕ, List, refl, sym, ap, su
 use Rattle.disp_model.specs.declared.train.Operation.{Operation}
 use Rattle.disp_model.specs.Valid.{train_at}
 use Rattle.train_orders.specs.Orders.{IsOrder}
-use Rattle.route_sets.specs.Ways.{last_of}
-use Rattle.route_sets.specs.Marks.{IsLaid, HasMarks}
+use Rattle.route_marks.specs.Ways.{last_of}
+use Rattle.route_marks.specs.Marks.{IsLaid, HasMarks}
 use Rattle.route_sets.proofs.Answering.{train_read, is_inside, found, none_are, is_laid, some_are}
 use Rattle.route_sets.proofs.routes.routes_by.Goals as goal
 

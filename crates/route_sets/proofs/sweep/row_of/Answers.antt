@@ -2,12 +2,12 @@ use Rattle.std.proofs.Common.{◌≡◌, ℕ, List, length, take, ap, subst, ari
 use Rattle.std.specs.Prelude.{Contains, ◌↔◌}
 use Rattle.std.proofs.lemmas.List.{take_all}
 use Rattle.route_sets.specs.Sweeps.{IsKept}
-use Rattle.route_sets.proofs.Sweeping.{row_more}
+use Rattle.route_marks.proofs.Keeping.{row_more}
 use Rattle.route_sets.proofs.sweep.row_of.Goals as goal
 
 pub loop-next-preserved : goal.loop-next-preserved
 loop-next-preserved c =
-    rw c.in_ok-keep.ensures
+    rw c.in_ok-push_if.ensures
     (row_more (IsKept c.args.ask c.args.held.now c.args.count) c.args.operation.now.next c.as_slice-next-items.result.now c.loop-next.row c.loop-next.next-index c.is_kept-kept.result c.as_slice-next-items.ensures c.loop-next-test.true c.is_kept-kept.ensures c.loop-next.invariant)
 
 pub returns : goal.returns

@@ -1,4 +1,5 @@
 use Rattle.std.proofs.Common.{◌≡◌}
+use Rattle.share_bound.specs.Known.{HoldFor}
 use Rattle.search_workers.specs.Searched.{GoesOn, IsOfNewest}
 use Rattle.search_workers.proofs.search.rounds.Given as goal
 
@@ -8,4 +9,5 @@ invariant-loop l = record {
   newest : IsOfNewest l.core l.graph;
   problem : l.core.problem ≡ l.problem;
   rule : l.core.settings.rule ≡ l.reckoning.rule;
+  known : HoldFor l.graph l.known;
 }

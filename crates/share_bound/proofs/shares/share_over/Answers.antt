@@ -3,7 +3,7 @@ use Rattle.std.proofs.lemmas.Result.{IfOk-weaker}
 use Rattle.disp_model.specs.declared.train.Operation.{Operation}
 use Rattle.disp_model.specs.declared.problem.Problem.{Problem}
 use Rattle.disp_model.specs.Valid.{train_at}
-use Rattle.route_sets.specs.Marks.{IsLaid}
+use Rattle.route_marks.specs.Marks.{IsLaid}
 use Rattle.share_bound.specs.Prices.{HasOwn}
 use Rattle.share_bound.proofs.Sharing.{rows_read}
 use Rattle.share_bound.proofs.shares.share_over.Goals as goal

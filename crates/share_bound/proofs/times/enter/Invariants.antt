@@ -1,6 +1,6 @@
 -- the operations of the row so far are entered
 use Rattle.std.proofs.Common.{take}
-use Rattle.route_sets.specs.Marks.{Relaxes}
+use Rattle.route_marks.specs.Marks.{Relaxes}
 use Rattle.share_bound.proofs.times.enter.Given as goal
 
 abbrev pub invariant-loop-next : goal.invariant-loop-next

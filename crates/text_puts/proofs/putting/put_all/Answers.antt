@@ -75,4 +75,5 @@ loop-due-preserved g c =
           ∙ c.loop-due.invariant.readings name;
       known = λ name known. c.in_ok-put.ensures.still_known name
           (c.loop-due.invariant.known name known);
+      feeds = c.in_ok-put.ensures.feeds ∙ c.loop-due.invariant.feeds;
     }

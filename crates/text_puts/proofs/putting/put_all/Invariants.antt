@@ -12,4 +12,5 @@ invariant-loop-due g l = record {
   readings : (name : List ℕ) → g.S.Shelf.reading_faults l.shelf name
       ≡ g.S.Shelf.reading_faults l.fn.shelf name;
   known : (name : List ℕ) → g.S.Shelf.knows l.fn.shelf name → g.S.Shelf.knows l.shelf name;
+  feeds : g.S.Shelf.open_feeds l.shelf ≡ g.S.Shelf.open_feeds l.fn.shelf;
 }

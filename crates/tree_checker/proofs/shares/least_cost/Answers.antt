@@ -4,7 +4,8 @@ use Rattle.disp_model.specs.Node.{node_at}
 use Rattle.train_orders.specs.Orders.{IsOrder}
 use Rattle.node_facts.specs.declared.demands.Demand.{Demand}
 use Rattle.node_facts.specs.Demands.{demand_of_fixing, demand_of_decision}
-use Rattle.node_facts.specs.Ways.{ArePlaces, sum_at}
+use Rattle.node_facts.specs.Ways.{sum_at}
+use Rattle.route_marks.specs.Marks.{ArePlaces}
 use Rattle.node_facts.proofs.Assembling.{is_inside, order_fits}
 use Rattle.tree_checker.specs.TrainCosts.{base_by, reach_by, price_of, IsLeastCost, asked_by, asked, AreEntered, AreCosts}
 use Rattle.tree_checker.proofs.Shown.{least_cost_of, entry_within}

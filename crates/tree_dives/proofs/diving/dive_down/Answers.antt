@@ -43,7 +43,7 @@ returns-in-End-clause-dive c =
     IfOk-weaker c.ended.result _ _ (λ dive is.
     ended_there rule best root c.args.allowance _ sides completes below is.0 is.1 c.in-End.end dive
     is.2 c.loop.counter there (λ none. c.in_ok-choice.ensures.same ∙ (inv.first none).0) inv.count
-    (omega (arith, c.loop-test.true))) c.ended.ensures
+    (omega (arith, c.loop-test.true))) c.ended.ensures.whole
 
 pub loop-preserved : goal.loop-preserved
 loop-preserved c =
@@ -89,7 +89,7 @@ returns-in-Branch-2-clause-dive c =
     spent_there rule best root c.args.allowance _ sides completes below is.0 is.1 _ dive is.2
     c.in-Branch-2.field-0 helps
     (λ none. let first = inv.first (all ∙ none) in (same ∙ first.0, first.1)) (inv.count ∙ all)
-    refl) c.ended-in-Branch-2.ensures
+    refl) c.ended-in-Branch-2.ensures.whole
 
 pub returns-in-End-2-clause-dive : goal.returns-in-End-2-clause-dive
 returns-in-End-2-clause-dive c =
@@ -109,4 +109,4 @@ returns-in-End-2-clause-dive c =
     IfOk-weaker c.ended-in-End-2.result _ _ (λ dive is.
     ended_there rule best root c.args.allowance _ sides completes below is.0 is.1 c.in-End-2.end
     dive is.2 c.loop.counter there (λ none. same ∙ (inv.first none).0) inv.count
-    (omega (arith, all))) c.ended-in-End-2.ensures
+    (omega (arith, all))) c.ended-in-End-2.ensures.whole

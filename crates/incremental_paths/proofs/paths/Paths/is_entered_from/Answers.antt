@@ -1,7 +1,4 @@
 use Rattle.incremental_paths.proofs.paths.Paths.is_entered_from.Goals as goal
 
-pub returns-clause-yes : goal.returns-clause-yes
-returns-clause-yes c = rw (← c.self.view_is, ← c.deref.ensures.value) c.comes_from_marked.ensures.yes
-
 pub returns-clause-rising : goal.returns-clause-rising
-returns-clause-rising c = rw (← c.self.view_is) (c.self.inside.order, c.self.invariant.0.rising)
+returns-clause-rising c = rw (← c.self.view_is) (c.self.inside.ordered.places, c.is_entered_from.ensures.rising)

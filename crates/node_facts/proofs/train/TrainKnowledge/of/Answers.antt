@@ -1,7 +1,8 @@
-use Rattle.std.proofs.Common.{◌≡◌, ◌∙◌, ℕ, List, ap, subst}
+use Rattle.std.proofs.Common.{◌≡◌, ◌∙◌, ℕ, List, Option, sym, ap, subst}
 use Rattle.disp_model.specs.Valid.{train_at}
 use Rattle.node_facts.specs.declared.demands.Demand.{Demand}
-use Rattle.node_facts.specs.Ways.{ArePlaces, AreSums, last_of}
+use Rattle.node_facts.specs.Ways.{AreSums, last_of}
+use Rattle.route_marks.specs.Marks.{ArePlaces}
 use Rattle.node_facts.specs.Known.{AreOnEach}
 use Rattle.node_facts.proofs.Assembling.{train_read, is_inside, order_fits, known_of}
 use Rattle.node_facts.proofs.train.TrainKnowledge.of.Goals as goal
@@ -23,6 +24,17 @@ needed_of-requires-clause-fits c =
     let operations = c.as_slice-operations.result.now in
     let e : train_at c.args.problem.now c.args.train ≡ operations = train_read c.args.problem.now.trains c.as_slice.result.now c.args.train c.index-as_slice-train.result operations c.as_slice.ensures c.index-as_slice-train.is c.as_slice-operations.ensures c.requires in
     order_fits c.args.problem.now c.args.train operations c.in_ok-order.order.items c.deref-6.result.now e c.requires c.in_ok-order.ensures c.deref-6.ensures.value
+
+pub needed_of-requires-clause-sums : goal.needed_of-requires-clause-sums
+needed_of-requires-clause-sums c =
+    let operations = c.as_slice-operations.result.now in
+    let places : List ℕ = c.deref-7.result.now in
+    let placed : c.deref-4.result.now ≡ places = c.deref-4.ensures.value ∙ sym c.deref-7.ensures.value in
+    let asked : c.deref-5.result.now ≡ c.deref-8.result.now = c.deref-5.ensures.value ∙ sym c.deref-8.ensures.value in
+    let found : AreSums operations places c.deref-8.result.now c.in_ok-sums.sums.items =
+    subst (λ (l : List Demand). AreSums operations places l c.in_ok-sums.sums.items) asked
+    (subst (λ (l : List ℕ). AreSums operations l c.deref-5.result.now c.in_ok-sums.sums.items) placed c.in_ok-sums.ensures.sums) in
+    subst (λ (l : List (Option ℕ)). AreSums operations places c.deref-8.result.now l) (sym c.deref-9.ensures.value) found
 
 pub returns : goal.returns
 returns c =

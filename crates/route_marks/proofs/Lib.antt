@@ -1,0 +1,4 @@
+pub mod Chaining
+pub mod Keeping
+pub mod Passing
+pub mod Relaxing
