@@ -1,8 +1,8 @@
 -- What the steps of a section tell, put together.
-use Rattle.std.proofs.Common.{◌≡◌, ℕ, ◌+◌, ◌≤◌, Bool, true, false, List, [], ◌∷◌, ◌++◌, length, sym, ap, ◌∙◌, subst, inl, inr, arith, length-append, Option, Some}
+use Rattle.std.proofs.Common.{get_or, ◌≡◌, ℕ, ◌+◌, ◌≤◌, Bool, true, false, List, [], ◌∷◌, ◌++◌, length, sym, ap, ◌∙◌, subst, inl, inr, arith, length-append, Option, Some}
 use Rattle.std.specs.Prelude.{MatchBool, nat_lt, if◌then◌else◌}
 use Rattle.std.proofs.lemmas.Bool.{lt-ltb, le-ltb}
-use Rattle.atomic_table.specs.Table.{step}
+use Rattle.atomic_table.specs.Table.{rest, step}
 use Rattle.turn_lock.specs.declared.pass.View.{View}
 use Rattle.turn_lock.specs.View.{known_of}
 use Rattle.turn_lock.specs.Known.{Known}
@@ -10,6 +10,15 @@ use Rattle.turn_lock.specs.Section.{AddsEntry, AddsOne, Knows, MayFind, MayLeave
 use Rattle.turn_lock.proofs.Beginnings.{nil_of}
 use Rattle.turn_lock.proofs.Keeps.{in_hand}
 use Rattle.turn_lock.specs.Steps.{Begins, Owns, Agrees, places_after, Sat, released, holding, HasCounted, GaveBack, Left, Enters, Counts}
+
+module _ {S : Type 0} (slots : List (ℕ × Option S)) (slot : Option S) (carried : S) (there : slots ≡ (0, Some carried) ∷ []) (lent : slots ≡ (0, slot) ∷ rest slots) where
+  -- the slot that is lent has the state that the seat carries
+  pub lent_state : slot ≡ Some carried
+  lent_state = ap (λ (l : List (ℕ × Option S)). (get_or l 0 (0, slot)).1) (sym lent ∙ there)
+
+  -- and it carries no other
+  pub carried_alone : (state : S) → slot ≡ Some state → slots ≡ (0, Some state) ∷ []
+  carried_alone state is = lent ∙ (λ i. (0, is i) ∷ ap rest there i)
 
 module _ {E : Type 0} (named : E → Option ℕ) where
   -- whether the count grew says which of the two it was

@@ -1,5 +1,6 @@
 //! How the lock is taken, used and given back.
-ghost use Rattle.std.specs.Prelude.{◌≡◌};
+ghost use Rattle.std.specs.Prelude.{◌≡◌, ◌<◌, ◌^◌, Some, length, nat_lt};
+ghost use Rattle.std.specs.Fn.{FnOnceReturnsAtMut, FnOnceTakesAtMut};
 
 use crate::History;
 use crate::lock::Turn;
@@ -9,6 +10,26 @@ use atomic_table::Seat;
 use std::alloc::Allocator;
 use std::sync::Wait;
 use std::sync::atomic::Ordering::SeqCst;
+
+// Runs the section on the state where it lies, and says whether it added an entry.
+fn run_on<S: History, R, F: FnOnce(&mut S) -> R>(slot: &mut Option<S>, section: F) -> (R, bool)
+    requires takes { (state : S) × (slot.old ≡ Some state)
+        × FnOnceTakesAtMut F.FnOnce section state }
+    ensures ran { (before : S) × (after : S) × (slot.old ≡ Some before) × (slot.new ≡ Some after)
+        × FnOnceReturnsAtMut F.FnOnce section before result.0 after
+        × (result.1 ≡ nat_lt (length (S.entries before)) (length (S.entries after)))
+        × (length (S.entries after) < 2 ^ 64) }
+{
+    match slot {
+        Some(state) => {
+            let before = state.count();
+            let answer = section(state);
+            let grew = before < state.count();
+            (answer, grew)
+        }
+        None => unreachable!(),
+    }
+}
 
 impl<S: History, A: Allocator> Turn<S, A> {
     ghost use Rattle.std.specs.Prelude.{◌≡◌, ℕ, ◌+◌, ◌<◌, ◌≤◌, ◌^◌, [], ◌∷◌, ◌++◌, None, Some, false, true, MatchBool, Contains, length};
@@ -69,11 +90,8 @@ impl<S: History, A: Allocator> Turn<S, A> {
             × MayLeave S.entries S.named S.terms S.kept seat.old.me.0.caller before after
             × Left S.named seat.old.me.0 (S.entries before) (S.entries after) seat.new.me.0 }
     {
-        let mut state = self.take_out(seat);
-        let before = state.count();
-        let answer = section(&mut state);
-        let grew = before < state.count();
-        self.put_in(seat, state);
+        let slot = seat.slot_mut(&self.table.shared, 0);
+        let (answer, grew) = run_on(slot, section);
         self.give_back(seat, grew);
         answer
     }
@@ -128,29 +146,5 @@ impl<S: History, A: Allocator> Turn<S, A> {
         if self.sleepers.load(SeqCst) > 0 {
             self.table.shared.wake_one(LOCK);
         }
-    }
-
-    fn take_out(&self, seat: &mut Seat<Option<S>, View<S::Entry, S::Terms>>) -> S
-        requires table { seat.old.table_id ≡ lock_of self.now }
-        requires carries { (state : S) × (seat.old.me.1 ≡ (0, Some state) ∷ []) }
-        ensures table { seat.new.table_id ≡ seat.old.table_id }
-        ensures view { seat.new.me.0 ≡ seat.old.me.0 }
-        ensures state { seat.old.me.1 ≡ (0, Some result) ∷ [] }
-        ensures slot { seat.new.me.1 ≡ (0, None) ∷ [] }
-    {
-        match self.table.shared.exchange(seat, 0, None) {
-            Some(state) => state,
-            None => unreachable!(),
-        }
-    }
-
-    fn put_in(&self, seat: &mut Seat<Option<S>, View<S::Entry, S::Terms>>, state: S)
-        requires table { seat.old.table_id ≡ lock_of self.now }
-        requires slot { seat.old.me.1 ≡ (0, None) ∷ [] }
-        ensures table { seat.new.table_id ≡ seat.old.table_id }
-        ensures view { seat.new.me.0 ≡ seat.old.me.0 }
-        ensures slot { seat.new.me.1 ≡ (0, Some state) ∷ [] }
-    {
-        self.table.shared.exchange(seat, 0, Some(state));
     }
 }
