@@ -31,8 +31,8 @@ pub fn answers_are_not_refused()
         → StopsRun words holds old new cause → IsFromOutside cause }
 {}
 
-/// Two causes that stop runs of the same words and told files are one, but for want of memory, failed
-/// readings, and what clap says of refused words.
+/// Two causes that stop runs of the same words and told files are one, but for want of memory,
+/// failed readings, and what clap says of refused words.
 pub fn causes_are_one()
     ensures { (words : List (List ℕ)) (holds : Holdings) (old new before after : Counts)
         (one other : Cause)
@@ -49,8 +49,8 @@ pub fn judgements_are_one()
 {}
 
 /// Two answers to `solve` of the same told files, whatever the budgets, the rules and the numbers
-/// of searchers: they are of one edition; optimal costs are one, optimal and infeasible exclude each
-/// other, and the bound of a stop is at most the optimal cost.
+/// of searchers: they are of one edition; optimal costs are one, optimal and infeasible exclude
+/// each other, and the bound of a stop is at most the optimal cost.
 pub fn searches_agree()
     ensures { (holds : Holdings) (task other : SolveTask) (one two : Answer)
         → TellsInputs holds (Solve task) → task.problem ≡ other.problem
@@ -61,8 +61,8 @@ pub fn searches_agree()
 
 /// Two runs of the same words over files that are told and hold the same: where one ends with an
 /// answer the other is not refused; two that judge or check end with one status, and write the same
-/// text; and of two that solve, one does not find a plan of least cost where the other finds that no
-/// plan is valid.
+/// text; and of two that solve, one does not find a plan of least cost where the other finds that
+/// no plan is valid.
 pub fn runs_agree()
     ensures refused { (words : List (List ℕ)) (old new other later : Outside) (status code : ℕ)
         (journal entries : List Entry)

@@ -154,8 +154,8 @@ fn judge_files<S: Shelf>(
     telling: Telling,
 ) -> Result<Answer, Cause>
     ensures ok { IfOk result
-        (IsJudgedBy (S.holds shelf.old) telling problem.now (option_map (λ name. name.now) fixings.entry)
-        solution.now) }
+        (IsJudgedBy (S.holds shelf.old) telling problem.now
+        (option_map (λ name. name.now) fixings.entry) solution.now) }
     ensures no { IfErr result
         (StopsJudging (S.holds shelf.old) (S.reading_faults shelf.old) (S.reading_faults shelf.new)
         problem.now (option_map (λ name. name.now) fixings.entry) solution.now) }

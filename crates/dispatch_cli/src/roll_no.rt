@@ -63,8 +63,8 @@ fn tell<O: Sink>(out: &mut O, line: Result<String, Memory>, status: u8) -> u8
 
 /// Tells what stopped a `roll`, and gives the status.
 pub(crate) fn stop_roll<O: Sink>(alloc: Global, out: &mut O, no: &RollNo) -> u8
-    ensures { StopsWith (O.faults out.old) (O.faults out.new) (O.written out.old) (O.written out.new)
-        no.now result }
+    ensures { StopsWith (O.faults out.old) (O.faults out.new) (O.written out.old)
+        (O.written out.new) no.now result }
 {
     match no {
         RollNo::TooManyFeeds(count) => tell(out, many_line(alloc, *count), 2),

@@ -28,7 +28,9 @@ fn add_name_of_listing(
     names: &mut IndexSet<String>,
     listing: &Value,
 ) -> Result<(), Memory>
-    ensures { OnOk result (map string_bytes names.new.keys ≡ with_found (map string_bytes names.old.keys) (text_at (codes "resource") (view listing.now))) }
+    ensures { OnOk result (map string_bytes names.new.keys
+        ≡ with_found (map string_bytes names.old.keys)
+        (text_at (codes "resource") (view listing.now))) }
 {
     match text_at(listing, "resource") {
         Some(name) => add_name(alloc, names, name),

@@ -103,7 +103,8 @@ fn write_index(text: &mut String, word: &str, number: u32) -> Result<(), Memory>
 
 /// Adds a word, the number of a train, and a count.
 fn write_count(text: &mut String, word: &str, t: u32, count: u64) -> Result<(), Memory>
-    ensures { OnOk result (Adds (string_bytes text.old) (string_bytes text.new) (word.now ++ decimal t ++ codes " " ++ decimal count)) }
+    ensures { OnOk result (Adds (string_bytes text.old) (string_bytes text.new)
+        (word.now ++ decimal t ++ codes " " ++ decimal count)) }
 {
     write!(text, "{word}{t} {count}")?;
     Ok(())
@@ -111,7 +112,8 @@ fn write_count(text: &mut String, word: &str, t: u32, count: u64) -> Result<(), 
 
 /// Adds a key behind a place.
 fn write_key(text: &mut String, key: &str) -> Result<(), Memory>
-    ensures { OnOk result (Adds (string_bytes text.old) (string_bytes text.new) (codes "/" ++ key.now)) }
+    ensures { OnOk result (Adds (string_bytes text.old) (string_bytes text.new)
+        (codes "/" ++ key.now)) }
 {
     write!(text, "/{key}")?;
     Ok(())

@@ -28,7 +28,8 @@ pub fn readers_of<F: Feed + Drop>(
     ensures first { IfOk result
         (λ readers. known first.new ≡ with_readers (known first.old) (length feeds.items)) }
     ensures feeds { IfOk result (λ readers. map (λ r. r.feed) readers.items ≡ feeds.items) }
-    ensures readers { IfOk result (λ readers. AreReaders board.now (known first.old) readers.items) }
+    ensures readers { IfOk result
+        (λ readers. AreReaders board.now (known first.old) readers.items) }
     ensures back { IfErr result (λ back. back ≡ feeds) }
 {
     let Ok(mut readers) = Vec::with_capacity(alloc, feeds.len()) else {

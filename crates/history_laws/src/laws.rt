@@ -18,9 +18,11 @@ pub fn histories_grow()
         → grown_by problem (history ++ entry ∷ [])
         ≡ after_entry problem (grown_by problem history) entry }
     ensures spent { (number : ℕ) (history : List Entry) (entry : Entry)
-        → spent_on number (history ++ entry ∷ []) ≡ spent_on number history + splits_of number entry }
+        → spent_on number (history ++ entry ∷ [])
+        ≡ spent_on number history + splits_of number entry }
     ensures mark { (number : ℕ) (history : List Entry) (entry : Entry)
-        → mark_of number (history ++ entry ∷ []) ≡ mark_after number (mark_of number history) entry }
+        → mark_of number (history ++ entry ∷ [])
+        ≡ mark_after number (mark_of number history) entry }
     ensures plan { (history : List Entry) (entry : Entry)
         → last_plan (history ++ entry ∷ []) ≡ plan_after (last_plan history) entry }
 {}

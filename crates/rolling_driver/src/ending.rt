@@ -45,8 +45,8 @@ fn print_rest<W: Wait, S: Shelf, O: Sink>(
     }
 }
 
-/// Joins the passes of a run, prints what is not printed yet, where all before it was, and closes the
-/// board and the feeds.
+/// Joins the passes of a run, prints what is not printed yet, where all before it was, and closes
+/// the board and the feeds.
 pub(crate) fn end_run<W: Wait, S: Shelf, O: Sink>(
     rt: &W,
     alloc: Global,
@@ -62,8 +62,8 @@ pub(crate) fn end_run<W: Wait, S: Shelf, O: Sink>(
     requires may { MayEnd board first readers.items searchers.items }
     requires fetched { OnOk printed (fetched first ≡ length (known first).seen) }
     requires known { All (λ r. S.knows shelf.old (S.Feed.name r.feed)) readers.items }
-    ensures ended { IsEnded S.Feed.name S.Feed.faults (option_map (λ prefix. prefix.now) trees.entry) first
-        readers.items searchers.items printed
+    ensures ended { IsEnded S.Feed.name S.Feed.faults
+        (option_map (λ prefix. prefix.now) trees.entry) first readers.items searchers.items printed
         (outside (S.holds shelf.old) (S.reading_faults shelf.old) (S.putting_faults shelf.old)
         (O.faults out.old) (O.written out.old))
         (outside (S.holds shelf.new) (S.reading_faults shelf.new) (S.putting_faults shelf.new)

@@ -21,10 +21,10 @@ pub struct Rolled {
     pub status: u8,
 }
 
-/// Runs feeds and searchers on a problem until all feeds have ended and the newest edition is settled
-/// or stopped, and prints the journal as it comes: the line of each entry, and before that of a
-/// settled edition its tree, which is put under `trees` and the edition's number. The feeds are
-/// closed, whatever comes.
+/// Runs feeds and searchers on a problem until all feeds have ended and the newest edition is
+/// settled or stopped, and prints the journal as it comes: the line of each entry, and before that
+/// of a settled edition its tree, which is put under `trees` and the edition's number. The feeds
+/// are closed, whatever comes.
 ///
 /// # Errors
 ///

@@ -20,8 +20,8 @@ use tree_dives::Guide;
 /// How many trains are put in for a target where an order of trains is known from the last one.
 const INSERTIONS_AGAIN: u32 = 4000;
 
-/// A graph of an edition, which is moved from work to work, what is known of shares where it is, and
-/// what guides the dives.
+/// A graph of an edition, which is moved from work to work, what is known of shares where it is,
+/// and what guides the dives.
 #[derive(Drop)]
 pub(crate) struct Alive<'p> {
     graph: Graph<'p>,
@@ -60,7 +60,8 @@ fn guide_to(
     Guide::new(alloc, problem, target)
 }
 
-/// The ground of an edition with these fixings. The order of trains is kept from edition to edition.
+/// The ground of an edition with these fixings. The order of trains is kept from edition to
+/// edition.
 pub(crate) fn ground_of<'p>(
     alloc: Global,
     problem: &'p Problem,
@@ -103,8 +104,8 @@ fn aim_at(alloc: Global, problem: &Problem, guide: &mut Guide, growth: &Result<G
 }
 
 impl<'p> Alive<'p> {
-    /// Grows the leaf of a work, where what branches costs less than this best. A plan that is found
-    /// is the target from then on.
+    /// Grows the leaf of a work, where what branches costs less than this best. A plan that is
+    /// found is the target from then on.
     fn grow(
         &mut self,
         alloc: Global,

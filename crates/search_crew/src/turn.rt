@@ -67,8 +67,9 @@ fn stop<W: Wait>(
     Ok(Turn::On)
 }
 
-/// Takes a leaf of an edition from the board, to grow so many branches. Where none is wanted, settles
-/// it; where none may be taken and none is out, stops it; where all that may be taken are out, rests.
+/// Takes a leaf of an edition from the board, to grow so many branches. Where none is wanted,
+/// settles it; where none may be taken and none is out, stops it; where all that may be taken are
+/// out, rests.
 pub(crate) fn next_turn<W: Wait>(
     rt: &W,
     alloc: Global,

@@ -19,8 +19,8 @@ const PART_AHEAD: u64 = 4;
 /// and so many at most.
 const MOST_AHEAD: u64 = 1024;
 
-/// What a searcher has done: how many nodes it grew to find a plan, and how many to raise the bound.
-/// It says how many branches to ask for next. Nothing rests on it.
+/// What a searcher has done: how many nodes it grew to find a plan, and how many to raise the
+/// bound. It says how many branches to ask for next. Nothing rests on it.
 #[derive(Drop)]
 pub struct Effort {
     for_plan: u32,

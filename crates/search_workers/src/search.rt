@@ -162,8 +162,8 @@ fn guide_to(alloc: Global, problem: &Problem, fixings: &[Fixing]) -> Result<Guid
 }
 
 /// Searches the newest edition of a core on one thread until it is settled or stopped. The problem
-/// is the core's, and so is the rule by which it branches. It goes down along a target, which is the best plan once one
-/// is found.
+/// is the core's, and so is the rule by which it branches. It goes down along a target, which is
+/// the best plan once one is found.
 ///
 /// # Errors
 ///

@@ -35,8 +35,8 @@ impl Board {
         self.enter_without_memory(rt, alloc, pass, CoreEvent::Next)
     }
 
-    /// Takes a wanted leaf of an edition for the caller, a searcher of the board, to grow at most so
-    /// many branches.
+    /// Takes a wanted leaf of an edition for the caller, a searcher of the board, to grow at most
+    /// so many branches.
     ///
     /// # Errors
     ///

@@ -40,7 +40,8 @@ fn held_text(
     event: u64,
     resource: u32,
 ) -> Result<String, Memory>
-    ensures { IfOk result (λ text. string_bytes text ≡ with_numbers (codes "Held") holder event ++ codes " " ++ resource_text problem.now resource) }
+    ensures { IfOk result (λ text. string_bytes text ≡ with_numbers (codes "Held") holder event
+        ++ codes " " ++ resource_text problem.now resource) }
 {
     let events = with_numbers(alloc, "Held", holder, u128::from(event))?;
     let name = resource_text(alloc, problem, resource)?;

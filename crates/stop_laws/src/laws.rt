@@ -25,8 +25,8 @@ pub fn grown_trees_cover()
         × Follows plan above }
 {}
 
-/// The bound of a stop is one: where an edition may be stopped with it behind a legal history, and of
-/// each stop in a legal history, each plan that is valid for the edition costs at least that.
+/// The bound of a stop is one: where an edition may be stopped with it behind a legal history, and
+/// of each stop in a legal history, each plan that is valid for the edition costs at least that.
 pub fn stops_bound_costs()
     ensures behind { (problem : Problem) (settings : Settings) (history : List Entry)
         (edition spent bound : ℕ)

@@ -362,10 +362,10 @@ pub(crate) fn target_of(
 
 /// A target for a problem under the fixings that stand: trains are put in one by one, those of
 /// which a start is fixed first and then by when they may be entered, each along its best route
-/// into the times that its resources are free. Then trains are moved in that order, those more often
-/// that are dear, and the best table is kept, until so many have been put in. It begins with the order
-/// that is given, where that has all trains, and leaves the best one in its place. A train that finds
-/// no route is left out.
+/// into the times that its resources are free. Then trains are moved in that order, those more
+/// often that are dear, and the best table is kept, until so many have been put in. It begins with
+/// the order that is given, where that has all trains, and leaves the best one in its place. A
+/// train that finds no route is left out.
 ///
 /// # Errors
 ///

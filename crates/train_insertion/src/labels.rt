@@ -30,7 +30,8 @@ struct Step {
     before: Option<Spot>,
 }
 
-/// Whether a way is better than one that may be known: it costs less, or as much and starts earlier.
+/// Whether a way is better than one that may be known: it costs less, or as much and starts
+/// earlier.
 fn is_better(label: Label, known: Option<Label>) -> bool {
     match known {
         None => true,
@@ -183,8 +184,8 @@ fn go_through(search: &mut Search<'_>) {
     }
 }
 
-/// The best run of a train in the times that are free: in each window as cheap as it can be, and then
-/// as early. None, where there is none. It takes time in the windows of the operations.
+/// The best run of a train in the times that are free: in each window as cheap as it can be, and
+/// then as early. None, where there is none. It takes time in the windows of the operations.
 pub(crate) fn best_run(
     alloc: Global,
     holds: &Holds,

@@ -30,8 +30,8 @@ fn add_closed(closed: &mut Vec<Hold>, holds: &Holds, listing: &Listing) -> Resul
     Ok(())
 }
 
-/// The times during which an operation may not have all that it lists, by their beginnings, in a list
-/// whose elements are dropped.
+/// The times during which an operation may not have all that it lists, by their beginnings, in a
+/// list whose elements are dropped.
 fn find_closed(closed: &mut Vec<Hold>, holds: &Holds, listings: &[Listing]) -> Result<(), Memory> {
     closed.clear();
     for listing in listings {

@@ -60,8 +60,8 @@ pub(crate) fn go_down(
     requires known { HoldFor graph.old known.old }
     ensures below { IsBelowNode graph.old graph.new }
     ensures known { HoldFor graph.new known.new }
-    ensures down { IfOk result (GoesDown reckoning.now.rule choice graph.old (sides_of halves.old) graph.new
-        (sides_of halves.new)) }
+    ensures down { IfOk result (GoesDown reckoning.now.rule choice graph.old (sides_of halves.old)
+        graph.new (sides_of halves.new)) }
 {
     let children = children(alloc, problem, choice)?;
     push_branch(&mut halves.before, choice, children.len() as u32)?;

@@ -26,8 +26,8 @@ pub(crate) fn leaves_of(
     ensures same { graph.new ≡ graph.old }
     ensures known { HoldFor graph.old known.new }
     ensures grows { IfOk result (λ grown. (best : Option ℕ)
-        → Grows reckoning.now.rule best (map (with_decision graph.old) decisions.now) grown.nodes.items
-        grown.bounds.items) }
+        → Grows reckoning.now.rule best (map (with_decision graph.old) decisions.now)
+        grown.nodes.items grown.bounds.items) }
     ensures leaves { IfOk result (λ grown. branches grown.nodes.items ≡ 0) }
 {
     let mut grown = nothing(alloc);

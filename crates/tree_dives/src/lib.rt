@@ -3,8 +3,8 @@
 //! `dive` branches at the node of a graph, follows one child and branches there, and so on, until
 //! its allowance is spent, the child is dead or costs too much, or nothing is picked there, so that
 //! the earliest plan is valid. The other children become leaves with their bounds. The graph is as
-//! before then. Which child is followed, and under the free rule which open choice is taken, is advice of a
-//! guide, and nothing rests on it.
+//! before then. Which child is followed, and under the free rule which open choice is taken, is
+//! advice of a guide, and nothing rests on it.
 #![tactic(auto)]
 
 mod diving;

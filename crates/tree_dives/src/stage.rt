@@ -63,8 +63,8 @@ fn pick(
     }
 }
 
-/// What comes next at the node of a graph, by the rule of the reckoning, and of the open choices by a
-/// strategy. The graph is as before.
+/// What comes next at the node of a graph, by the rule of the reckoning, and of the open choices by
+/// a strategy. The graph is as before.
 pub(crate) fn stage_of(
     alloc: Global,
     problem: &Problem,

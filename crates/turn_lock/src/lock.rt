@@ -108,10 +108,11 @@ impl<S: History, A: Allocator> Turn<S, A> {
         section: F,
     ) -> R
         requires lock { own_lock pass.old ≡ lock_of self.now }
-        requires section { MayRun S.entries S.named S.terms S.kept F.FnOnce section (view pass.old) }
+        requires section { MayRun S.entries S.named S.terms S.kept F.FnOnce section
+            (view pass.old) }
         ensures lock { own_lock pass.new ≡ own_lock pass.old }
-        ensures ran { RunsOnce S.entries S.named S.terms S.kept F.FnOnce section (view pass.old) result
-            (view pass.new) }
+        ensures ran { RunsOnce S.entries S.named S.terms S.kept F.FnOnce section (view pass.old)
+            result (view pass.new) }
     {
         let mut spins = 0;
         for _ in rt.forever() {
@@ -136,11 +137,12 @@ impl<S: History, A: Allocator> Turn<S, A> {
         section: F,
     ) -> Result<R, Busy>
         requires lock { own_lock pass.old ≡ lock_of self.now }
-        requires section { MayRun S.entries S.named S.terms S.kept F.FnOnce section (view pass.old) }
+        requires section { MayRun S.entries S.named S.terms S.kept F.FnOnce section
+            (view pass.old) }
         ensures lock { own_lock pass.new ≡ own_lock pass.old }
         ensures ran { IfOk result
-            (λ answer. RunsOnce S.entries S.named S.terms S.kept F.FnOnce section (view pass.old) answer
-            (view pass.new) × ((view pass.new).tries ≡ (view pass.old).tries)) }
+            (λ answer. RunsOnce S.entries S.named S.terms S.kept F.FnOnce section (view pass.old)
+            answer (view pass.new) × ((view pass.new).tries ≡ (view pass.old).tries)) }
         ensures busy { IfErr result (λ _. view pass.new ≡ with_miss (view pass.old)) }
     {
         let taken = self.take(&mut pass.seat);

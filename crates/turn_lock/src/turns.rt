@@ -63,7 +63,8 @@ impl<S: History, A: Allocator> Turn<S, A> {
         requires table { seat.old.table_id ≡ lock_of self.now }
         requires idle { (seat.old.me.0.holding ≡ false) × (seat.old.me.0.spent ≡ false) }
         ensures table { seat.new.table_id ≡ seat.old.table_id }
-        ensures turn { MatchBool result (Took S.entries S.named S.terms S.kept seat.old.me seat.new.me)
+        ensures turn { MatchBool result
+            (Took S.entries S.named S.terms S.kept seat.old.me seat.new.me)
             (Missed S.entries S.named S.terms S.kept seat.old.me seat.new.me) }
     {
         self.table.shared.compare_exchange::<Take>(seat, LOCK, 0, 1) == 0

@@ -1,6 +1,6 @@
-// Each call of the outside fails in turn, for `roll` with two feeds and trees: the status is 4, what
-// was written is a front of the journal, or the line for what was not read, and no feed is left
-// open.
+// Each call of the outside fails in turn, for `roll` with two feeds and trees: the status is 4,
+// what was written is a front of the journal, or the line for what was not read, and no feed is
+// left open.
 use super::rolled::{ONE_BLOCK, has_lines};
 use disp_outside::OpenGate;
 use dispatch_cli::dispatch;
