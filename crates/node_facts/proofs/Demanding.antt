@@ -1,9 +1,10 @@
 -- What the fixings and decisions of a train ask, one after another.
-use Rattle.std.proofs.Common.{◌≡◌, ℕ, ◌+◌, ◌<◌, ◌≤◌, List, [], ◌∷◌, ◌++◌, length, take, get_or, Option, Some, None, subst, inl, inr, cond, refl, suc, arith}
+use Rattle.std.proofs.Common.{◌≡◌, ℕ, ◌+◌, ◌<◌, ◌≤◌, List, [], ◌∷◌, ◌++◌, length, take, get_or, Option, Some, None, subst, inl, inr, cond, refl, ap, sym, suc, arith, Bool, true, false}
 use Rattle.std.specs.Prelude.{nat_eq, ◌↔◌, Contains, All}
 use Rattle.std.proofs.lemmas.Bool.{cases_Bool, eqb-true, eqb-false}
 use Rattle.std.proofs.lemmas.List.{take_more, take_all}
-use Rattle.std.proofs.lemmas.List.Elements.{All-nil, All-cons, All-head, All-push, All-pop, All-append}
+use Rattle.std.specs.List.{filter}
+use Rattle.std.proofs.lemmas.List.Elements.{All-nil, All-cons, All-head, All-tail, All-push, All-pop, All-append, All-filter}
 use Rattle.disp_model.specs.declared.fixing.Fixing.{Fixing}
 use Rattle.disp_model.specs.declared.fixing.Fixing.TheVariants.{Started, Chosen, NotBefore}
 use Rattle.disp_model.specs.declared.decision.Decision.{Decision}
@@ -11,7 +12,8 @@ use Rattle.disp_model.specs.declared.decision.Decision.TheVariants.{Go, First, R
 use Rattle.disp_model.specs.Routes.{AgreesWithFixing, AgreesWithDecision}
 use Rattle.node_facts.specs.declared.demands.Demand.{Demand}
 use Rattle.node_facts.specs.declared.demands.Demand.TheVariants.{Has, Lacks, Goes, Follows}
-use Rattle.node_facts.specs.Demands.{Meets, demand_of_fixing, demand_of_decision, listed, Asks}
+use Rattle.decision_paths.specs.Kept.{speaks_of}
+use Rattle.node_facts.specs.Demands.{AreDemands, Meets, demand_of_fixing, demand_of_decision, listed, Asks}
 
 meets_one : (route : List ℕ) (demand : Demand) → All (Meets route) (demand ∷ []) ↔ Meets route demand
 meets_one route demand = (λ h. All-head (Meets route) demand [] h, λ h. All-cons (Meets route) demand [] h (All-nil (Meets route)))
@@ -72,3 +74,32 @@ asks_whole {X} Before Agrees xs i demands past asks = subst (λ (l : List X). As
 
 pub asks_alone : (P : List ℕ → Type 0) (demands : List Demand) → Asks (λ route. Unit {0} × P route) demands → Asks P demands
 asks_alone P demands asks route = (λ h. ((asks route).0 h).1, λ h. (asks route).1 (tt, h))
+
+-- what does not speak of a train's routes asks nothing of them
+not_about : (t : ℕ) (route : List ℕ) (decision : Decision) → speaks_of t decision ≡ false → AgreesWithDecision t route decision
+not_about t route (Go o next) not = λ same. absurd (eqb-false o.train t not same)
+not_about t route (First a b) not = tt
+not_about t route (Run o) not = λ same. absurd (eqb-false o.train t not same)
+not_about t route (Skip o) not = λ same. absurd (eqb-false o.train t not same)
+
+-- where all holds of what does not pass, it holds of all as of what passes
+all_filtered : {X : Type 0} (P : X → Type 0) (p : X → Bool) → ((x : X) → p x ≡ false → P x) → (xs : List X) → All P (filter p xs) → All P xs
+all_filtered P p other [] h = All-nil P
+all_filtered {X} P p other (x ∷ xs) h = elim (cases_Bool (p x)) [
+  | inl is ↦
+      let passed : All P (x ∷ filter p xs) = subst (All P) (ap (λ (b : Bool). cond b (x ∷ filter p xs) (filter p xs)) is) h in
+      All-cons P x xs (All-head P x (filter p xs) passed) (all_filtered P p other xs (All-tail P x (filter p xs) passed))
+  | inr not ↦ All-cons P x xs (other x not) (all_filtered P p other xs (subst (All P) (ap (λ (b : Bool). cond b (x ∷ filter p xs) (filter p xs)) not) h))
+]
+
+all_about : (t : ℕ) (route : List ℕ) (decisions others : List Decision) → filter (speaks_of t) decisions ≡ filter (speaks_of t) others → All (AgreesWithDecision t route) decisions → All (AgreesWithDecision t route) others
+all_about t route decisions others same h =
+    all_filtered (AgreesWithDecision t route) (speaks_of t) (not_about t route) others
+    (subst (All (AgreesWithDecision t route)) same (All-filter (speaks_of t) (AgreesWithDecision t route) decisions h))
+
+-- what decisions ask that have all those on a train's routes, all of them ask
+pub asks_about : (t : ℕ) (fixings : List Fixing) (own decisions : List Decision) (demands : List Demand) → filter (speaks_of t) own ≡ filter (speaks_of t) decisions → AreDemands t fixings own demands → AreDemands t fixings decisions demands
+asks_about t fixings own decisions demands same asks route = (
+  λ h. let both = (asks route).0 h in (both.0, all_about t route own decisions same both.1),
+  λ h. (asks route).1 (h.0, all_about t route decisions own (sym same) h.1),
+)

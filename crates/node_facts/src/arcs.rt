@@ -1,6 +1,5 @@
-ghost use Rattle.std.specs.Prelude.{◌≡◌, ◌↔◌, ◌∷◌, ℕ, List, Some, Contains, IsTrue};
+ghost use Rattle.std.specs.Prelude.{◌≡◌, ◌↔◌, ℕ, List, Some, IsTrue};
 ghost use Rattle.disp_model.specs.declared.fixing.Fixing.{Fixing};
-ghost use Rattle.disp_model.specs.declared.decision.Decision.TheVariants.{First};
 ghost use Rattle.disp_model.specs.Node.{node_at};
 ghost use Rattle.disp_model.specs.Arcs.{IsOrderArc, IsReleaseArc, IsLongestArc};
 ghost use Rattle.node_facts.specs.Known.{IsKnown};
@@ -9,7 +8,8 @@ ghost use Rattle.node_facts.specs.Orders.{greater, AreKnown};
 use crate::conflicts::release_between;
 use crate::reading::{min_of, train_of};
 use crate::train::TrainKnowledge;
-use disp_model::{Decision, Op, Problem};
+use decision_paths::DecisionPath;
+use disp_model::{Op, Problem};
 
 /// Whether two names are those of one operation.
 pub fn is_same(op: Op, other: Op) -> bool
@@ -18,34 +18,12 @@ pub fn is_same(op: Op, other: Op) -> bool
     op.train == other.train && op.op == other.op
 }
 
-/// Whether a decision puts one operation before another.
-fn is_order(decision: &Decision, a: Op, b: Op) -> bool
-    ensures { IsTrue result ↔ (decision.now ≡ First a b) }
-{
-    match *decision {
-        Decision::First {
-            a: first,
-            b: second,
-        } => is_same(first, a) && is_same(second, b),
-        Decision::Go { .. } => false,
-        Decision::Run(_) => false,
-        Decision::Skip(_) => false,
-    }
-}
-
-/// Whether one operation is decided before another.
-fn is_decided(decisions: &[Decision], a: Op, b: Op) -> bool
-    ensures { IsTrue result ↔ Contains decisions.now (First a b) }
-{
-    decisions.iter().any(|decision| is_order(decision, a, b))
-}
-
 /// The length of the arc of an order that is decided: how long the first operation lasts, and how
 /// long it holds what the second lists too.
-fn order_arc(problem: &Problem, decisions: &[Decision], a: Op, b: Op) -> Option<u64>
+fn order_arc(problem: &Problem, decisions: &DecisionPath, a: Op, b: Op) -> Option<u64>
     ensures { (n : ℕ) → (result ≡ Some n) ↔ IsOrderArc problem.now decisions.now a b n }
 {
-    if !is_decided(decisions, a, b) {
+    if !decisions.puts_first(a, b) {
         return None;
     }
     match release_between(problem, a, b) {
@@ -62,7 +40,7 @@ fn order_arc(problem: &Problem, decisions: &[Decision], a: Op, b: Op) -> Option<
 fn release_arc(
     problem: &Problem,
     known: &TrainKnowledge,
-    decisions: &[Decision],
+    decisions: &DecisionPath,
     next: Op,
     b: Op,
 ) -> Option<u64>
@@ -79,7 +57,7 @@ fn release_arc(
                 train: next.train,
                 op,
             };
-            if !is_decided(decisions, holder, b) {
+            if !decisions.puts_first(holder, b) {
                 return None;
             }
             match release_between(problem, holder, b) {
@@ -105,7 +83,7 @@ fn greater(length: Option<u64>, other: Option<u64>) -> Option<u64>
 pub fn longest_arc(
     problem: &Problem,
     trains: &[TrainKnowledge],
-    decisions: &[Decision],
+    decisions: &DecisionPath,
     from: Op,
     to: Op,
 ) -> Option<u64>

@@ -10,7 +10,8 @@ use crate::arcs::is_same;
 use crate::late::end_of;
 use crate::train::TrainKnowledge;
 use crate::walks::walk_length;
-use disp_model::{Component, ComponentWalk, Decision, Fixing, Op, Problem};
+use decision_paths::DecisionPath;
+use disp_model::{Component, ComponentWalk, Fixing, Op, Problem};
 
 /// What a component costs where its operation starts at a time, or the greatest number of 128 bits
 /// where it costs more.
@@ -48,7 +49,7 @@ pub fn ends_in(walk: &[Op], component: &Component) -> bool
 fn walk_cost(
     problem: &Problem,
     fixings: &[Fixing],
-    decisions: &[Decision],
+    decisions: &DecisionPath,
     trains: &[TrainKnowledge],
     listed: &ComponentWalk,
 ) -> Option<u128>
@@ -73,7 +74,7 @@ fn walk_cost(
 pub fn walks_cost(
     problem: &Problem,
     fixings: &[Fixing],
-    decisions: &[Decision],
+    decisions: &DecisionPath,
     trains: &[TrainKnowledge],
     walks: &[ComponentWalk],
 ) -> Option<u128>

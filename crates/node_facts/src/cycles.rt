@@ -7,13 +7,14 @@ ghost use Rattle.node_facts.specs.Orders.{AreKnown};
 
 use crate::arcs::longest_arc;
 use crate::train::TrainKnowledge;
-use disp_model::{Decision, Op, Problem};
+use decision_paths::DecisionPath;
+use disp_model::{Op, Problem};
 
 /// Whether there is an arc between two operations.
 pub fn has_arc(
     problem: &Problem,
     trains: &[TrainKnowledge],
-    decisions: &[Decision],
+    decisions: &DecisionPath,
     from: Op,
     to: Op,
 ) -> bool
@@ -34,7 +35,7 @@ pub fn has_arc(
 fn closes(
     problem: &Problem,
     trains: &[TrainKnowledge],
-    decisions: &[Decision],
+    decisions: &DecisionPath,
     first: Op,
     second: Op,
     rest: &[Op],
@@ -60,7 +61,7 @@ fn closes(
 pub fn is_cycle(
     problem: &Problem,
     trains: &[TrainKnowledge],
-    decisions: &[Decision],
+    decisions: &DecisionPath,
     nodes: &[Op],
 ) -> bool
     requires { (fixings : List Fixing)

@@ -9,7 +9,8 @@ ghost use Rattle.disp_model.specs.declared.train.Op.{Op};
 use crate::train::TrainKnowledge;
 use crate::walks::walk_length;
 use crate::windows::upper_of;
-use disp_model::{Decision, Fixing, Op, Problem};
+use decision_paths::DecisionPath;
+use disp_model::{Fixing, Op, Problem};
 
 /// The operation in which a walk ends.
 pub fn end_of(walk: &[Op]) -> Option<Op>
@@ -35,7 +36,7 @@ fn is_above(total: u128, upper: Option<u64>) -> bool
 pub fn is_late(
     problem: &Problem,
     fixings: &[Fixing],
-    decisions: &[Decision],
+    decisions: &DecisionPath,
     trains: &[TrainKnowledge],
     walk: &[Op],
 ) -> bool

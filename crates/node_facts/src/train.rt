@@ -9,7 +9,8 @@ use crate::demands::{Demand, demands_of, may_go, place_at};
 use crate::needed::{is_marked, needed_of};
 use crate::reading::{comes_next, nexts_of, train_of};
 use crate::sums::{has_way, sum_at, sums_of};
-use disp_model::{Decision, Fixing, Memory, Operation, Problem};
+use decision_paths::DecisionPath;
+use disp_model::{Fixing, Memory, Operation, Problem};
 use route_marks::places_of;
 use std::alloc::Global;
 use train_orders::order_of;
@@ -48,14 +49,14 @@ impl TrainKnowledge {
         problem: &Problem,
         train: u32,
         fixings: &[Fixing],
-        decisions: &[Decision],
+        decisions: &DecisionPath,
     ) -> Result<TrainKnowledge, Memory>
         requires { train < length problem.now.trains }
         ensures { IfOk result
             (IsKnown (node_at problem.now fixings.now decisions.now) train) }
     {
         let operations = problem.trains.as_slice()[train as usize].as_slice();
-        let demands = demands_of(alloc, train, fixings, decisions)?;
+        let demands = demands_of(alloc, train, fixings, decisions.about(train))?;
         let order = order_of(alloc, operations)?;
         let places = places_of(alloc, operations, &order)?;
         let entry = last_of(&order);

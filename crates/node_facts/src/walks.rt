@@ -8,7 +8,8 @@ ghost use Rattle.node_facts.specs.Orders.{AreKnown};
 use crate::arcs::longest_arc;
 use crate::train::TrainKnowledge;
 use crate::windows::lower_of;
-use disp_model::{Decision, Fixing, Memory, Op, Problem};
+use decision_paths::DecisionPath;
+use disp_model::{Fixing, Memory, Op, Problem};
 use std::alloc::Global;
 
 /// What is known of each train of a node.
@@ -16,7 +17,7 @@ pub fn known_of(
     alloc: Global,
     problem: &Problem,
     fixings: &[Fixing],
-    decisions: &[Decision],
+    decisions: &DecisionPath,
 ) -> Result<Vec<TrainKnowledge>, Memory>
     ensures { IfOk result (λ trains.
         AreKnown (node_at problem.now fixings.now decisions.now) trains.items) }
@@ -53,7 +54,7 @@ fn further(total: u128, length: u64) -> u128
 fn walks_on(
     problem: &Problem,
     trains: &[TrainKnowledge],
-    decisions: &[Decision],
+    decisions: &DecisionPath,
     first: Op,
     walked: u64,
     rest: &[Op],
@@ -81,7 +82,7 @@ fn walks_on(
 fn walk_from(
     problem: &Problem,
     fixings: &[Fixing],
-    decisions: &[Decision],
+    decisions: &DecisionPath,
     trains: &[TrainKnowledge],
     first: Op,
     rest: &[Op],
@@ -102,7 +103,7 @@ fn walk_from(
 pub fn walk_length(
     problem: &Problem,
     fixings: &[Fixing],
-    decisions: &[Decision],
+    decisions: &DecisionPath,
     trains: &[TrainKnowledge],
     walk: &[Op],
 ) -> Option<u128>

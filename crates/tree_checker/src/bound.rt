@@ -4,7 +4,8 @@ ghost use Rattle.node_facts.specs.Orders.{AreKnown};
 ghost use Rattle.tree_checker.specs.Bounds.{IsBoundOfAll};
 
 use crate::shares::shares_cost;
-use disp_model::{ComponentWalk, Decision, Fixing, Memory, Problem, TrainWalks};
+use decision_paths::DecisionPath;
+use disp_model::{ComponentWalk, Fixing, Memory, Problem, TrainWalks};
 use node_facts::{TrainKnowledge, walks_cost};
 use std::alloc::Global;
 
@@ -13,7 +14,7 @@ pub(crate) fn bound_of(
     alloc: Global,
     problem: &Problem,
     fixings: &[Fixing],
-    decisions: &[Decision],
+    decisions: &DecisionPath,
     trains: &[TrainKnowledge],
     walks: &[ComponentWalk],
     listed: &[TrainWalks],

@@ -9,7 +9,8 @@ use crate::descent::descend;
 use crate::judging::judge;
 use crate::places::{Place, open};
 use crate::why::{Checked, Why};
-use disp_model::{Decision, Fixing, Memory, Problem, TreeNode, Verdict};
+use decision_paths::DecisionPath;
+use disp_model::{Fixing, Memory, Problem, TreeNode, Verdict};
 use node_facts::{TrainKnowledge, known_of};
 use std::alloc::Global;
 
@@ -20,17 +21,17 @@ fn step(
     problem: &Problem,
     fixings: &[Fixing],
     verdict: Verdict,
-    path: &mut Vec<Decision>,
+    path: &mut DecisionPath,
     trains: &mut Vec<TrainKnowledge>,
     places: &mut Vec<Place>,
     top: &TreeNode,
 ) -> Result<Option<Why>, Memory>
-    requires nested { IsNested (length path.old.items) (reverse places.old.items) }
-    requires known { AreKnown (node_at problem.now fixings.now path.old.items) trains.old.items }
+    requires nested { IsNested (length path.old) (reverse places.old.items) }
+    requires known { AreKnown (node_at problem.now fixings.now path.old) trains.old.items }
     ensures steps { IfOk result (IsStep problem.now fixings.now verdict top.now
-        path.old.items path.new.items places.old.items places.new.items) }
+        path.old path.new places.old.items places.new.items) }
     ensures known { OnOk result
-        (AreKnown (node_at problem.now fixings.now path.new.items) trains.new.items) }
+        (AreKnown (node_at problem.now fixings.now path.new) trains.new.items) }
 {
     let Some(place) = places.pop() else {
         return Ok(Some(Why::BadChoice));
@@ -40,7 +41,7 @@ fn step(
         alloc,
         problem,
         fixings,
-        path.as_slice(),
+        path,
         trains.as_slice(),
         verdict,
         top,
@@ -71,8 +72,8 @@ pub fn check(
 ) -> Result<Checked, Memory>
     ensures { IfOk result (IsChecked problem.now fixings.now verdict tree.now) }
 {
-    let mut path = Vec::new(alloc);
-    let mut trains = known_of(alloc, problem, fixings, path.as_slice())?;
+    let mut path = DecisionPath::new(alloc, problem.trains.len())?;
+    let mut trains = known_of(alloc, problem, fixings, &path)?;
     let mut places = Vec::new(alloc);
     places.push(Place {
         depth: 0,

@@ -4,14 +4,15 @@ ghost use Rattle.disp_model.specs.Trees.{CostsEnough, ReachVerdict};
 ghost use Rattle.node_facts.specs.Orders.{AreKnown};
 
 use crate::distinct::have_distinct;
-use disp_model::{ComponentWalk, Decision, Fixing, Problem, Verdict};
+use decision_paths::DecisionPath;
+use disp_model::{ComponentWalk, Fixing, Problem, Verdict};
 use node_facts::{TrainKnowledge, walks_cost};
 
 /// Whether walks to distinct components cost together as much as a cost.
 fn cost_enough(
     problem: &Problem,
     fixings: &[Fixing],
-    decisions: &[Decision],
+    decisions: &DecisionPath,
     trains: &[TrainKnowledge],
     walks: &[ComponentWalk],
     cost: u64,
@@ -33,7 +34,7 @@ fn cost_enough(
 pub(crate) fn reach_verdict(
     problem: &Problem,
     fixings: &[Fixing],
-    decisions: &[Decision],
+    decisions: &DecisionPath,
     trains: &[TrainKnowledge],
     verdict: Verdict,
     walks: &[ComponentWalk],

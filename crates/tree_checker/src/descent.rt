@@ -5,6 +5,7 @@ ghost use Rattle.tree_checker.specs.Places.{decisions_of, last_decision};
 ghost use Rattle.tree_checker.specs.Descents.{train_about, Notes, Covers, RenewsOne, AreRenewed};
 
 use crate::places::{Place, go_to};
+use decision_paths::DecisionPath;
 use disp_model::{Decision, Fixing, Memory, Problem};
 use node_facts::TrainKnowledge;
 use std::alloc::Global;
@@ -62,7 +63,7 @@ fn renew_one(
     alloc: Global,
     problem: &Problem,
     fixings: &[Fixing],
-    decisions: &[Decision],
+    decisions: &DecisionPath,
     trains: &mut Vec<TrainKnowledge>,
     train: u32,
 ) -> Result<(), Memory>
@@ -84,7 +85,7 @@ fn renew(
     alloc: Global,
     problem: &Problem,
     fixings: &[Fixing],
-    decisions: &[Decision],
+    decisions: &DecisionPath,
     trains: &mut Vec<TrainKnowledge>,
     changed: &[u32],
 ) -> Result<(), Memory>
@@ -104,24 +105,17 @@ pub(crate) fn descend(
     alloc: Global,
     problem: &Problem,
     fixings: &[Fixing],
-    path: &mut Vec<Decision>,
+    path: &mut DecisionPath,
     trains: &mut Vec<TrainKnowledge>,
     place: Place,
 ) -> Result<(), Memory>
-    requires { AreKnown (node_at problem.now fixings.now path.old.items) trains.old.items }
-    ensures path { OnOk result (path.new.items ≡ decisions_of path.old.items place) }
+    requires { AreKnown (node_at problem.now fixings.now path.old) trains.old.items }
+    ensures path { OnOk result (path.new ≡ decisions_of path.old place) }
     ensures known { OnOk result
-        (AreKnown (node_at problem.now fixings.now path.new.items) trains.new.items) }
+        (AreKnown (node_at problem.now fixings.now path.new) trains.new.items) }
 {
     let changed = changed_by(alloc, path.as_slice(), place)?;
     go_to(path, place)?;
-    renew(
-        alloc,
-        problem,
-        fixings,
-        path.as_slice(),
-        trains,
-        changed.as_slice(),
-    )?;
+    renew(alloc, problem, fixings, path, trains, changed.as_slice())?;
     Ok(())
 }

@@ -6,7 +6,8 @@ ghost use Rattle.node_facts.specs.Orders.{AreKnown};
 ghost use Rattle.tree_checker.specs.Rules.{EndsRight, EndsOn, EndOnTrain, IsOfOther, IsJoinedBack, IsClosed, IsLateIfSaid};
 
 use crate::distinct::is_other;
-use disp_model::{ComponentWalk, Decision, Fixing, Leaf, Op, Problem, TrainWalks};
+use decision_paths::DecisionPath;
+use disp_model::{ComponentWalk, Fixing, Leaf, Op, Problem, TrainWalks};
 use node_facts::{TrainKnowledge, end_of, ends_in, has_arc, is_late};
 
 /// Whether a walk ends in the operation of its component, where that is there.
@@ -89,7 +90,7 @@ pub(crate) fn are_of_others(
 fn is_joined_back(
     problem: &Problem,
     trains: &[TrainKnowledge],
-    decisions: &[Decision],
+    decisions: &DecisionPath,
     nodes: &[Op],
 ) -> bool
     requires { (fixings : List Fixing)
@@ -111,7 +112,7 @@ fn is_joined_back(
 pub(crate) fn is_closed(
     problem: &Problem,
     trains: &[TrainKnowledge],
-    decisions: &[Decision],
+    decisions: &DecisionPath,
     leaf: &Leaf,
 ) -> bool
     requires { (fixings : List Fixing)
@@ -133,7 +134,7 @@ pub(crate) fn is_closed(
 pub(crate) fn is_late_if_said(
     problem: &Problem,
     fixings: &[Fixing],
-    decisions: &[Decision],
+    decisions: &DecisionPath,
     trains: &[TrainKnowledge],
     leaf: &Leaf,
 ) -> bool

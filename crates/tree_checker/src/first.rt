@@ -5,14 +5,15 @@ ghost use Rattle.tree_checker.specs.Rules.{KeepsRules, IsFirstRule};
 
 use crate::rules::{keeps, rule_at};
 use crate::why::Why;
-use disp_model::{Decision, Fixing, Leaf, Problem, Verdict};
+use decision_paths::DecisionPath;
+use disp_model::{Fixing, Leaf, Problem, Verdict};
 use node_facts::TrainKnowledge;
 
 /// The first rule that a leaf breaks, whatever it costs.
 pub(crate) fn first_rule(
     problem: &Problem,
     fixings: &[Fixing],
-    decisions: &[Decision],
+    decisions: &DecisionPath,
     trains: &[TrainKnowledge],
     verdict: Verdict,
     leaf: &Leaf,

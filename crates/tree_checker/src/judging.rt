@@ -17,6 +17,7 @@ use crate::leaf::{component_walks, listed_trains};
 use crate::names::are_named;
 use crate::showing::shows;
 use crate::why::Why;
+use decision_paths::DecisionPath;
 use disp_model::{Choice, Decision, Fixing, Leaf, Memory, Problem, TreeNode, Verdict};
 use node_facts::{TrainKnowledge, has_no_route, known_of};
 use std::alloc::Global;
@@ -38,11 +39,12 @@ pub fn check_leaf(
     ensures { IfOk result (λ holds. IsTrue holds
         ↔ LeafHolds (node_at problem.now fixings.now decisions.now) verdict leaf.now) }
 {
-    let trains = known_of(alloc, problem, fixings, decisions)?;
+    let path = DecisionPath::of(alloc, problem.trains.len(), decisions)?;
+    let trains = known_of(alloc, problem, fixings, &path)?;
     if has_no_route(&trains) {
         return Ok(true);
     }
-    shows(alloc, problem, fixings, decisions, &trains, verdict, leaf)
+    shows(alloc, problem, fixings, &path, &trains, verdict, leaf)
 }
 
 /// What a leaf costs that keeps all other rules, and yet does not reach a cost.
@@ -50,7 +52,7 @@ fn below_cost(
     alloc: Global,
     problem: &Problem,
     fixings: &[Fixing],
-    decisions: &[Decision],
+    decisions: &DecisionPath,
     trains: &[TrainKnowledge],
     cost: u64,
     leaf: &Leaf,
@@ -77,7 +79,7 @@ fn below_verdict(
     alloc: Global,
     problem: &Problem,
     fixings: &[Fixing],
-    decisions: &[Decision],
+    decisions: &DecisionPath,
     trains: &[TrainKnowledge],
     verdict: Verdict,
     leaf: &Leaf,
@@ -103,7 +105,7 @@ fn first_broken(
     alloc: Global,
     problem: &Problem,
     fixings: &[Fixing],
-    decisions: &[Decision],
+    decisions: &DecisionPath,
     trains: &[TrainKnowledge],
     verdict: Verdict,
     leaf: &Leaf,
@@ -126,7 +128,7 @@ fn judge_leaf(
     alloc: Global,
     problem: &Problem,
     fixings: &[Fixing],
-    decisions: &[Decision],
+    decisions: &DecisionPath,
     trains: &[TrainKnowledge],
     verdict: Verdict,
     leaf: &Leaf,
@@ -168,7 +170,7 @@ pub(crate) fn judge(
     alloc: Global,
     problem: &Problem,
     fixings: &[Fixing],
-    decisions: &[Decision],
+    decisions: &DecisionPath,
     trains: &[TrainKnowledge],
     verdict: Verdict,
     top: &TreeNode,

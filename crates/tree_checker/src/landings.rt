@@ -4,7 +4,8 @@ ghost use Rattle.disp_model.specs.Walks.{lower_of, IsWalk};
 ghost use Rattle.node_facts.specs.Orders.{AreKnown};
 ghost use Rattle.tree_checker.specs.TrainCosts.{IsLanding, Raises, WasRaised, AreLowers};
 
-use disp_model::{Decision, Fixing, List, Memory, Op, Problem};
+use decision_paths::DecisionPath;
+use disp_model::{Fixing, List, Memory, Op, Problem};
 use node_facts::{TrainKnowledge, end_of, lower_of, walk_length};
 use std::alloc::Global;
 
@@ -26,7 +27,7 @@ fn count_of(operations: &[Op]) -> usize
 fn length_of(
     problem: &Problem,
     fixings: &[Fixing],
-    decisions: &[Decision],
+    decisions: &DecisionPath,
     trains: &[TrainKnowledge],
     walk: &[Op],
 ) -> Option<u128>
@@ -46,7 +47,7 @@ fn length_of(
 fn landing_of(
     problem: &Problem,
     fixings: &[Fixing],
-    decisions: &[Decision],
+    decisions: &DecisionPath,
     trains: &[TrainKnowledge],
     train: u32,
     walk: &[Op],
@@ -85,7 +86,7 @@ pub(crate) fn raise_all(
     bases: &mut Vec<u128>,
     problem: &Problem,
     fixings: &[Fixing],
-    decisions: &[Decision],
+    decisions: &DecisionPath,
     trains: &[TrainKnowledge],
     train: u32,
     walks: &[List<Op>],

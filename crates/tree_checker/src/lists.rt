@@ -5,7 +5,8 @@ ghost use Rattle.disp_model.specs.Routes.{IsForced};
 ghost use Rattle.node_facts.specs.Orders.{AreKnown};
 ghost use Rattle.tree_checker.specs.Rules.{IsNamed, HasArcs, IsRight};
 
-use disp_model::{Decision, Op, Problem};
+use decision_paths::DecisionPath;
+use disp_model::{Op, Problem};
 use node_facts::{TrainKnowledge, has_arc, is_forced};
 
 /// What is asked of each list of operations of a leaf.
@@ -55,7 +56,7 @@ fn are_forced(trains: &[TrainKnowledge], walk: &[Op]) -> bool
 fn are_joined(
     problem: &Problem,
     trains: &[TrainKnowledge],
-    decisions: &[Decision],
+    decisions: &DecisionPath,
     walk: &[Op],
 ) -> bool
     requires { (fixings : List Fixing)
@@ -76,7 +77,7 @@ fn are_joined(
 pub(crate) fn is_right(
     problem: &Problem,
     trains: &[TrainKnowledge],
-    decisions: &[Decision],
+    decisions: &DecisionPath,
     rule: ListRule,
     walk: &[Op],
 ) -> bool

@@ -7,7 +7,8 @@ ghost use Rattle.tree_checker.specs.Rules.{AreNamed, HasNames};
 use crate::leaf::{component_walks, listed_trains};
 use crate::lists::{ListRule, is_named};
 use crate::rights::are_right;
-use disp_model::{Choice, ComponentWalk, Decision, Leaf, Problem, TrainWalks};
+use decision_paths::DecisionPath;
+use disp_model::{Choice, ComponentWalk, Leaf, Problem, TrainWalks};
 use node_facts::TrainKnowledge;
 
 /// Whether the operations of a choice are there.
@@ -42,7 +43,7 @@ fn have_trains(problem: &Problem, listed: &[TrainWalks]) -> bool
 pub(crate) fn has_names(
     problem: &Problem,
     trains: &[TrainKnowledge],
-    decisions: &[Decision],
+    decisions: &DecisionPath,
     leaf: &Leaf,
 ) -> bool
     requires { (fixings : List Fixing)

@@ -1,8 +1,8 @@
 ghost use Rattle.std.specs.Prelude.{◌≡◌, ◌↔◌, ◌++◌, IfOk, IsSome, IsTrue, OnOk};
-ghost use Rattle.node_facts.specs.Demands.{demand_of_fixing, demand_of_decision, listed};
+ghost use Rattle.node_facts.specs.Demands.{demand_of_fixing, listed};
 ghost use Rattle.tree_checker.specs.TrainCosts.{asked_by};
 
-use disp_model::{Decision, Fixing, Memory};
+use disp_model::{Fixing, Memory};
 use std::alloc::Global;
 
 /// Whether a fixing asks something of the routes of a train.
@@ -13,18 +13,6 @@ fn fixing_asks(train: u32, fixing: &Fixing) -> bool
         Fixing::Started { at_train, .. } => at_train == u64::from(train),
         Fixing::Chosen { at_train, .. } => at_train == u64::from(train),
         Fixing::NotBefore { .. } => false,
-    }
-}
-
-/// Whether a decision asks something of the routes of a train.
-fn decision_asks(train: u32, decision: &Decision) -> bool
-    ensures { IsTrue result ↔ IsSome (demand_of_decision train decision.now) }
-{
-    match *decision {
-        Decision::Go { op, .. } => op.train == train,
-        Decision::First { .. } => false,
-        Decision::Run(op) => op.train == train,
-        Decision::Skip(op) => op.train == train,
     }
 }
 
@@ -41,19 +29,6 @@ fn keep_fixing(own: &mut Vec<Fixing>, train: u32, fixing: &Fixing) -> Result<(),
     Ok(())
 }
 
-/// Keeps a decision that asks something of the routes of a train.
-fn keep_decision(own: &mut Vec<Decision>, train: u32, decision: &Decision) -> Result<(), Memory>
-    ensures { OnOk result (asked_by (demand_of_decision train) own.new.items
-        ≡ asked_by (demand_of_decision train) own.old.items
-        ++ listed (demand_of_decision train decision.now)) }
-{
-    if !decision_asks(train, decision) {
-        return Ok(());
-    }
-    own.push(*decision)?;
-    Ok(())
-}
-
 /// The fixings that ask something of the routes of a train.
 pub(crate) fn own_fixings(
     alloc: Global,
@@ -66,22 +41,6 @@ pub(crate) fn own_fixings(
     let mut own = Vec::new(alloc);
     for fixing in fixings {
         keep_fixing(&mut own, train, fixing)?;
-    }
-    Ok(own)
-}
-
-/// The decisions that ask something of the routes of a train.
-pub(crate) fn own_decisions(
-    alloc: Global,
-    train: u32,
-    decisions: &[Decision],
-) -> Result<Vec<Decision>, Memory>
-    ensures { IfOk result (λ own. asked_by (demand_of_decision train) own.items
-        ≡ asked_by (demand_of_decision train) decisions.now) }
-{
-    let mut own = Vec::new(alloc);
-    for decision in decisions {
-        keep_decision(&mut own, train, decision)?;
     }
     Ok(own)
 }

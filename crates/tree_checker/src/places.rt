@@ -1,6 +1,7 @@
 ghost use Rattle.std.specs.Prelude.{◌≡◌, ◌++◌, ◌≤◌, OnOk, reverse, length};
 ghost use Rattle.tree_checker.specs.Places.{decisions_of, places_at};
 
+use decision_paths::DecisionPath;
 use disp_model::{Decision, Memory};
 
 /// A place of a tree that is left.
@@ -13,8 +14,8 @@ pub(crate) struct Place {
 }
 
 /// Goes on to a place: the decisions become those that lead to it.
-pub(crate) fn go_to(path: &mut Vec<Decision>, place: Place) -> Result<(), Memory>
-    ensures { OnOk result (path.new.items ≡ decisions_of path.old.items place) }
+pub(crate) fn go_to(path: &mut DecisionPath, place: Place) -> Result<(), Memory>
+    ensures { OnOk result (path.new ≡ decisions_of path.old place) }
 {
     path.truncate(place.depth);
     if let Some(decision) = place.decision {

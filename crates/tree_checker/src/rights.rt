@@ -6,14 +6,15 @@ ghost use Rattle.tree_checker.specs.Rules.{own_lists, IsRight, AreRight};
 
 use crate::leaf::{component_walks, listed_trains};
 use crate::lists::{ListRule, is_right};
-use disp_model::{ComponentWalk, Decision, Leaf, List, Op, Problem, TrainWalks};
+use decision_paths::DecisionPath;
+use disp_model::{ComponentWalk, Leaf, List, Op, Problem, TrainWalks};
 use node_facts::TrainKnowledge;
 
 /// Whether the list of a cycle or of a late walk is as a rule asks.
 fn own_is_right(
     problem: &Problem,
     trains: &[TrainKnowledge],
-    decisions: &[Decision],
+    decisions: &DecisionPath,
     rule: ListRule,
     leaf: &Leaf,
 ) -> bool
@@ -37,7 +38,7 @@ fn own_is_right(
 fn components_are_right(
     problem: &Problem,
     trains: &[TrainKnowledge],
-    decisions: &[Decision],
+    decisions: &DecisionPath,
     rule: ListRule,
     walks: &[ComponentWalk],
 ) -> bool
@@ -59,7 +60,7 @@ fn components_are_right(
 fn lists_are_right(
     problem: &Problem,
     trains: &[TrainKnowledge],
-    decisions: &[Decision],
+    decisions: &DecisionPath,
     rule: ListRule,
     walks: &[List<Op>],
 ) -> bool
@@ -81,7 +82,7 @@ fn lists_are_right(
 fn trains_are_right(
     problem: &Problem,
     trains: &[TrainKnowledge],
-    decisions: &[Decision],
+    decisions: &DecisionPath,
     rule: ListRule,
     shown: &[TrainWalks],
 ) -> bool
@@ -105,7 +106,7 @@ fn trains_are_right(
 pub(crate) fn are_right(
     problem: &Problem,
     trains: &[TrainKnowledge],
-    decisions: &[Decision],
+    decisions: &DecisionPath,
     rule: ListRule,
     leaf: &Leaf,
 ) -> bool

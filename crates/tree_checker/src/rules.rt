@@ -13,7 +13,8 @@ use crate::lists::ListRule;
 use crate::names::has_names;
 use crate::rights::are_right;
 use crate::why::Why;
-use disp_model::{ComponentWalk, Decision, Fixing, Leaf, Problem, TrainWalks, Verdict};
+use decision_paths::DecisionPath;
+use disp_model::{ComponentWalk, Fixing, Leaf, Problem, TrainWalks, Verdict};
 use node_facts::TrainKnowledge;
 
 /// The rule of a place in the order in which they are asked; of costs none speaks.
@@ -41,7 +42,7 @@ pub(crate) fn rule_at(place: usize) -> Why
 fn has_arcs(
     problem: &Problem,
     trains: &[TrainKnowledge],
-    decisions: &[Decision],
+    decisions: &DecisionPath,
     leaf: &Leaf,
 ) -> bool
     requires { (fixings : List Fixing)
@@ -68,7 +69,7 @@ fn are_on_trains(problem: &Problem, walks: &[ComponentWalk], listed: &[TrainWalk
 pub(crate) fn keeps(
     problem: &Problem,
     fixings: &[Fixing],
-    decisions: &[Decision],
+    decisions: &DecisionPath,
     trains: &[TrainKnowledge],
     verdict: Verdict,
     leaf: &Leaf,

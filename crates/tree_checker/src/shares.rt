@@ -7,9 +7,10 @@ ghost use Rattle.tree_checker.specs.TrainCosts.{base_by, IsLeastCost, IsShown};
 use crate::entering::{entered_of, kept_at};
 use crate::landings::{lowers_of, raise_all};
 use crate::orders::last_of;
-use crate::owning::{own_decisions, own_fixings};
+use crate::owning::own_fixings;
 use crate::paying::costs_over;
-use disp_model::{Decision, Fixing, Memory, Problem, TrainWalks};
+use decision_paths::DecisionPath;
+use disp_model::{Fixing, Memory, Problem, TrainWalks};
 use node_facts::{TrainKnowledge, train_of};
 use route_marks::places_of;
 use std::alloc::Global;
@@ -21,7 +22,7 @@ fn least_cost(
     alloc: Global,
     problem: &Problem,
     fixings: &[Fixing],
-    decisions: &[Decision],
+    decisions: &DecisionPath,
     train: u32,
     bases: &[u128],
 ) -> Result<Option<u128>, Memory>
@@ -38,8 +39,7 @@ fn least_cost(
     let entry = last_of(order);
     let fixings = own_fixings(alloc, train, fixings)?;
     let fixings = fixings.as_slice();
-    let decisions = own_decisions(alloc, train, decisions)?;
-    let decisions = decisions.as_slice();
+    let decisions = decisions.about(train);
     let entered = entered_of(
         alloc, operations, order, places, bases, train, fixings, decisions, entry,
     )?;
@@ -56,7 +56,7 @@ fn share_of(
     alloc: Global,
     problem: &Problem,
     fixings: &[Fixing],
-    decisions: &[Decision],
+    decisions: &DecisionPath,
     trains: &[TrainKnowledge],
     shown: &TrainWalks,
 ) -> Result<Option<u128>, Memory>
@@ -84,7 +84,7 @@ pub(crate) fn shares_cost(
     alloc: Global,
     problem: &Problem,
     fixings: &[Fixing],
-    decisions: &[Decision],
+    decisions: &DecisionPath,
     trains: &[TrainKnowledge],
     listed: &[TrainWalks],
 ) -> Result<Option<u128>, Memory>

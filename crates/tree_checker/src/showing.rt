@@ -7,7 +7,8 @@ use crate::bound::bound_of;
 use crate::costs::reach_verdict;
 use crate::distinct::{have_distinct, have_distinct_trains};
 use crate::ends::are_of_others;
-use disp_model::{ComponentWalk, Decision, Fixing, Leaf, Memory, Problem, TrainWalks, Verdict};
+use decision_paths::DecisionPath;
+use disp_model::{ComponentWalk, Fixing, Leaf, Memory, Problem, TrainWalks, Verdict};
 use node_facts::{TrainKnowledge, is_cycle, is_late};
 use std::alloc::Global;
 
@@ -17,7 +18,7 @@ fn shares_enough(
     alloc: Global,
     problem: &Problem,
     fixings: &[Fixing],
-    decisions: &[Decision],
+    decisions: &DecisionPath,
     trains: &[TrainKnowledge],
     walks: &[ComponentWalk],
     listed: &[TrainWalks],
@@ -47,7 +48,7 @@ fn share_verdict(
     alloc: Global,
     problem: &Problem,
     fixings: &[Fixing],
-    decisions: &[Decision],
+    decisions: &DecisionPath,
     trains: &[TrainKnowledge],
     verdict: Verdict,
     walks: &[ComponentWalk],
@@ -70,7 +71,7 @@ pub(crate) fn shows(
     alloc: Global,
     problem: &Problem,
     fixings: &[Fixing],
-    decisions: &[Decision],
+    decisions: &DecisionPath,
     trains: &[TrainKnowledge],
     verdict: Verdict,
     leaf: &Leaf,

@@ -5,6 +5,7 @@ use Rattle.node_facts.specs.Ways.{AreSums, last_of}
 use Rattle.route_marks.specs.Marks.{ArePlaces}
 use Rattle.node_facts.specs.Known.{AreOnEach}
 use Rattle.node_facts.proofs.Assembling.{train_read, is_inside, order_fits, known_of}
+use Rattle.node_facts.proofs.Demanding.{asks_about}
 use Rattle.node_facts.proofs.train.TrainKnowledge.of.Goals as goal
 
 pub order_of-requires-clause-inside : goal.order_of-requires-clause-inside
@@ -51,4 +52,5 @@ returns c =
     let needed : AreOnEach operations places demands c.last_of-entry.result c.in_ok-needed.needed.items =
     subst (λ (l : List ℕ). AreOnEach operations l demands c.last_of-entry.result c.in_ok-needed.needed.items) c.deref-7.ensures.value
     (subst (λ (l : List Demand). AreOnEach operations c.deref-7.result.now l c.last_of-entry.result c.in_ok-needed.needed.items) c.deref-8.ensures.value c.in_ok-needed.ensures) in
-    known_of problem c.args.fixings.now c.args.decisions.now c.args.train operations order _ e c.requires c.in_ok-demands.ensures c.in_ok-order.ensures placed entry c.in_ok-sums.ensures.long sums needed
+    let asked = asks_about c.args.train c.args.fixings.now c.about.result.now c.args.decisions.now demands c.about.ensures c.in_ok-demands.ensures in
+    known_of problem c.args.fixings.now c.args.decisions.now c.args.train operations order _ e c.requires asked c.in_ok-order.ensures placed entry c.in_ok-sums.ensures.long sums needed

@@ -1,0 +1,11 @@
+use Rattle.std.proofs.Common.{◌≡◌, ◌-◌, List, length, subst}
+use Rattle.std.specs.Global.{Vec}
+use Rattle.disp_model.specs.declared.decision.Decision.{Decision}
+use Rattle.decision_paths.specs.Kept.{list_of}
+use Rattle.decision_paths.proofs.Listing.{routes_noted}
+use Rattle.decision_paths.proofs.routes.note_route.Goals as goal
+
+pub returns-clause-ok : goal.returns-clause-ok
+returns-clause-ok c decisions are =
+    let place_is = subst (λ (l : List (Vec Decision)). c.list_of-place.result ≡ list_of (length l - 1) c.args.train) c.deref.ensures.value c.list_of-place.ensures in
+    routes_noted decisions c.args.decision c.args.lists.now.items c.args.train c.list_of-place.result c.index_mut.result.now c.push.new.self c.requires.about c.requires.some place_is c.index_mut.ensures.value c.in_ok-push.ensures.items are
