@@ -16,15 +16,12 @@ mod landings;
 mod leaf;
 mod lists;
 mod names;
-mod orders;
-mod owning;
 mod paying;
 mod places;
 mod rights;
 mod rules;
 mod shares;
 mod showing;
-mod steps;
 mod why;
 
 pub use checking::check;

@@ -51,4 +51,4 @@ returns c =
     let needed : AreOnEach operations places demands c.last_of-entry.result c.in_ok-needed.needed.items =
     subst (λ (l : List ℕ). AreOnEach operations l demands c.last_of-entry.result c.in_ok-needed.needed.items) c.deref-7.ensures.value
     (subst (λ (l : List Demand). AreOnEach operations c.deref-7.result.now l c.last_of-entry.result c.in_ok-needed.needed.items) c.deref-8.ensures.value c.in_ok-needed.ensures) in
-    known_of problem c.args.fixings.now c.args.decisions.now c.args.train operations order _ e c.requires c.in_ok-demands.ensures c.in_ok-order.ensures placed entry c.in_ok-sums.ensures.long sums needed
+    known_of problem c.args.fixings.now c.args.decisions.now c.args.train operations _ e c.requires c.in_ok-demands.ensures c.in_ok-order.ensures placed entry c.in_ok-sums.ensures.long sums needed
