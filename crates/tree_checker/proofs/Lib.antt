@@ -15,3 +15,4 @@ pub mod SharesAdded
 pub mod SmallWalks
 pub mod Shown
 pub mod Renewing
+pub mod Owned

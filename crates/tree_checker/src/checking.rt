@@ -3,8 +3,10 @@ ghost use Rattle.disp_model.specs.Node.{node_at};
 ghost use Rattle.node_facts.specs.Orders.{AreKnown};
 ghost use Rattle.tree_checker.specs.Places.{IsNested, IsStep};
 ghost use Rattle.tree_checker.specs.Checks.{IsChecked};
+ghost use Rattle.tree_checker.specs.Components.{AreOwnOf};
 
 use crate::children::decisions_below;
+use crate::components::OwnComponents;
 use crate::descent::descend;
 use crate::judging::judge;
 use crate::places::{Place, open};
@@ -22,11 +24,13 @@ fn step(
     verdict: Verdict,
     path: &mut Vec<Decision>,
     trains: &mut Vec<TrainKnowledge>,
+    own: &OwnComponents,
     places: &mut Vec<Place>,
     top: &TreeNode,
 ) -> Result<Option<Why>, Memory>
     requires nested { IsNested (length path.old.items) (reverse places.old.items) }
     requires known { AreKnown (node_at problem.now fixings.now path.old.items) trains.old.items }
+    requires own { AreOwnOf problem.now own.now }
     ensures steps { IfOk result (IsStep problem.now fixings.now verdict top.now
         path.old.items path.new.items places.old.items places.new.items) }
     ensures known { OnOk result
@@ -42,6 +46,7 @@ fn step(
         fixings,
         path.as_slice(),
         trains.as_slice(),
+        own,
         verdict,
         top,
     )? {
@@ -73,6 +78,7 @@ pub fn check(
 {
     let mut path = Vec::new(alloc);
     let mut trains = known_of(alloc, problem, fixings, path.as_slice())?;
+    let own = OwnComponents::of(alloc, problem)?;
     let mut places = Vec::new(alloc);
     places.push(Place {
         depth: 0,
@@ -86,6 +92,7 @@ pub fn check(
             verdict,
             &mut path,
             &mut trains,
+            &own,
             &mut places,
             top,
         )? {

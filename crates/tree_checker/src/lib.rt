@@ -5,6 +5,7 @@ mod bound;
 mod branch;
 mod checking;
 mod children;
+mod components;
 mod costs;
 mod descent;
 mod distinct;

@@ -5,8 +5,10 @@ ghost use Rattle.disp_model.specs.Node.{node_at};
 ghost use Rattle.node_facts.specs.Known.{IsKnown};
 ghost use Rattle.node_facts.specs.Orders.{AreKnown};
 ghost use Rattle.tree_checker.specs.Bounds.{IsSharesOfAll};
+ghost use Rattle.tree_checker.specs.Components.{AreOwnOf};
 ghost use Rattle.tree_checker.specs.TrainCosts.{base_by, IsLeastCost, IsShown};
 
+use crate::components::OwnComponents;
 use crate::entering::{entered_of, kept_at};
 use crate::landings::{lowers_of, raise_all};
 use crate::paying::costs_over;
@@ -19,12 +21,14 @@ use std::alloc::Global;
 fn least_cost(
     alloc: Global,
     problem: &Problem,
+    own: &OwnComponents,
     known: &TrainKnowledge,
     train: u32,
     bases: &[u128],
 ) -> Result<Option<u128>, Memory>
     requires known { (fixings : List Fixing) × (decisions : List Decision)
         × IsKnown (node_at problem.now fixings decisions) train known.now }
+    requires own { AreOwnOf problem.now own.now }
     requires bases { (o : ℕ) → slice_index bases.now o ≤ 2 ^ 127 }
     ensures { IfOk result (λ found. (fixings : List Fixing) (decisions : List Decision)
         → IsKnown (node_at problem.now fixings decisions) train known.now
@@ -33,7 +37,7 @@ fn least_cost(
     let operations = train_of(problem, train);
     let entered = entered_of(alloc, operations, known, bases)?;
     let entered = entered.as_slice();
-    let components = problem.components.as_slice();
+    let components = own.of_train(train);
     let costs = costs_over(alloc, components, operations, known, train, entered, bases)?;
     Ok(kept_at(costs.as_slice(), known.entry()))
 }
@@ -45,9 +49,11 @@ fn share_of(
     fixings: &[Fixing],
     decisions: &[Decision],
     trains: &[TrainKnowledge],
+    own: &OwnComponents,
     shown: &TrainWalks,
 ) -> Result<Option<u128>, Memory>
-    requires { AreKnown (node_at problem.now fixings.now decisions.now) trains.now }
+    requires known { AreKnown (node_at problem.now fixings.now decisions.now) trains.now }
+    requires own { AreOwnOf problem.now own.now }
     ensures { IfOk result
         (IsShown (node_at problem.now fixings.now decisions.now) shown.now) }
 {
@@ -63,7 +69,7 @@ fn share_of(
     ) {
         return Ok(None);
     }
-    least_cost(alloc, problem, known, train, bases.as_slice())
+    least_cost(alloc, problem, own, known, train, bases.as_slice())
 }
 
 /// What listed trains cost together by their walks; none where one of them has no share.
@@ -73,15 +79,17 @@ pub(crate) fn shares_cost(
     fixings: &[Fixing],
     decisions: &[Decision],
     trains: &[TrainKnowledge],
+    own: &OwnComponents,
     listed: &[TrainWalks],
 ) -> Result<Option<u128>, Memory>
-    requires { AreKnown (node_at problem.now fixings.now decisions.now) trains.now }
+    requires known { AreKnown (node_at problem.now fixings.now decisions.now) trains.now }
+    requires own { AreOwnOf problem.now own.now }
     ensures { IfOk result
         (IsSharesOfAll (node_at problem.now fixings.now decisions.now) listed.now) }
 {
     let mut total: u128 = 0;
     for shown in listed {
-        match share_of(alloc, problem, fixings, decisions, trains, shown)? {
+        match share_of(alloc, problem, fixings, decisions, trains, own, shown)? {
             Some(share) => total = total.saturating_add(share),
             None => return Ok(None),
         }

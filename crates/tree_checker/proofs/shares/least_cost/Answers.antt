@@ -1,5 +1,4 @@
-use Rattle.std.proofs.Common.{◌≡◌, ◌∙◌, ℕ, List, Option, sym, ap, subst}
-use Rattle.disp_model.specs.declared.train.Component.{Component}
+use Rattle.std.proofs.Common.{◌≡◌, ◌∙◌, ℕ, List, Option, sym, ap, subst, arith}
 use Rattle.disp_model.specs.declared.train.Operation.{Operation}
 use Rattle.disp_model.specs.Node.{node_at}
 use Rattle.disp_model.specs.Train.{IsEntry}
@@ -8,6 +7,7 @@ use Rattle.node_facts.specs.Ways.{sum_at}
 use Rattle.route_marks.specs.Marks.{ArePlaces}
 use Rattle.node_facts.proofs.Assembling.{is_inside}
 use Rattle.tree_checker.specs.TrainCosts.{base_by, reach_by, price_of, IsLeastCost, AreCosts}
+use Rattle.tree_checker.proofs.Owned.{own_costs}
 use Rattle.tree_checker.proofs.Shown.{least_cost_of, known_fits}
 use Rattle.tree_checker.proofs.shares.least_cost.Goals as goal
 
@@ -28,6 +28,9 @@ entered_of-requires-clause-entry c =
     let entry = subst (λ (l : List Operation). IsEntry l c.args.known.now.entry) (sym c.train_of-operations.ensures) c.requires.known.2.entry_is in
     entry.there
 
+pub of_train-components-requires : goal.of_train-components-requires
+of_train-components-requires c = omega (arith, c.requires.known.2.there, c.requires.own.long)
+
 pub costs_over-requires : goal.costs_over-requires
 costs_over-requires c = subst (λ (l : List Operation). IsOrder l c.args.known.now.order.items) (sym c.train_of-operations.ensures) c.requires.known.2.order_is
 
@@ -42,6 +45,7 @@ returns c fixings decisions is =
     let entered = c.in_ok-entered.entered.items in
     let costs = c.in_ok-costs.costs.items in
     let kept : sum_at costs known.entry ≡ c.kept_at.result = sym (c.kept_at.ensures ∙ ap (λ (e : ℕ). sum_at c.as_slice.result.now e) c.entry.ensures ∙ ap (λ (l : List (Option ℕ)). sum_at l known.entry) c.as_slice.ensures.value) in
-    let named = subst (λ (l : List Component). AreCosts operations known.places.items known.demands.items (price_of l t (reach_by c.as_slice-entered.result.now bases)) costs) c.as_slice-components.ensures c.in_ok-costs.ensures in
+    let lent = c.of_train-components.ensures ∙ c.requires.own.has t (omega (arith, is.there, c.requires.own.long)) in
+    let named = own_costs operations known.places.items known.demands.items problem.components c.of_train-components.result.now t (reach_by c.as_slice-entered.result.now bases) costs lent c.in_ok-costs.ensures in
     let paid = subst (λ (l : List (Option ℕ)). AreCosts operations known.places.items known.demands.items (price_of problem.components t (reach_by l bases)) costs) c.as_slice-entered.ensures.value named in
     subst (IsLeastCost node t (base_by bases)) kept (least_cost_of node t known operations bases entered costs is c.train_of-operations.ensures c.in_ok-entered.ensures paid)
