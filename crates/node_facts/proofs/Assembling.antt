@@ -57,15 +57,14 @@ order_fits problem t operations order items e there is same =
     let length_is : length items ≡ length order = ap (λ (l : List ℕ). length l) same in
     omega (arith, short, long, length_is, train_fits problem t there)
 
-pub known_of : (problem : Problem) (fixings : List Fixing) (decisions : List Decision) (t : ℕ) (operations : List Operation) (order : List ℕ) (known : TrainKnowledge) → train_at problem t ≡ operations → t < length problem.trains
-    → AreDemands t fixings decisions known.demands.items → IsOrder operations order → ArePlaces operations order known.places.items → known.entry ≡ last_of order
+pub known_of : (problem : Problem) (fixings : List Fixing) (decisions : List Decision) (t : ℕ) (operations : List Operation) (known : TrainKnowledge) → train_at problem t ≡ operations → t < length problem.trains
+    → AreDemands t fixings decisions known.demands.items → IsOrder operations known.order.items → ArePlaces operations known.order.items known.places.items → known.entry ≡ last_of known.order.items
     → length known.sums.items ≡ length operations → AreSums operations known.places.items known.demands.items known.sums.items → AreOnEach operations known.places.items known.demands.items known.entry known.needed.items
     → IsKnown (node_at problem fixings decisions) t known
-known_of problem fixings decisions t operations order known e there demands ordered placed entry long sums needed = record {
+known_of problem fixings decisions t operations known e there demands ordered placed entry long sums needed = record {
   there = there;
-  order = order;
-  order_is = subst (λ (l : List Operation). IsOrder l order) (sym e) ordered;
-  places_are = subst (λ (l : List Operation). ArePlaces l order known.places.items) (sym e) placed;
+  order_is = subst (λ (l : List Operation). IsOrder l known.order.items) (sym e) ordered;
+  places_are = subst (λ (l : List Operation). ArePlaces l known.order.items known.places.items) (sym e) placed;
   demands_are = demands;
   entry_is = subst (λ (l : List Operation). IsEntry l known.entry) (sym e) (subst (λ (x : ℕ). IsEntry operations x) (sym entry) last);
   sums_long = long ∙ sym (ap (λ (l : List Operation). length l) e);
@@ -73,6 +72,9 @@ known_of problem fixings decisions t operations order known e there demands orde
   needed_are = subst (λ (l : List Operation). AreOnEach l known.places.items known.demands.items known.entry known.needed.items) (sym e) needed;
 }
   where
+    order : List ℕ
+    order = known.order.items
+
     acyclic : IsAcyclic operations
     acyclic = subst IsAcyclic e (is_acyclic problem t there)
 

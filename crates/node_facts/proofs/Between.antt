@@ -42,8 +42,8 @@ below_along node t known o w (s ∷ rest) is goes there =
     let laid = laid_out node t known is in
     omega (
       arith,
-      falls (train_at node.problem t) is.order known.places.items o s laid.order_is laid.places_are (each_within (train_at node.problem t) o (s ∷ rest) goes o (inl refl)) goes.0,
-      falls_along (train_at node.problem t) is.order known.places.items s w rest laid goes.1 there,
+      falls (train_at node.problem t) known.order.items known.places.items o s laid.order_is laid.places_are (each_within (train_at node.problem t) o (s ∷ rest) goes o (inl refl)) goes.0,
+      falls_along (train_at node.problem t) known.order.items known.places.items s w rest laid goes.1 there,
     )
 
 -- a train arc leads to a lower place
@@ -161,7 +161,7 @@ arc_to_exit node t o x n known is forced exit apart least = record { same_train 
 
     at_most : (route : List ℕ) (total : ℕ) → IsAllowed node t route → Passes train route o x total → n ≤ total
     at_most route total allowed passes =
-        let whole = allowed_is_way node t is.order places demands known.entry route (asked node t known is) allowed in
+        let whole = allowed_is_way node t known.order.items places demands known.entry route (asked node t known is) allowed in
         let way = way_from train places demands known.entry o whole.0 passes.before (passes.between ++ x ∷ passes.behind) whole.2 (sym whole.1 ∙ passes.route_is) in
         let last : passes.behind ≡ [] = ends_at_exit train places demands x passes.behind exit (way_onward train places demands o x passes.between passes.behind way) in
         let short : IsWay train places demands o (passes.between ++ x ∷ []) = subst (λ (l : List ℕ). IsWay train places demands o (passes.between ++ x ∷ l)) last way in
@@ -178,7 +178,7 @@ arc_between node t a b m n known is one other less first second = by (same_numbe
     train : List Operation
     train = train_at node.problem t
 
-    laid : IsLaidOut train is.order known.places.items
+    laid : IsLaidOut train known.order.items known.places.items
     laid = laid_out node t known is
 
     end : (x : ℕ) × IsExit train x × ((between : List ℕ) × (b ∷ second.reached.rest ≡ between ++ x ∷ []) × (way_sum train b second.reached.rest ≡ sum_by (duration_of train) between))
@@ -188,7 +188,7 @@ arc_between node t a b m n known is one other less first second = by (same_numbe
     x = end.0
 
     not_exit : a ≡ x → ⊥
-    not_exit same = let place = ap (λ (y : ℕ). get_or known.places.items y 0) same in omega (arith, less, place, exit_first train is.order known.places.items x laid end.1)
+    not_exit same = let place = ap (λ (y : ℕ). get_or known.places.items y 0) same in omega (arith, less, place, exit_first train known.order.items known.places.items x laid end.1)
 
     none_behind : b ≡ x → n ≡ 0
     none_behind same =

@@ -20,19 +20,19 @@ some_has P (Some n) is = (λ some. (n, is.reached), λ h. refl)
 
 -- ---- what is known of a train
 
-pub laid_out : (node : Node) (t : ℕ) (known : TrainKnowledge) → (is : IsKnown node t known) → IsLaidOut (train_at node.problem t) is.order known.places.items
+pub laid_out : (node : Node) (t : ℕ) (known : TrainKnowledge) → (is : IsKnown node t known) → IsLaidOut (train_at node.problem t) known.order.items known.places.items
 laid_out node t known is = record { acyclic = node.problem.well_formed.acyclic t [] is.there; order_is = is.order_is; places_are = is.places_are }
 
-pub asked : (node : Node) (t : ℕ) (known : TrainKnowledge) → (is : IsKnown node t known) → IsAsked node t is.order known.places.items known.demands.items known.entry
+pub asked : (node : Node) (t : ℕ) (known : TrainKnowledge) → (is : IsKnown node t known) → IsAsked node t known.order.items known.places.items known.demands.items known.entry
 asked node t known is = record { laid = laid_out node t known is; demands_are = is.demands_are; entry = is.entry_is }
 
 pub left_is : (node : Node) (t : ℕ) (known : TrainKnowledge) (has : Bool) → IsKnown node t known → (IsTrue has ↔ IsSome (sum_at known.sums.items known.entry)) → IsTrue has ↔ HasRoute node t
 left_is node t known has is says = (
   λ true.
       let way = some.0 (says.0 true) in
-      (known.entry ∷ way.1.rest, way_is_allowed node t is.order known.places.items known.demands.items known.entry way.1.rest (asked node t known is) way.1.way),
+      (known.entry ∷ way.1.rest, way_is_allowed node t known.order.items known.places.items known.demands.items known.entry way.1.rest (asked node t known is) way.1.way),
   λ left.
-      let way = allowed_is_way node t is.order known.places.items known.demands.items known.entry left.0 (asked node t known is) left.1 in
+      let way = allowed_is_way node t known.order.items known.places.items known.demands.items known.entry left.0 (asked node t known is) left.1 in
       says.1 (some.1 (way_sum (train_at node.problem t) known.entry way.0, record { rest = way.0; way = way.2; sum_is = refl })),
 )
   where
@@ -43,7 +43,7 @@ left_is node t known has is says = (
 
 pub forced_within : (node : Node) (t o : ℕ) (known : TrainKnowledge) → IsKnown node t known → IsForced node (op_of t o) → o < length (train_at node.problem t)
 forced_within node t o known is forced =
-    let way = allowed_is_way node t is.order known.places.items known.demands.items known.entry forced.allowed.0 (asked node t known is) forced.allowed.1 in
+    let way = allowed_is_way node t known.order.items known.places.items known.demands.items known.entry forced.allowed.0 (asked node t known is) forced.allowed.1 in
     each_within (train_at node.problem t) known.entry way.0 (way_goes (train_at node.problem t) known.places.items known.demands.items known.entry way.0 way.2) o
     (is_in o (known.entry ∷ way.0) (subst (λ (l : List ℕ). Contains l o) way.1 (forced.each_has forced.allowed.0 forced.allowed.1)))
 
@@ -56,13 +56,13 @@ forced_is node t o known left marked is says mark = (
         train = is.there;
         allowed = says.0 both.0;
         each_has = λ route allowed.
-            let way = allowed_is_way node t is.order known.places.items known.demands.items known.entry route (asked node t known is) allowed in
+            let way = allowed_is_way node t known.order.items known.places.items known.demands.items known.entry route (asked node t known is) allowed in
             subst (λ (l : List ℕ). Contains l o) (sym way.1) (on_each way.0 way.2);
       },
   λ forced.
       whole left marked (says.1 forced.allowed) (mark ∙ (is.needed_are o).1 (
         forced_within node t o known is forced,
-        λ rest way. forced.each_has (known.entry ∷ rest) (way_is_allowed node t is.order known.places.items known.demands.items known.entry rest (asked node t known is) way),
+        λ rest way. forced.each_has (known.entry ∷ rest) (way_is_allowed node t known.order.items known.places.items known.demands.items known.entry rest (asked node t known is) way),
       )),
 )
   where

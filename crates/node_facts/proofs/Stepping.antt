@@ -75,11 +75,11 @@ passing node t a known route is allowed there = record {
   way = at.way;
   join = λ other onward.
       let joined = at.join other onward in
-      subst (IsAllowed node t) joined.1 (way_is_allowed node t is.order known.places.items known.demands.items known.entry joined.0 (asked node t known is) joined.2);
+      subst (IsAllowed node t) joined.1 (way_is_allowed node t known.order.items known.places.items known.demands.items known.entry joined.0 (asked node t known is) joined.2);
 }
   where
     way : (rest : List ℕ) × (route ≡ known.entry ∷ rest) × IsWay (train_at node.problem t) known.places.items known.demands.items known.entry rest
-    way = allowed_is_way node t is.order known.places.items known.demands.items known.entry route (asked node t known is) allowed
+    way = allowed_is_way node t known.order.items known.places.items known.demands.items known.entry route (asked node t known is) allowed
 
     at : Through (train_at node.problem t) known.places.items known.demands.items known.entry a way.0
     at = through (train_at node.problem t) known.places.items known.demands.items known.entry a way.0 way.2 (is_in a (known.entry ∷ way.0) (subst (λ (l : List ℕ). Contains l a) way.1 there))

@@ -29,9 +29,8 @@ AreOnEach train places demands e marks = (o : ℕ) → IsTrue (slice_index_or ma
 -- what is kept of a train is so of its allowed routes at the node
 pub record IsKnown (node : Node) (t : ℕ) (known : TrainKnowledge) : Type 0 where
   pub there : t < length node.problem.trains
-  pub order : List ℕ
-  pub order_is : IsOrder (train_at node.problem t) order
-  pub places_are : ArePlaces (train_at node.problem t) order known.places.items
+  pub order_is : IsOrder (train_at node.problem t) known.order.items
+  pub places_are : ArePlaces (train_at node.problem t) known.order.items known.places.items
   pub demands_are : AreDemands t node.fixings node.decisions known.demands.items
   pub entry_is : IsEntry (train_at node.problem t) known.entry
   pub sums_long : length known.sums.items ≡ length (train_at node.problem t)

@@ -3,7 +3,7 @@ ghost use Rattle.disp_model.specs.Node.{Node, node_at};
 ghost use Rattle.disp_model.specs.Routes.{HasRoute, IsForced};
 ghost use Rattle.disp_model.specs.Arcs.{IsTrainArc, GoesTo};
 ghost use Rattle.disp_model.specs.Valid.{train_at};
-ghost use Rattle.node_facts.specs.Ways.{last_of, sum_at};
+ghost use Rattle.node_facts.specs.Ways.{last_of, sum_at, MayGo};
 
 use crate::demands::{Demand, demands_of, may_go, place_at};
 use crate::needed::{is_marked, needed_of};
@@ -18,7 +18,9 @@ use train_orders::order_of;
 /// What is known of the routes of a train that fixings and decisions allow.
 #[derive(Drop)]
 pub struct TrainKnowledge {
-    /// Where each operation stands in an order from the exit back.
+    /// An order of the operations from the exit back.
+    order: Vec<u32>,
+    /// Where each operation stands in it.
     places: Vec<usize>,
     /// What the fixings and the decisions ask of the routes.
     demands: Vec<Demand>,
@@ -63,12 +65,34 @@ impl TrainKnowledge {
         let sums = sums_of(alloc, operations, &order, &places, &demands)?;
         let needed = needed_of(alloc, operations, &order, &places, &demands, &sums, entry)?;
         Ok(TrainKnowledge {
+            order,
             places,
             demands,
             sums,
             needed,
             entry,
         })
+    }
+
+    /// An order of the operations from the exit back.
+    pub fn order(&self) -> &[u32]
+        ensures { result.now ≡ self.now.order.items }
+    {
+        self.order.as_slice()
+    }
+
+    /// The operation that each route begins with.
+    pub fn entry(&self) -> u32
+        ensures { result ≡ self.now.entry }
+    {
+        self.entry
+    }
+
+    /// Whether a route may go on from an operation to one, or end there, by what is asked of it.
+    pub fn may_go(&self, op: u32, next: Option<u32>) -> bool
+        ensures { IsTrue result ↔ MayGo self.now.places.items self.now.demands.items op next }
+    {
+        may_go(&self.places, &self.demands, op, next)
     }
 
     /// Whether some route is allowed.

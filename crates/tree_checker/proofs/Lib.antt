@@ -5,7 +5,6 @@ pub mod Ranking
 pub mod Kept
 pub mod Refusing
 pub mod Descending
-pub mod Letting
 pub mod Coming
 pub mod Entered
 pub mod Paid
@@ -16,4 +15,4 @@ pub mod SharesAdded
 pub mod SmallWalks
 pub mod Shown
 pub mod Renewing
-pub mod AskedAlone
+pub mod Owned

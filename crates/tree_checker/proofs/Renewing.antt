@@ -40,7 +40,6 @@ carried : (problem : Problem) (fixings : List Fixing) (path : List Decision) (pl
     → (Contains changed t → ⊥) → IsKnown (node_at problem fixings path) t known → IsKnown (node_at problem fixings (decisions_of path place)) t known
 carried problem fixings path place changed t known covers other is = record {
   there = is.there;
-  order = is.order;
   order_is = is.order_is;
   places_are = is.places_are;
   demands_are = λ route. (

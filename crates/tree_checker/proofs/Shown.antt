@@ -1,35 +1,25 @@
 -- What a listed train shows, by the bases that its walks raise.
-use Rattle.std.proofs.Common.{◌≡◌, ℕ, ◌-◌, ◌<◌, ◌≤◌, List, length, Option, Some, None, sym, subst, arith}
-use Rattle.std.specs.Prelude.{slice_get}
+use Rattle.std.proofs.Common.{◌≡◌, ℕ, ◌^◌, ◌<◌, ◌≤◌, List, length, get_or, Option, Some, None, refl, sym, ap, subst, ◌∙◌, arith}
 use Rattle.std.proofs.lemmas.Option.{slice_get-get_or}
 use Rattle.disp_model.specs.declared.train.Op.{Op}
 use Rattle.disp_model.specs.declared.train.Operation.{Operation}
+use Rattle.disp_model.specs.declared.decision.Decision.{Decision}
+use Rattle.disp_model.specs.declared.fixing.Fixing.{Fixing}
 use Rattle.disp_model.specs.declared.problem.Problem.{Problem}
 use Rattle.disp_model.specs.declared.tree.TrainWalks.{TrainWalks}
-use Rattle.disp_model.specs.Train.{IsEntry}
-use Rattle.disp_model.specs.WellFormed.{IsAcyclic}
 use Rattle.disp_model.specs.Valid.{train_at}
-use Rattle.disp_model.specs.Node.{Node}
+use Rattle.disp_model.specs.Node.{Node, node_at}
 use Rattle.disp_model.specs.Shares.{Arrival, AreWalksOn, IsShareOver, shown_base}
 use Rattle.disp_laws.proofs.Shares.{train_there}
-use Rattle.train_orders.specs.Orders.{IsOrder}
-use Rattle.train_orders.proofs.Ordered.{has_last, last_is_entry}
-use Rattle.node_facts.specs.Ways.{last_of, sum_at}
-use Rattle.route_marks.specs.Marks.{ArePlaces}
-use Rattle.tree_checker.specs.TrainCosts.{asked, AreEntered, base_by, reach_by, price_of, AreCosts, AreLowers, AreRaised, IsLeastCost, IsShown}
+use Rattle.node_facts.specs.declared.train.TrainKnowledge.{TrainKnowledge}
+use Rattle.node_facts.specs.Known.{IsKnown}
+use Rattle.node_facts.specs.Orders.{AreKnown}
+use Rattle.node_facts.specs.Ways.{sum_at}
+use Rattle.tree_checker.specs.TrainCosts.{AreEntered, base_by, reach_by, price_of, AreCosts, AreLowers, AreRaised, IsLeastCost, IsShown}
 use Rattle.tree_checker.proofs.Enough.{arrivals_once}
 use Rattle.tree_checker.proofs.LeastCosts.{least_cost_is, share_moves}
-use Rattle.tree_checker.proofs.Letting.{asked_is}
-use Rattle.node_facts.specs.declared.demands.Demand.{Demand}
-use Rattle.node_facts.proofs.Assembling.{is_acyclic}
-
--- the last operation of an order is the entry
-pub entry_of_order : (train : List Operation) (order : List ℕ) (e : ℕ) → IsAcyclic train → IsOrder train order → e ≡ last_of order → IsEntry train e
-entry_of_order train order e acyclic ordered is =
-    let found = has_last train order acyclic ordered in
-    let place : length order - 1 ≡ found.0 = omega (arith, found.2) in
-    let last = subst (λ (n : ℕ). slice_get order n ≡ Some (last_of order)) place (slice_get-get_or order (length order - 1) 0 (omega (arith, found.2))) in
-    subst (IsEntry train) (sym is) (last_is_entry train order found.0 (last_of order) ordered found.2 last)
+use Rattle.node_facts.proofs.Assembling.{order_fits}
+use Rattle.node_facts.proofs.Knowing.{asked as known_asks}
 
 -- a train that is not there shows no share
 pub nowhere_shown : (node : Node) (shown : TrainWalks) → length node.problem.trains ≤ shown.train → IsShown node shown None
@@ -68,28 +58,18 @@ share_shown node shown walks count lowers bases read found same long are raised 
     }
 
 -- what the passes over a train find is what it costs at least
-pub least_cost_of : (node : Node) (t : ℕ) (operations : List Operation) (order places : List ℕ) (e : ℕ) (bases : List ℕ) (entered costs : List (Option ℕ)) → t < length node.problem.trains → train_at node.problem t ≡ operations → IsOrder operations order
-    → ArePlaces operations order places → e ≡ last_of order → AreEntered operations places (asked t node.fixings node.decisions) (base_by bases) e entered
-    → AreCosts operations places (asked t node.fixings node.decisions) (price_of node.problem.components t (reach_by entered bases)) costs → IsLeastCost node t (base_by bases) (sum_at costs e)
-least_cost_of node t operations order places e bases entered costs there same ordered placed entry kept paid =
-    least_cost_is node t order places demands e bases entered costs
-    (record {
-      laid = record { acyclic = acyclic; order_is = own_order; places_are = subst (λ (l : List Operation). ArePlaces l order places) (sym same) placed };
-      demands_are = asked_is t node.fixings node.decisions;
-      entry = entry_of_order (train_at node.problem t) order e acyclic own_order entry;
-    })
-    (subst (λ (l : List Operation). AreEntered l places demands (base_by bases) e entered) (sym same) kept)
-    (subst (λ (l : List Operation). AreCosts l places demands (price_of node.problem.components t (reach_by entered bases)) costs) (sym same) paid)
-  where
-    demands : List Demand
-    demands = asked t node.fixings node.decisions
+pub least_cost_of : (node : Node) (t : ℕ) (known : TrainKnowledge) (operations : List Operation) (bases : List ℕ) (entered costs : List (Option ℕ)) → IsKnown node t known → operations ≡ train_at node.problem t
+    → AreEntered operations known.places.items known.demands.items (base_by bases) known.entry entered
+    → AreCosts operations known.places.items known.demands.items (price_of node.problem.components t (reach_by entered bases)) costs → IsLeastCost node t (base_by bases) (sum_at costs known.entry)
+least_cost_of node t known operations bases entered costs is same kept paid =
+    least_cost_is node t known.order.items known.places.items known.demands.items known.entry bases entered costs (known_asks node t known is)
+    (subst (λ (l : List Operation). AreEntered l known.places.items known.demands.items (base_by bases) known.entry entered) same kept)
+    (subst (λ (l : List Operation). AreCosts l known.places.items known.demands.items (price_of node.problem.components t (reach_by entered bases)) costs) same paid)
 
-    acyclic : IsAcyclic (train_at node.problem t)
-    acyclic = is_acyclic node.problem t there
+-- a train of which something is known fits
+pub known_fits : (problem : Problem) (fixings : List Fixing) (decisions : List Decision) (t : ℕ) (known : TrainKnowledge) (operations : List Operation) → IsKnown (node_at problem fixings decisions) t known → operations ≡ train_at problem t → length known.order.items < 2 ^ 31
+known_fits problem fixings decisions t known operations is same = order_fits problem t (train_at problem t) known.order.items known.order.items refl is.there is.order_is refl
 
-    own_order : IsOrder (train_at node.problem t) order
-    own_order = subst (λ (l : List Operation). IsOrder l order) (sym same) ordered
-
--- the entry is an operation of the train
-pub entry_within : (problem : Problem) (t : ℕ) (operations : List Operation) (order : List ℕ) (e : ℕ) → t < length problem.trains → train_at problem t ≡ operations → IsOrder operations order → e ≡ last_of order → e < length operations
-entry_within problem t operations order e there same ordered is = (entry_of_order operations order e (subst IsAcyclic same (is_acyclic problem t there)) ordered is).there
+-- what is read of the trains is known of the one that is asked for
+pub known_read : (node : Node) (trains : List TrainKnowledge) (t : ℕ) (known : TrainKnowledge) → AreKnown node trains → t < length trains → known ≡ get_or trains t known → IsKnown node t known
+known_read node trains t known are lt is = are.each t known (slice_get-get_or trains t known lt ∙ ap (λ (k : TrainKnowledge). Some k) (sym is))

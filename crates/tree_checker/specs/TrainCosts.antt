@@ -1,12 +1,9 @@
 -- What a listed train costs at least, pass by pass over its allowed ways.
-use Rattle.std.specs.Prelude.{◌≡◌, ◌⊎◌, ◌≢◌, ℕ, Bool, true, false, ◌+◌, ◌≤◌, ◌<◌, ◌^◌, ◌==◌, ◌&&◌, max, List, [], ◌∷◌, ◌++◌, length, Contains, Option, Some, None, slice_index, sum_by, unwrap_or, MatchOption, if◌then◌else◌}
+use Rattle.std.specs.Prelude.{◌≡◌, ◌⊎◌, ◌≢◌, ℕ, Bool, true, false, ◌+◌, ◌≤◌, ◌<◌, ◌^◌, ◌==◌, ◌&&◌, max, List, [], ◌∷◌, length, Contains, Option, Some, None, slice_index, sum_by, unwrap_or, MatchOption, if◌then◌else◌}
 use Rattle.disp_model.specs.declared.train.Op.{Op}
 use Rattle.disp_model.specs.declared.train.Operation.{Operation}
 use Rattle.disp_model.specs.declared.train.Component.{Component}
 use Rattle.disp_model.specs.declared.fixing.Fixing.{Fixing}
-use Rattle.disp_model.specs.declared.fixing.Fixing.TheVariants.{Started, Chosen, NotBefore}
-use Rattle.disp_model.specs.declared.decision.Decision.{Decision}
-use Rattle.disp_model.specs.declared.decision.Decision.TheVariants.{Go, First, Run, Skip}
 use Rattle.disp_model.specs.declared.problem.Problem.{Problem}
 use Rattle.disp_model.specs.declared.tree.TrainWalks.{TrainWalks}
 use Rattle.disp_model.specs.Train.{next_of, duration_of, IsSuccessor}
@@ -15,32 +12,9 @@ use Rattle.disp_model.specs.Node.{Node}
 use Rattle.disp_model.specs.Walks.{lower_of, IsWalk, EndsIn}
 use Rattle.disp_model.specs.Shares.{Arrival, AreWalksOn, greatest_to, IsShareOver, ShowsShare}
 use Rattle.node_facts.specs.declared.demands.Demand.{Demand}
-use Rattle.node_facts.specs.Demands.{demand_of_fixing, demand_of_decision, listed, IsNotPast, IsFollowed}
 use Rattle.node_facts.specs.Ways.{MayGo, IsWay, sum_at, IsLeast, GoesOnward}
 use Rattle.node_facts.specs.Costs.{capped}
 use Rattle.tree_checker.specs.declared.landings.Landing.{Landing}
-
--- ---- what is asked of a train's routes
-
-abbrev pub asked_by : {X : Type 0} → (X → Option Demand) → List X → List Demand
-asked_by demand_of [] = []
-asked_by demand_of (x ∷ xs) = listed (demand_of x) ++ asked_by demand_of xs
-
-abbrev pub asked : ℕ → List Fixing → List Decision → List Demand
-asked t fixings decisions = asked_by (demand_of_fixing t) fixings ++ asked_by (demand_of_decision t) decisions
-
--- a route of the train may go on from an operation to one, or end there, by a fixing
-abbrev pub FixingLets : List ℕ → ℕ → ℕ → Option ℕ → Fixing → Type 0
-FixingLets places t o next (Started u p time) = u ≡ t → IsNotPast places p o next
-FixingLets places t o next (Chosen u p s) = u ≡ t → IsNotPast places p o next × IsFollowed p s o next
-FixingLets places t o next (NotBefore u p time) = Unit {0}
-
--- and by a decision
-abbrev pub DecisionLets : List ℕ → ℕ → ℕ → Option ℕ → Decision → Type 0
-DecisionLets places t o next (Go p s) = p.train ≡ t → IsFollowed p.op s o next
-DecisionLets places t o next (First a b) = Unit {0}
-DecisionLets places t o next (Run p) = p.train ≡ t → IsNotPast places p.op o next
-DecisionLets places t o next (Skip p) = p.train ≡ t → o ≢ p.op
 
 -- ---- when operations are reached
 

@@ -2,7 +2,9 @@ ghost use Rattle.std.specs.Prelude.{IfOk};
 ghost use Rattle.disp_model.specs.Node.{node_at};
 ghost use Rattle.node_facts.specs.Orders.{AreKnown};
 ghost use Rattle.tree_checker.specs.Bounds.{IsBoundOfAll};
+ghost use Rattle.tree_checker.specs.Components.{AreOwnOf};
 
+use crate::components::OwnComponents;
 use crate::shares::shares_cost;
 use decision_paths::DecisionPath;
 use disp_model::{ComponentWalk, Fixing, Memory, Problem, TrainWalks};
@@ -16,17 +18,19 @@ pub(crate) fn bound_of(
     fixings: &[Fixing],
     decisions: &DecisionPath,
     trains: &[TrainKnowledge],
+    own: &OwnComponents,
     walks: &[ComponentWalk],
     listed: &[TrainWalks],
 ) -> Result<Option<u128>, Memory>
-    requires { AreKnown (node_at problem.now fixings.now decisions.now) trains.now }
+    requires known { AreKnown (node_at problem.now fixings.now decisions.now) trains.now }
+    requires own { AreOwnOf problem.now own.now }
     ensures { IfOk result
         (IsBoundOfAll (node_at problem.now fixings.now decisions.now) walks.now listed.now) }
 {
     let Some(sum) = walks_cost(problem, fixings, decisions, trains, walks) else {
         return Ok(None);
     };
-    match shares_cost(alloc, problem, fixings, decisions, trains, listed)? {
+    match shares_cost(alloc, problem, fixings, decisions, trains, own, listed)? {
         Some(shares) => Ok(Some(sum.saturating_add(shares))),
         None => Ok(None),
     }

@@ -3,8 +3,10 @@ ghost use Rattle.disp_model.specs.Node.{node_at};
 ghost use Rattle.node_facts.specs.Orders.{AreKnown};
 ghost use Rattle.tree_checker.specs.Places.{IsNested, IsStep};
 ghost use Rattle.tree_checker.specs.Checks.{IsChecked};
+ghost use Rattle.tree_checker.specs.Components.{AreOwnOf};
 
 use crate::children::decisions_below;
+use crate::components::OwnComponents;
 use crate::descent::descend;
 use crate::judging::judge;
 use crate::places::{Place, open};
@@ -23,11 +25,13 @@ fn step(
     verdict: Verdict,
     path: &mut DecisionPath,
     trains: &mut Vec<TrainKnowledge>,
+    own: &OwnComponents,
     places: &mut Vec<Place>,
     top: &TreeNode,
 ) -> Result<Option<Why>, Memory>
     requires nested { IsNested (length path.old) (reverse places.old.items) }
     requires known { AreKnown (node_at problem.now fixings.now path.old) trains.old.items }
+    requires own { AreOwnOf problem.now own.now }
     ensures steps { IfOk result (IsStep problem.now fixings.now verdict top.now
         path.old path.new places.old.items places.new.items) }
     ensures known { OnOk result
@@ -43,6 +47,7 @@ fn step(
         fixings,
         path,
         trains.as_slice(),
+        own,
         verdict,
         top,
     )? {
@@ -74,6 +79,7 @@ pub fn check(
 {
     let mut path = DecisionPath::new(alloc, problem.trains.len())?;
     let mut trains = known_of(alloc, problem, fixings, &path)?;
+    let own = OwnComponents::of(alloc, problem)?;
     let mut places = Vec::new(alloc);
     places.push(Place {
         depth: 0,
@@ -87,6 +93,7 @@ pub fn check(
             verdict,
             &mut path,
             &mut trains,
+            &own,
             &mut places,
             top,
         )? {

@@ -3,11 +3,10 @@ ghost use Rattle.disp_model.specs.Train.{IsSuccessor, duration_of};
 ghost use Rattle.train_orders.specs.Orders.{IsInside, IsOrder};
 ghost use Rattle.node_facts.specs.Ways.{lesser, sum_at};
 ghost use Rattle.route_marks.specs.Marks.{ArePlaces};
-ghost use Rattle.tree_checker.specs.TrainCosts.{asked, Enters, Leaves, AreEntered, base_by, reach_by};
+ghost use Rattle.tree_checker.specs.TrainCosts.{Enters, Leaves, AreEntered, base_by, reach_by};
 
-use crate::steps::may_go;
-use disp_model::{Decision, Fixing, Memory, Operation};
-use node_facts::{min_of, nexts_of};
+use disp_model::{Memory, Operation};
+use node_facts::{TrainKnowledge, min_of, nexts_of};
 use std::alloc::Global;
 
 /// What is kept of an operation, if anything is.
@@ -52,21 +51,12 @@ fn enter(entered: &mut Vec<Option<u128>>, op: u32, time: u128)
 }
 
 /// Enters an operation at a time, if a route may go on to it from another.
-fn step_to(
-    entered: &mut Vec<Option<u128>>,
-    places: &[usize],
-    train: u32,
-    fixings: &[Fixing],
-    decisions: &[Decision],
-    op: u32,
-    next: u32,
-    time: u128,
-)
+fn step_to(entered: &mut Vec<Option<u128>>, known: &TrainKnowledge, op: u32, next: u32, time: u128)
     requires { next < length entered.old.items }
-    ensures { Enters places.now (asked train fixings.now decisions.now) op (next ∷ []) time
+    ensures { Enters known.now.places.items known.now.demands.items op (next ∷ []) time
         entered.old.items entered.new.items }
 {
-    if may_go(places, train, fixings, decisions, op, Some(next)) {
+    if known.may_go(op, Some(next)) {
         enter(entered, next, time);
     }
 }
@@ -74,20 +64,17 @@ fn step_to(
 /// Enters at a time those operations to which a route may go on from another.
 fn go_on(
     entered: &mut Vec<Option<u128>>,
-    places: &[usize],
-    train: u32,
-    fixings: &[Fixing],
-    decisions: &[Decision],
+    known: &TrainKnowledge,
     op: u32,
     nexts: &[u32],
     time: u128,
 )
     requires { All (λ s. s < length entered.old.items) nexts.now }
-    ensures { Enters places.now (asked train fixings.now decisions.now) op nexts.now time
+    ensures { Enters known.now.places.items known.now.demands.items op nexts.now time
         entered.old.items entered.new.items }
 {
     for next in nexts {
-        step_to(entered, places, train, fixings, decisions, op, *next, time);
+        step_to(entered, known, op, *next, time);
     }
 }
 
@@ -103,11 +90,8 @@ fn left_at(time: u128, base: u128, min: u32) -> u128
 fn leave(
     entered: &mut Vec<Option<u128>>,
     operations: &[Operation],
-    places: &[usize],
+    known: &TrainKnowledge,
     bases: &[u128],
-    train: u32,
-    fixings: &[Fixing],
-    decisions: &[Decision],
     op: u32,
 )
     requires inside { (s : ℕ) → IsSuccessor operations.now op s
@@ -115,7 +99,7 @@ fn leave(
     requires entered { (o x : ℕ) → sum_at entered.old.items o ≡ Some x
         → x ≤ 2 ^ 127 + 2 ^ 65 }
     requires bases { (o : ℕ) → slice_index bases.now o ≤ 2 ^ 127 }
-    ensures leaves { Leaves operations.now places.now (asked train fixings.now decisions.now)
+    ensures leaves { Leaves operations.now known.now.places.items known.now.demands.items
         bases.now op
         entered.old.items entered.new.items }
     ensures small { duration_of operations.now op < 2 ^ 32 }
@@ -125,16 +109,7 @@ fn leave(
         return;
     };
     let left = left_at(time, base_at(bases, op), min);
-    go_on(
-        entered,
-        places,
-        train,
-        fixings,
-        decisions,
-        op,
-        nexts_of(operations, op),
-        left,
-    );
+    go_on(entered, known, op, nexts_of(operations, op), left);
 }
 
 /// When each operation is entered at the earliest, over the ways from the entry that a route may
@@ -142,37 +117,25 @@ fn leave(
 pub(crate) fn entered_of(
     alloc: Global,
     operations: &[Operation],
-    order: &[u32],
-    places: &[usize],
+    known: &TrainKnowledge,
     bases: &[u128],
-    train: u32,
-    fixings: &[Fixing],
-    decisions: &[Decision],
-    entry: u32,
 ) -> Result<Vec<Option<u128>>, Memory>
     requires inside { IsInside operations.now }
-    requires order { IsOrder operations.now order.now }
-    requires places { ArePlaces operations.now order.now places.now }
-    requires fits { length order.now < 2 ^ 31 }
-    requires entry { entry < length operations.now }
+    requires order { IsOrder operations.now known.now.order.items }
+    requires places { ArePlaces operations.now known.now.order.items known.now.places.items }
+    requires fits { length known.now.order.items < 2 ^ 31 }
+    requires entry { known.now.entry < length operations.now }
     requires bases { (o : ℕ) → slice_index bases.now o ≤ 2 ^ 127 }
-    ensures { IfOk result (λ entered. AreEntered operations.now places.now
-        (asked train fixings.now decisions.now) (base_by bases.now) entry entered.items) }
+    ensures { IfOk result (λ entered. AreEntered operations.now known.now.places.items
+        known.now.demands.items (base_by bases.now) known.now.entry entered.items) }
 {
+    let order = known.order();
+    let entry = known.entry();
     let mut entered = vec![in alloc; None; operations.len()]?;
     entered[entry as usize] = Some(0);
     for step in 0..order.len() {
         let op = order[order.len() - 1 - step];
-        leave(
-            &mut entered,
-            operations,
-            places,
-            bases,
-            train,
-            fixings,
-            decisions,
-            op,
-        );
+        leave(&mut entered, operations, known, bases, op);
     }
     Ok(entered)
 }

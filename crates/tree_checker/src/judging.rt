@@ -8,10 +8,12 @@ ghost use Rattle.disp_model.specs.Node.{node_at};
 ghost use Rattle.disp_model.specs.Routes.{HasNoRoute};
 ghost use Rattle.disp_model.specs.Trees.{LeafHolds, Shows};
 ghost use Rattle.node_facts.specs.Orders.{AreKnown};
+ghost use Rattle.tree_checker.specs.Components.{AreOwnOf};
 ghost use Rattle.tree_checker.specs.Rules.{KeepsRules, IsFirstRule, Holds, IsRefusedFor};
 
 use crate::bound::bound_of;
 use crate::branch::is_branch;
+use crate::components::OwnComponents;
 use crate::first::first_rule;
 use crate::leaf::{component_walks, listed_trains};
 use crate::names::are_named;
@@ -44,7 +46,10 @@ pub fn check_leaf(
     if has_no_route(&trains) {
         return Ok(true);
     }
-    shows(alloc, problem, fixings, &path, &trains, verdict, leaf)
+    let own = OwnComponents::of(alloc, problem)?;
+    shows(
+        alloc, problem, fixings, &path, &trains, &own, verdict, leaf,
+    )
 }
 
 /// What a leaf costs that keeps all other rules, and yet does not reach a cost.
@@ -54,10 +59,12 @@ fn below_cost(
     fixings: &[Fixing],
     decisions: &DecisionPath,
     trains: &[TrainKnowledge],
+    own: &OwnComponents,
     cost: u64,
     leaf: &Leaf,
 ) -> Result<Why, Memory>
     requires known { AreKnown (node_at problem.now fixings.now decisions.now) trains.now }
+    requires own { AreOwnOf problem.now own.now }
     requires routes { HasNoRoute (node_at problem.now fixings.now decisions.now) → ⊥ }
     requires not_shown { Shows (node_at problem.now fixings.now decisions.now) (Optimal cost)
         leaf.now → ⊥ }
@@ -68,7 +75,9 @@ fn below_cost(
 {
     let walks = component_walks(leaf);
     let listed = listed_trains(leaf);
-    match bound_of(alloc, problem, fixings, decisions, trains, walks, listed)? {
+    match bound_of(
+        alloc, problem, fixings, decisions, trains, own, walks, listed,
+    )? {
         Some(bound) => Ok(Why::BelowCost { bound, cost }),
         None => Ok(Why::WrongEnd),
     }
@@ -81,10 +90,12 @@ fn below_verdict(
     fixings: &[Fixing],
     decisions: &DecisionPath,
     trains: &[TrainKnowledge],
+    own: &OwnComponents,
     verdict: Verdict,
     leaf: &Leaf,
 ) -> Result<Why, Memory>
     requires known { AreKnown (node_at problem.now fixings.now decisions.now) trains.now }
+    requires own { AreOwnOf problem.now own.now }
     requires routes { HasNoRoute (node_at problem.now fixings.now decisions.now) → ⊥ }
     requires not_shown { Shows (node_at problem.now fixings.now decisions.now) verdict leaf.now
         → ⊥ }
@@ -94,7 +105,7 @@ fn below_verdict(
 {
     match verdict {
         Verdict::Optimal(cost) => {
-            below_cost(alloc, problem, fixings, decisions, trains, cost, leaf)
+            below_cost(alloc, problem, fixings, decisions, trains, own, cost, leaf)
         }
         Verdict::Infeasible => Ok(Why::NoVerdict),
     }
@@ -107,10 +118,12 @@ fn first_broken(
     fixings: &[Fixing],
     decisions: &DecisionPath,
     trains: &[TrainKnowledge],
+    own: &OwnComponents,
     verdict: Verdict,
     leaf: &Leaf,
 ) -> Result<Why, Memory>
     requires known { AreKnown (node_at problem.now fixings.now decisions.now) trains.now }
+    requires own { AreOwnOf problem.now own.now }
     requires routes { HasNoRoute (node_at problem.now fixings.now decisions.now) → ⊥ }
     requires not_shown { Shows (node_at problem.now fixings.now decisions.now) verdict leaf.now
         → ⊥ }
@@ -119,7 +132,9 @@ fn first_broken(
 {
     match first_rule(problem, fixings, decisions, trains, verdict, leaf) {
         Some(rule) => Ok(rule),
-        None => below_verdict(alloc, problem, fixings, decisions, trains, verdict, leaf),
+        None => below_verdict(
+            alloc, problem, fixings, decisions, trains, own, verdict, leaf,
+        ),
     }
 }
 
@@ -130,10 +145,12 @@ fn judge_leaf(
     fixings: &[Fixing],
     decisions: &DecisionPath,
     trains: &[TrainKnowledge],
+    own: &OwnComponents,
     verdict: Verdict,
     leaf: &Leaf,
 ) -> Result<Option<Why>, Memory>
-    requires { AreKnown (node_at problem.now fixings.now decisions.now) trains.now }
+    requires known { AreKnown (node_at problem.now fixings.now decisions.now) trains.now }
+    requires own { AreOwnOf problem.now own.now }
     ensures { IfOk result (λ found. MatchOption found
         (LeafHolds (node_at problem.now fixings.now decisions.now) verdict leaf.now)
         (IsRefusedFor (node_at problem.now fixings.now decisions.now) verdict (ALeaf leaf.now))) }
@@ -141,10 +158,14 @@ fn judge_leaf(
     if has_no_route(trains) {
         return Ok(None);
     }
-    if shows(alloc, problem, fixings, decisions, trains, verdict, leaf)? {
+    if shows(
+        alloc, problem, fixings, decisions, trains, own, verdict, leaf,
+    )? {
         return Ok(None);
     }
-    let why = first_broken(alloc, problem, fixings, decisions, trains, verdict, leaf)?;
+    let why = first_broken(
+        alloc, problem, fixings, decisions, trains, own, verdict, leaf,
+    )?;
     Ok(Some(why))
 }
 
@@ -172,10 +193,12 @@ pub(crate) fn judge(
     fixings: &[Fixing],
     decisions: &DecisionPath,
     trains: &[TrainKnowledge],
+    own: &OwnComponents,
     verdict: Verdict,
     top: &TreeNode,
 ) -> Result<Option<Why>, Memory>
-    requires { AreKnown (node_at problem.now fixings.now decisions.now) trains.now }
+    requires known { AreKnown (node_at problem.now fixings.now decisions.now) trains.now }
+    requires own { AreOwnOf problem.now own.now }
     ensures { IfOk result (λ found. MatchOption found
         (Holds (node_at problem.now fixings.now decisions.now) verdict top.now)
         (IsRefusedFor (node_at problem.now fixings.now decisions.now) verdict top.now)) }
@@ -183,7 +206,9 @@ pub(crate) fn judge(
     match top {
         TreeNode::Branch { choice, children } => Ok(judge_branch(problem, *choice, *children)),
         TreeNode::Leaf(leaf) => {
-            judge_leaf(alloc, problem, fixings, decisions, trains, verdict, leaf)
+            judge_leaf(
+                alloc, problem, fixings, decisions, trains, own, verdict, leaf,
+            )
         }
     }
 }

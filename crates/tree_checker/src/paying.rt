@@ -3,11 +3,11 @@ ghost use Rattle.disp_model.specs.Cost.{cost_at};
 ghost use Rattle.train_orders.specs.Orders.{IsOrder};
 ghost use Rattle.node_facts.specs.Costs.{capped};
 ghost use Rattle.node_facts.specs.Ways.{IsLeastOf, IsOnward, GoesOnward};
-ghost use Rattle.tree_checker.specs.TrainCosts.{asked, reach_by, price_of, ArePrices, IsCostBy, AreCosts};
+ghost use Rattle.tree_checker.specs.TrainCosts.{reach_by, price_of, ArePrices, IsCostBy, AreCosts};
 
 use crate::entering::{base_at, kept_at, lesser, reach_at};
-use crate::steps::may_go;
-use disp_model::{Component, Decision, Fixing, Memory, Operation, Problem};
+use disp_model::{Component, Memory, Operation};
+use node_facts::TrainKnowledge;
 use std::alloc::Global;
 
 /// What a component costs where its operation starts at a time, or the greatest number of 128 bits
@@ -82,19 +82,11 @@ fn prices_of(
 }
 
 /// What is left to pay from one of those operations on to which a route may go on.
-fn onward(
-    places: &[usize],
-    train: u32,
-    fixings: &[Fixing],
-    decisions: &[Decision],
-    costs: &[Option<u128>],
-    op: u32,
-    next: u32,
-) -> Option<u128>
-    ensures { (n : ℕ) → (result ≡ Some n) ↔ IsOnward places.now
-        (asked train fixings.now decisions.now) costs.now op next n }
+fn onward(known: &TrainKnowledge, costs: &[Option<u128>], op: u32, next: u32) -> Option<u128>
+    ensures { (n : ℕ) → (result ≡ Some n) ↔ IsOnward known.now.places.items
+        known.now.demands.items costs.now op next n }
 {
-    if may_go(places, train, fixings, decisions, op, Some(next)) {
+    if known.may_go(op, Some(next)) {
         kept_at(costs, next)
     } else {
         None
@@ -103,20 +95,17 @@ fn onward(
 
 /// What is left to pay at least behind an operation, over those to which a route may go on.
 fn least_onward(
-    places: &[usize],
-    train: u32,
-    fixings: &[Fixing],
-    decisions: &[Decision],
+    known: &TrainKnowledge,
     costs: &[Option<u128>],
     op: u32,
     nexts: &[u32],
 ) -> Option<u128>
-    ensures { IsLeastOf (GoesOnward places.now (asked train fixings.now decisions.now)
+    ensures { IsLeastOf (GoesOnward known.now.places.items known.now.demands.items
         costs.now op nexts.now) result }
 {
     let mut least = None;
     for next in nexts {
-        let other = onward(places, train, fixings, decisions, costs, op, *next);
+        let other = onward(known, costs, op, *next);
         least = lesser(least, other);
     }
     least
@@ -125,26 +114,23 @@ fn least_onward(
 /// What is left to pay at least from an operation on.
 fn cost_from(
     operation: &Operation,
-    places: &[usize],
-    train: u32,
-    fixings: &[Fixing],
-    decisions: &[Decision],
+    known: &TrainKnowledge,
     costs: &[Option<u128>],
     op: u32,
     price: u128,
 ) -> Option<u128>
-    ensures { IsCostBy operation.now places.now (asked train fixings.now decisions.now)
+    ensures { IsCostBy operation.now known.now.places.items known.now.demands.items
         costs.now op price result }
 {
     let nexts = operation.next.as_slice();
     if nexts.len() == 0 {
-        return if may_go(places, train, fixings, decisions, op, None) {
+        return if known.may_go(op, None) {
             Some(price)
         } else {
             None
         };
     }
-    match least_onward(places, train, fixings, decisions, costs, op, nexts) {
+    match least_onward(known, costs, op, nexts) {
         Some(behind) => Some(price.saturating_add(behind)),
         None => None,
     }
@@ -155,32 +141,20 @@ fn cost_from(
 fn costs_of(
     alloc: Global,
     operations: &[Operation],
-    order: &[u32],
-    places: &[usize],
+    known: &TrainKnowledge,
     prices: &[u128],
-    train: u32,
-    fixings: &[Fixing],
-    decisions: &[Decision],
 ) -> Result<Vec<Option<u128>>, Memory>
-    requires order { IsOrder operations.now order.now }
+    requires order { IsOrder operations.now known.now.order.items }
     ensures { IfOk result (λ costs. (price : ℕ → ℕ) → ArePrices operations.now price prices.now
-        → AreCosts operations.now places.now (asked train fixings.now decisions.now) price
+        → AreCosts operations.now known.now.places.items known.now.demands.items price
         costs.items) }
 {
+    let order = known.order();
     let mut costs = vec![in alloc; None; operations.len()]?;
     for number in order {
         let at = *number as usize;
         let price = base_at(prices, *number);
-        let cost = cost_from(
-            &operations[at],
-            places,
-            train,
-            fixings,
-            decisions,
-            &costs,
-            *number,
-            price,
-        );
+        let cost = cost_from(&operations[at], known, &costs, *number, price);
         costs[at] = cost;
     }
     Ok(costs)
@@ -191,23 +165,18 @@ pub(crate) fn costs_over(
     alloc: Global,
     components: &[Component],
     operations: &[Operation],
-    order: &[u32],
-    places: &[usize],
+    known: &TrainKnowledge,
+    train: u32,
     entered: &[Option<u128>],
     bases: &[u128],
-    train: u32,
-    fixings: &[Fixing],
-    decisions: &[Decision],
 ) -> Result<Vec<Option<u128>>, Memory>
-    requires { IsOrder operations.now order.now }
-    ensures { IfOk result (λ costs. AreCosts operations.now places.now
-        (asked train fixings.now decisions.now)
+    requires { IsOrder operations.now known.now.order.items }
+    ensures { IfOk result (λ costs. AreCosts operations.now known.now.places.items
+        known.now.demands.items
         (price_of components.now train (reach_by entered.now bases.now)) costs.items) }
 {
     let prices = prices_of(alloc, components, operations, train, entered, bases)?;
     let prices = prices.as_slice();
-    let costs = costs_of(
-        alloc, operations, order, places, prices, train, fixings, decisions,
-    )?;
+    let costs = costs_of(alloc, operations, known, prices)?;
     Ok(costs)
 }

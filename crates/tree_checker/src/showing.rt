@@ -2,8 +2,10 @@ ghost use Rattle.std.specs.Prelude.{◌↔◌, IfOk, IsTrue};
 ghost use Rattle.disp_model.specs.Node.{node_at};
 ghost use Rattle.disp_model.specs.Trees.{SharesEnough, ShareVerdict, Shows};
 ghost use Rattle.node_facts.specs.Orders.{AreKnown};
+ghost use Rattle.tree_checker.specs.Components.{AreOwnOf};
 
 use crate::bound::bound_of;
+use crate::components::OwnComponents;
 use crate::costs::reach_verdict;
 use crate::distinct::{have_distinct, have_distinct_trains};
 use crate::ends::are_of_others;
@@ -20,11 +22,13 @@ fn shares_enough(
     fixings: &[Fixing],
     decisions: &DecisionPath,
     trains: &[TrainKnowledge],
+    own: &OwnComponents,
     walks: &[ComponentWalk],
     listed: &[TrainWalks],
     cost: u64,
 ) -> Result<bool, Memory>
-    requires { AreKnown (node_at problem.now fixings.now decisions.now) trains.now }
+    requires known { AreKnown (node_at problem.now fixings.now decisions.now) trains.now }
+    requires own { AreOwnOf problem.now own.now }
     ensures { IfOk result (λ enough. IsTrue enough ↔ SharesEnough
         (node_at problem.now fixings.now decisions.now) walks.now listed.now cost) }
 {
@@ -37,7 +41,9 @@ fn shares_enough(
     if !are_of_others(problem, walks, listed) {
         return Ok(false);
     }
-    match bound_of(alloc, problem, fixings, decisions, trains, walks, listed)? {
+    match bound_of(
+        alloc, problem, fixings, decisions, trains, own, walks, listed,
+    )? {
         Some(bound) => Ok(u128::from(cost) <= bound),
         None => Ok(false),
     }
@@ -50,17 +56,19 @@ fn share_verdict(
     fixings: &[Fixing],
     decisions: &DecisionPath,
     trains: &[TrainKnowledge],
+    own: &OwnComponents,
     verdict: Verdict,
     walks: &[ComponentWalk],
     listed: &[TrainWalks],
 ) -> Result<bool, Memory>
-    requires { AreKnown (node_at problem.now fixings.now decisions.now) trains.now }
+    requires known { AreKnown (node_at problem.now fixings.now decisions.now) trains.now }
+    requires own { AreOwnOf problem.now own.now }
     ensures { IfOk result (λ shown. IsTrue shown ↔ ShareVerdict
         (node_at problem.now fixings.now decisions.now) verdict walks.now listed.now) }
 {
     match verdict {
         Verdict::Optimal(cost) => shares_enough(
-            alloc, problem, fixings, decisions, trains, walks, listed, cost,
+            alloc, problem, fixings, decisions, trains, own, walks, listed, cost,
         ),
         Verdict::Infeasible => Ok(false),
     }
@@ -73,10 +81,12 @@ pub(crate) fn shows(
     fixings: &[Fixing],
     decisions: &DecisionPath,
     trains: &[TrainKnowledge],
+    own: &OwnComponents,
     verdict: Verdict,
     leaf: &Leaf,
 ) -> Result<bool, Memory>
-    requires { AreKnown (node_at problem.now fixings.now decisions.now) trains.now }
+    requires known { AreKnown (node_at problem.now fixings.now decisions.now) trains.now }
+    requires own { AreOwnOf problem.now own.now }
     ensures { IfOk result (λ shown. IsTrue shown
         ↔ Shows (node_at problem.now fixings.now decisions.now) verdict leaf.now) }
 {
@@ -101,6 +111,7 @@ pub(crate) fn shows(
             fixings,
             decisions,
             trains,
+            own,
             verdict,
             walks.as_slice(),
             listed.as_slice(),

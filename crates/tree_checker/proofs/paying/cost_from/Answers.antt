@@ -1,7 +1,6 @@
-use Rattle.tree_checker.specs.TrainCosts.{asked}
 use Rattle.tree_checker.proofs.Paid.{cost_by_none}
 use Rattle.tree_checker.proofs.paying.cost_from.Goals as goal
 
 pub returns-in-None : goal.returns-in-None
 returns-in-None c =
-    cost_by_none c.args.operation.now c.args.places.now (asked c.args.train c.args.fixings.now c.args.decisions.now) c.args.costs.now c.args.op c.args.price c.as_slice-nexts.result.now c.as_slice-nexts.ensures c.if-nexts-eq0.false c.in-None.ensures
+    cost_by_none c.args.operation.now c.args.known.now.places.items c.args.known.now.demands.items c.args.costs.now c.args.op c.args.price c.as_slice-nexts.result.now c.as_slice-nexts.ensures c.if-nexts-eq0.false c.in-None.ensures

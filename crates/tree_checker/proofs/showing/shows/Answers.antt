@@ -12,7 +12,7 @@ use Rattle.tree_checker.proofs.showing.shows.Goals as goal
 pub returns-in-Cycle : goal.returns-in-Cycle
 returns-in-Cycle c =
     let node = node_at c.args.problem.now c.args.fixings.now c.args.decisions.now in
-    subst (λ (leaf : Leaf). IsTrue c.is_cycle.result ↔ Shows node c.args.verdict leaf) (sym c.in-Cycle.is) (subst (λ (l : List Op). IsTrue c.is_cycle.result ↔ IsCycle node l) c.as_slice.ensures (c.is_cycle.ensures c.args.fixings.now c.requires))
+    subst (λ (leaf : Leaf). IsTrue c.is_cycle.result ↔ Shows node c.args.verdict leaf) (sym c.in-Cycle.is) (subst (λ (l : List Op). IsTrue c.is_cycle.result ↔ IsCycle node l) c.as_slice.ensures (c.is_cycle.ensures c.args.fixings.now c.requires.known))
 
 pub returns-in-Shares : goal.returns-in-Shares
 returns-in-Shares c =

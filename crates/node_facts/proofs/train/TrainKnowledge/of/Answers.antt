@@ -53,4 +53,4 @@ returns c =
     subst (λ (l : List ℕ). AreOnEach operations l demands c.last_of-entry.result c.in_ok-needed.needed.items) c.deref-7.ensures.value
     (subst (λ (l : List Demand). AreOnEach operations c.deref-7.result.now l c.last_of-entry.result c.in_ok-needed.needed.items) c.deref-8.ensures.value c.in_ok-needed.ensures) in
     let asked = asks_about c.args.train c.args.fixings.now c.about.result.now c.args.decisions.now demands c.about.ensures c.in_ok-demands.ensures in
-    known_of problem c.args.fixings.now c.args.decisions.now c.args.train operations order _ e c.requires asked c.in_ok-order.ensures placed entry c.in_ok-sums.ensures.long sums needed
+    known_of problem c.args.fixings.now c.args.decisions.now c.args.train operations _ e c.requires asked c.in_ok-order.ensures placed entry c.in_ok-sums.ensures.long sums needed
