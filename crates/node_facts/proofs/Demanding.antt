@@ -1,5 +1,5 @@
 -- What the fixings and decisions of a train ask, one after another.
-use Rattle.std.proofs.Common.{◌≡◌, ℕ, ◌+◌, ◌<◌, ◌≤◌, List, [], ◌∷◌, ◌++◌, length, take, get_or, Option, Some, None, subst, inl, inr, cond, refl, ap, sym, suc, arith, Bool, true, false}
+use Rattle.std.proofs.Common.{◌≡◌, ℕ, ◌+◌, ◌<◌, ◌≤◌, List, [], ◌∷◌, ◌++◌, length, take, get_or, Option, Some, None, subst, inl, inr, cond, refl, ap, sym, suc, arith, Bool, false}
 use Rattle.std.specs.Prelude.{nat_eq, ◌↔◌, Contains, All}
 use Rattle.std.proofs.lemmas.Bool.{cases_Bool, eqb-true, eqb-false}
 use Rattle.std.proofs.lemmas.List.{take_more, take_all}

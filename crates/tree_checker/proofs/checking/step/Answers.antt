@@ -1,7 +1,4 @@
-use Rattle.std.proofs.Common.{List, length, sym, subst, ap, ◌∙◌}
-use Rattle.disp_model.specs.declared.decision.Decision.{Decision}
-use Rattle.disp_model.specs.Node.{node_at}
-use Rattle.tree_checker.specs.Rules.{Holds}
+use Rattle.std.proofs.Common.{◌∙◌}
 use Rattle.tree_checker.proofs.Descending.{none_of, stepped}
 use Rattle.tree_checker.proofs.checking.step.Goals as goal
 
