@@ -23,6 +23,7 @@ use Rattle.node_facts.specs.declared.train.TrainKnowledge.{TrainKnowledge}
 use Rattle.node_facts.specs.Demands.{AreDemands}
 use Rattle.node_facts.specs.Ways.{AreSums, last_of}
 use Rattle.route_marks.specs.Marks.{ArePlaces}
+use Rattle.node_facts.specs.Holders.{AreHolders}
 use Rattle.node_facts.specs.Known.{AreOnEach, IsKnown}
 
 pub train_read : (trains items : List (List Operation)) (t : ℕ) (found operations : List Operation) → items ≡ trains → found ≡ get_or items t found → operations ≡ found → t < length trains → get_or trains t [] ≡ operations
@@ -60,8 +61,9 @@ order_fits problem t operations order items e there is same =
 pub known_of : (problem : Problem) (fixings : List Fixing) (decisions : List Decision) (t : ℕ) (operations : List Operation) (known : TrainKnowledge) → train_at problem t ≡ operations → t < length problem.trains
     → AreDemands t fixings decisions known.demands.items → IsOrder operations known.order.items → ArePlaces operations known.order.items known.places.items → known.entry ≡ last_of known.order.items
     → length known.sums.items ≡ length operations → AreSums operations known.places.items known.demands.items known.sums.items → AreOnEach operations known.places.items known.demands.items known.entry known.needed.items
+    → AreHolders operations known.places.items known.demands.items known.sums.items known.needed.items known.holders.items
     → IsKnown (node_at problem fixings decisions) t known
-known_of problem fixings decisions t operations known e there demands ordered placed entry long sums needed = record {
+known_of problem fixings decisions t operations known e there demands ordered placed entry long sums needed held = record {
   there = there;
   order_is = subst (λ (l : List Operation). IsOrder l known.order.items) (sym e) ordered;
   places_are = subst (λ (l : List Operation). ArePlaces l known.order.items known.places.items) (sym e) placed;
@@ -70,6 +72,7 @@ known_of problem fixings decisions t operations known e there demands ordered pl
   sums_long = long ∙ sym (ap (λ (l : List Operation). length l) e);
   sums_are = subst (λ (l : List Operation). AreSums l known.places.items known.demands.items known.sums.items) (sym e) sums;
   needed_are = subst (λ (l : List Operation). AreOnEach l known.places.items known.demands.items known.entry known.needed.items) (sym e) needed;
+  holders_are = subst (λ (l : List Operation). AreHolders l known.places.items known.demands.items known.sums.items known.needed.items known.holders.items) (sym e) held;
 }
   where
     order : List ℕ

@@ -11,3 +11,4 @@ pub mod Lengths
 pub mod Closing
 pub mod Pricing
 pub mod Marking
+pub mod Holding

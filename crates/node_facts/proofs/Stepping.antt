@@ -1,10 +1,10 @@
 -- What allowed routes go on to from a forced operation.
-use Rattle.std.proofs.Common.{◌≡◌, ℕ, ◌<◌, ◌⊎◌, List, [], ◌∷◌, ◌++◌, length, Option, Some, None, true, false, refl, sym, ap, subst, ◌∙◌, inl, inr}
-use Rattle.std.specs.Prelude.{nat_eq, Contains, IsSome, IsTrue, ◌↔◌}
-use Rattle.std.proofs.lemmas.Bool.{cases_Bool, eqb-true, eq-eqb, false≢true}
+use Rattle.std.proofs.Common.{◌≡◌, ℕ, ◌<◌, ◌⊎◌, List, [], ◌∷◌, ◌++◌, length, Some, true, false, refl, sym, ap, subst, ◌∙◌, inl, inr}
+use Rattle.std.specs.Prelude.{nat_eq, Contains, IsSome, ◌↔◌}
+use Rattle.std.proofs.lemmas.Bool.{cases_Bool, eqb-true, eq-eqb}
 use Rattle.std.proofs.lemmas.Option.{none-some, same_Some}
 use Rattle.disp_model.specs.declared.train.Operation.{Operation}
-use Rattle.disp_model.specs.Train.{IsSuccessor, next_of, GoesOn}
+use Rattle.disp_model.specs.Train.{next_of, GoesOn}
 use Rattle.disp_model.specs.WellFormed.{IsAcyclic}
 use Rattle.disp_model.specs.Fixing.{after}
 use Rattle.disp_model.specs.Valid.{train_at}
@@ -18,7 +18,8 @@ use Rattle.train_orders.proofs.Places.{contains_none}
 use Rattle.node_facts.specs.declared.demands.Demand.{Demand}
 use Rattle.node_facts.specs.declared.train.TrainKnowledge.{TrainKnowledge}
 use Rattle.node_facts.specs.Ways.{IsWay, way_sum, HasSum, sum_at}
-use Rattle.node_facts.specs.Known.{op_of, IsKnown, IsStep, IsOnlyStep, IsHolder}
+use Rattle.node_facts.specs.Live.{IsLive, IsOnlyStep}
+use Rattle.node_facts.specs.Known.{op_of, IsKnown, IsHolder}
 use Rattle.node_facts.proofs.Allowing.{allowed_is_way, way_is_allowed}
 use Rattle.node_facts.proofs.Knowing.{some_has, asked}
 
@@ -94,7 +95,7 @@ leads_on : (node : Node) (t s : ℕ) (known : TrainKnowledge) → IsKnown node t
 leads_on node t s known is = some_has (HasSum (train_at node.problem t) known.places.items known.demands.items s) (sum_at known.sums.items s) (is.sums_are s)
 
 -- what each allowed route goes on to is the only step
-pub goes_step : (node : Node) (t a n : ℕ) (known : TrainKnowledge) → IsKnown node t known → IsForced node (op_of t a) → GoesTo node (op_of t a) (op_of t n) → IsOnlyStep known a (next_of (train_at node.problem t) a) n
+pub goes_step : (node : Node) (t a n : ℕ) (known : TrainKnowledge) → IsKnown node t known → IsForced node (op_of t a) → GoesTo node (op_of t a) (op_of t n) → IsOnlyStep known.places.items known.demands.items known.sums.items a (next_of (train_at node.problem t) a) n
 goes_step node t a n known is forced goes = by at.back at.way (goes.1 route.0 route.1) (ap (λ (l : List ℕ). after a l) at.split ∙ after_at node t a at.front at.back is.there (subst (IsAllowed node t) at.split route.1))
   where
     train : List Operation
@@ -106,24 +107,24 @@ goes_step node t a n known is forced goes = by at.back at.way (goes.1 route.0 ro
     at : Passing node t a known route.0
     at = passing node t a known route.0 is route.1 (forced.each_has route.0 route.1)
 
-    alone : (q : ℕ) → Contains (next_of train a) q → IsStep known a q → q ≡ n
+    alone : (q : ℕ) → Contains (next_of train a) q → IsLive known.places.items known.demands.items known.sums.items a q → q ≡ n
     alone q next step =
         let onward = (leads_on node t q known is).0 step.leads in
         let joined = at.join (q ∷ onward.1.rest) (next, step.may, onward.1.way) in
         same_Some q n (sym (after_at node t a at.front (q ∷ onward.1.rest) is.there joined ∙ after_first a q onward.1.rest) ∙ goes.1 (at.front ++ a ∷ q ∷ onward.1.rest) joined)
 
-    by : (back : List ℕ) → IsWay train known.places.items known.demands.items a back → after a route.0 ≡ Some n → after a route.0 ≡ after a (a ∷ back) → IsOnlyStep known a (next_of train a) n
+    by : (back : List ℕ) → IsWay train known.places.items known.demands.items a back → after a route.0 ≡ Some n → after a route.0 ≡ after a (a ∷ back) → IsOnlyStep known.places.items known.demands.items known.sums.items a (next_of train a) n
     by [] way goes after_is = absurd (none-some n (sym after_is ∙ goes))
     by (q ∷ back) way goes after_is =
         let same : q ≡ n = same_Some q n (sym (after_is ∙ after_first a q back) ∙ goes) in
-        subst (λ (x : ℕ). IsOnlyStep known a (next_of train a) x) same (record {
+        subst (λ (x : ℕ). IsOnlyStep known.places.items known.demands.items known.sums.items a (next_of train a) x) same (record {
           there = way.0;
           step = record { may = way.1; leads = (leads_on node t q known is).1 (way_sum train q back, record { rest = back; way = way.2; sum_is = refl }) };
           alone = λ p next step. alone p next step ∙ sym same;
         })
 
 -- the only step is what each allowed route goes on to
-pub step_goes : (node : Node) (t a n : ℕ) (known : TrainKnowledge) → IsKnown node t known → IsForced node (op_of t a) → IsOnlyStep known a (next_of (train_at node.problem t) a) n → GoesTo node (op_of t a) (op_of t n)
+pub step_goes : (node : Node) (t a n : ℕ) (known : TrainKnowledge) → IsKnown node t known → IsForced node (op_of t a) → IsOnlyStep known.places.items known.demands.items known.sums.items a (next_of (train_at node.problem t) a) n → GoesTo node (op_of t a) (op_of t n)
 step_goes node t a n known is forced only = (refl, λ route allowed. on route allowed (passing node t a known route is allowed (forced.each_has route allowed)))
   where
     train : List Operation
@@ -138,30 +139,7 @@ step_goes node t a n known is forced only = (refl, λ route allowed. on route al
             let same : q ≡ n = only.alone q way.0 (record { may = way.1; leads = (leads_on node t q known is).1 (way_sum train q back, record { rest = back; way = way.2; sum_is = refl }) }) in
             after_is ∙ after_first a q back ∙ ap (λ (x : ℕ). Some x) same
 
--- what the test of a forced operation and its only step answer
-pub next_is : (node : Node) (t a : ℕ) (known : TrainKnowledge) (nexts : List ℕ) (found : Option ℕ) → IsKnown node t known → IsForced node (op_of t a) → nexts ≡ next_of (train_at node.problem t) a
-    → ((s : ℕ) → (found ≡ Some s) ↔ IsOnlyStep known a nexts s) → (s : ℕ) → (found ≡ Some s) ↔ (IsForced node (op_of t a) × GoesTo node (op_of t a) (op_of t s))
-next_is node t a known nexts found is forced same says s = (
-  λ e. (forced, step_goes node t a s known is forced (subst (λ (l : List ℕ). IsOnlyStep known a l s) same ((says s).0 e))),
-  λ h. (says s).1 (subst (λ (l : List ℕ). IsOnlyStep known a l s) (sym same) (goes_step node t a s known is forced h.1)),
-)
-
-pub next_none : (node : Node) (t a : ℕ) → (IsForced node (op_of t a) → ⊥) → (s : ℕ) → (◌≡◌ {A = Option ℕ} None (Some s)) ↔ (IsForced node (op_of t a) × GoesTo node (op_of t a) (op_of t s))
-next_none node t a not s = (λ e. absurd (none-some s e), λ h. absurd (not h.0))
-
 -- ---- holders
-
-pub goes_some : (node : Node) (t o h s : ℕ) (found : Option ℕ) → found ≡ Some s → ((n : ℕ) → (found ≡ Some n) ↔ (IsForced node (op_of t h) × GoesTo node (op_of t h) (op_of t n))) → IsTrue (nat_eq s o) ↔ IsHolder node t o h
-goes_some node t o h s found is says = (
-  λ true. let both = (says o).0 (is ∙ ap (λ (x : ℕ). Some x) (eqb-true s o true)) in record { forced = both.0; goes = both.1 },
-  λ holder. eq-eqb s o (same_Some s o (sym is ∙ (says o).1 (holder.forced, holder.goes))),
-)
-
-pub not_next : (node : Node) (t o h : ℕ) (known : TrainKnowledge) → IsKnown node t known → (IsSuccessor (train_at node.problem t) h o → ⊥) → IsTrue false ↔ IsHolder node t o h
-not_next node t o h known is not = (λ yes. absurd (false≢true yes), λ holder. absurd (not (goes_step node t h o known is holder.forced holder.goes).there))
-
-pub goes_none : (node : Node) (t o h : ℕ) (found : Option ℕ) → found ≡ None → ((n : ℕ) → (found ≡ Some n) ↔ (IsForced node (op_of t h) × GoesTo node (op_of t h) (op_of t n))) → IsTrue false ↔ IsHolder node t o h
-goes_none node t o h found is says = (λ e. absurd (false≢true e), λ holder. absurd (none-some o (sym is ∙ (says o).1 (holder.forced, holder.goes))))
 
 -- what stands before an operation on a route is one
 before_one : (a b o p : ℕ) (rest : List ℕ) → (train : List Operation) → IsAcyclic train → GoesOn train p rest → after a (p ∷ rest) ≡ Some o → after b (p ∷ rest) ≡ Some o → a ≡ b

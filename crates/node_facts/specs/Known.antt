@@ -1,5 +1,5 @@
 -- What is known of the allowed routes of a train.
-use Rattle.std.specs.Prelude.{◌≡◌, ◌↔◌, ℕ, ◌<◌, List, ◌∷◌, length, Contains, Some, false, slice_index, slice_index_or, IsTrue, IsSome, Bool}
+use Rattle.std.specs.Prelude.{◌≡◌, ◌↔◌, ℕ, ◌<◌, List, ◌∷◌, length, Contains, false, slice_index, slice_index_or, IsTrue, Bool}
 use Rattle.disp_model.specs.declared.train.Op.{Op}
 use Rattle.disp_model.specs.declared.train.Operation.{Operation}
 use Rattle.disp_model.specs.Train.{IsEntry}
@@ -11,7 +11,8 @@ use Rattle.train_orders.specs.Orders.{IsOrder}
 use Rattle.node_facts.specs.declared.demands.Demand.{Demand}
 use Rattle.node_facts.specs.declared.train.TrainKnowledge.{TrainKnowledge}
 use Rattle.node_facts.specs.Demands.{AreDemands}
-use Rattle.node_facts.specs.Ways.{MayGo, IsWay, sum_at, AreSums}
+use Rattle.node_facts.specs.Ways.{IsWay, AreSums}
+use Rattle.node_facts.specs.Holders.{AreHolders}
 use Rattle.route_marks.specs.Marks.{ArePlaces}
 
 -- an operation of a train
@@ -36,17 +37,7 @@ pub record IsKnown (node : Node) (t : ℕ) (known : TrainKnowledge) : Type 0 whe
   pub sums_long : length known.sums.items ≡ length (train_at node.problem t)
   pub sums_are : AreSums (train_at node.problem t) known.places.items known.demands.items known.sums.items
   pub needed_are : AreOnEach (train_at node.problem t) known.places.items known.demands.items known.entry known.needed.items
-
--- an allowed way may go on from an operation to one
-pub record IsStep (known : TrainKnowledge) (o s : ℕ) : Type 0 where
-  pub may : MayGo known.places.items known.demands.items o (Some s)
-  pub leads : IsSome (sum_at known.sums.items s)
-
--- the one of these operations that an allowed way may go on to
-pub record IsOnlyStep (known : TrainKnowledge) (o : ℕ) (nexts : List ℕ) (s : ℕ) : Type 0 where
-  pub there : Contains nexts s
-  pub step : IsStep known o s
-  pub alone : (q : ℕ) → Contains nexts q → IsStep known o q → q ≡ s
+  pub holders_are : AreHolders (train_at node.problem t) known.places.items known.demands.items known.sums.items known.needed.items known.holders.items
 
 -- the forced operation from which each allowed route goes on to another
 pub record IsHolder (node : Node) (t o h : ℕ) : Type 0 where

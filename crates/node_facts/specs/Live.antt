@@ -10,6 +10,12 @@ pub record IsLive (places : List ℕ) (demands : List Demand) (sums : List (Opti
   pub may : MayGo places demands o (Some s)
   pub leads : IsSome (sum_at sums s)
 
+-- the one of these operations to which an allowed way may go on
+pub record IsOnlyStep (places : List ℕ) (demands : List Demand) (sums : List (Option ℕ)) (o : ℕ) (nexts : List ℕ) (s : ℕ) : Type 0 where
+  pub there : Contains nexts s
+  pub step : IsLive places demands sums o s
+  pub alone : (q : ℕ) → Contains nexts q → IsLive places demands sums o q → q ≡ s
+
 -- the rows of the first operations of an order: their successors to which a way may go on
 pub record AreRowsTo (count : ℕ) (train : List Operation) (order places : List ℕ) (demands : List Demand) (sums : List (Option ℕ)) (rows : List (List ℕ)) : Type 0 where
   pub long : length rows ≡ count

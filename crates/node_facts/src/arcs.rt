@@ -51,7 +51,7 @@ fn release_arc(
         → (n : ℕ) → (result ≡ Some n)
         ↔ IsReleaseArc (node_at problem.now fixings decisions.now) next b n }
 {
-    match known.holder(train_of(problem, next.train), next.op) {
+    match known.holder(next.op) {
         Some(op) => {
             let holder = Op {
                 train: next.train,

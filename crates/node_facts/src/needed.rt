@@ -24,7 +24,13 @@ pub(crate) fn is_marked(marks: &[bool], op: u32) -> bool
 }
 
 /// Whether a route may go on from an operation to another, which has a way.
-fn is_live(places: &[usize], demands: &[Demand], sums: &[Option<u64>], op: u32, next: u32) -> bool
+pub(crate) fn is_live(
+    places: &[usize],
+    demands: &[Demand],
+    sums: &[Option<u64>],
+    op: u32,
+    next: u32,
+) -> bool
     ensures { IsTrue result ↔ IsLive places.now demands.now sums.now op next }
 {
     may_go(places, demands, op, Some(next)) && has_way(sums, next)

@@ -1,6 +1,6 @@
-ghost use Rattle.std.specs.Prelude.{◌≡◌, ◌↔◌, [], IsTrue, slice_get};
+ghost use Rattle.std.specs.Prelude.{◌≡◌, [], slice_get};
 ghost use Rattle.std.specs.Option.{option_map_or};
-ghost use Rattle.disp_model.specs.Train.{next_of, duration_of, IsSuccessor};
+ghost use Rattle.disp_model.specs.Train.{next_of, duration_of};
 ghost use Rattle.disp_model.specs.Valid.{train_at};
 
 use disp_model::{Listing, Operation, Problem};
@@ -23,13 +23,6 @@ pub fn nexts_of(train: &[Operation], op: u32) -> &[u32]
         Some(operation) => operation.next.as_slice(),
         None => &[],
     }
-}
-
-/// Whether an operation is a successor of another.
-pub(crate) fn comes_next(train: &[Operation], op: u32, next: u32) -> bool
-    ensures { IsTrue result ↔ IsSuccessor train.now op next }
-{
-    nexts_of(train, op).contains(&next)
 }
 
 /// What an operation lists.

@@ -1,16 +1,15 @@
-ghost use Rattle.std.specs.Prelude.{◌≡◌, ◌↔◌, ◌<◌, ◌^◌, ℕ, All, IfOk, IfSome, IsTrue, Some, length, unwrap_or, MatchOption, Contains};
+ghost use Rattle.std.specs.Prelude.{◌≡◌, ◌↔◌, ◌<◌, ◌^◌, ℕ, All, IfOk, IfSome, IsTrue, Some, length, unwrap_or, MatchOption};
 ghost use Rattle.disp_model.specs.Node.{Node, node_at};
 ghost use Rattle.disp_model.specs.Routes.{HasRoute, IsForced};
-ghost use Rattle.disp_model.specs.Arcs.{IsTrainArc, GoesTo};
-ghost use Rattle.disp_model.specs.Valid.{train_at};
+ghost use Rattle.disp_model.specs.Arcs.{IsTrainArc};
 ghost use Rattle.node_facts.specs.Ways.{last_of, sum_at, MayGo};
 
 use crate::demands::{Demand, demands_of, may_go, place_at};
+use crate::holders::{holder_at, holders_of};
 use crate::needed::{is_marked, needed_of};
-use crate::reading::{comes_next, nexts_of, train_of};
 use crate::sums::{has_way, sum_at, sums_of};
 use decision_paths::DecisionPath;
-use disp_model::{Fixing, Memory, Operation, Problem};
+use disp_model::{Fixing, Memory, Problem};
 use route_marks::places_of;
 use std::alloc::Global;
 use train_orders::order_of;
@@ -30,6 +29,8 @@ pub struct TrainKnowledge {
     needed: Vec<bool>,
     /// The operation that each route begins with.
     entry: u32,
+    /// Of each operation the one that each allowed route has and from which each goes on to it.
+    holders: Vec<Option<u32>>,
 }
 
 /// The last operation of an order.
@@ -43,7 +44,7 @@ fn last_of(order: &[u32]) -> u32
 }
 
 impl TrainKnowledge {
-    ghost use Rattle.node_facts.specs.Known.{op_of, IsKnown, IsStep, IsOnlyStep, IsHolder, IsNearer};
+    ghost use Rattle.node_facts.specs.Known.{op_of, IsKnown, IsHolder, IsNearer};
 
     /// What is known of the routes of a train that the fixings and the decisions allow.
     pub fn of(
@@ -64,6 +65,7 @@ impl TrainKnowledge {
         let entry = last_of(&order);
         let sums = sums_of(alloc, operations, &order, &places, &demands)?;
         let needed = needed_of(alloc, operations, &order, &places, &demands, &sums, entry)?;
+        let holders = holders_of(alloc, operations, &places, &demands, &sums, &needed)?;
         Ok(TrainKnowledge {
             order,
             places,
@@ -71,6 +73,7 @@ impl TrainKnowledge {
             sums,
             needed,
             entry,
+            holders,
         })
     }
 
@@ -111,81 +114,16 @@ impl TrainKnowledge {
         self.is_left() && is_marked(&self.needed, op)
     }
 
-    /// Whether an allowed route may go on from an operation to one of those that come next.
-    fn is_step(&self, op: u32, next: u32) -> bool
-        ensures { IsTrue result ↔ IsStep self.now op next }
-    {
-        may_go(&self.places, &self.demands, op, Some(next)) && has_way(&self.sums, next)
-    }
-
-    /// The first operation that an allowed route may go on to from another.
-    fn first_step(&self, op: u32, nexts: &[u32]) -> Option<u32>
-        ensures { MatchOption result ((s : ℕ) → Contains nexts.now s → IsStep self.now op s → ⊥)
-            (λ s. Contains nexts.now s × IsStep self.now op s) }
-    {
-        for next in nexts {
-            if self.is_step(op, *next) {
-                return Some(*next);
-            }
-        }
-        None
-    }
-
-    /// The only operation of those that come next that an allowed route may go on to.
-    fn only_step(&self, op: u32, nexts: &[u32]) -> Option<u32>
-        ensures { (s : ℕ) → (result ≡ Some s) ↔ IsOnlyStep self.now op nexts.now s }
-    {
-        let first = self.first_step(op, nexts)?;
-        if nexts
-            .iter()
-            .all(|next| *next == first || !self.is_step(op, *next))
-        {
-            Some(first)
-        } else {
-            None
-        }
-    }
-
-    /// The operation that each allowed route goes on to from a forced one of the train.
-    pub fn only_next(&self, train: &[Operation], op: u32) -> Option<u32>
-        ensures { (node : Node) (t : ℕ) → IsKnown node t self.now
-            → train_at node.problem t ≡ train.now → (s : ℕ) → (result ≡ Some s)
-            ↔ (IsForced node (op_of t op) × GoesTo node (op_of t op) (op_of t s)) }
-    {
-        if self.is_forced(op) {
-            self.only_step(op, nexts_of(train, op))
-        } else {
-            None
-        }
-    }
-
-    /// Whether an operation is forced, and each allowed route goes on from it to another.
-    fn goes_to(&self, train: &[Operation], op: u32, next: u32) -> bool
-        ensures { (node : Node) (t : ℕ) → IsKnown node t self.now
-            → train_at node.problem t ≡ train.now → IsTrue result ↔ IsHolder node t next op }
-    {
-        if !comes_next(train, op, next) {
-            return false;
-        }
-        match self.only_next(train, op) {
-            Some(found) => found == next,
-            None => false,
-        }
-    }
-
     /// The forced operation from which each allowed route goes on to another.
-    pub fn holder(&self, train: &[Operation], op: u32) -> Option<u32>
-        requires { length train.now < 2 ^ 32 }
+    pub fn holder(&self, op: u32) -> Option<u32>
         ensures { (node : Node) (t : ℕ) → IsKnown node t self.now
-            → train_at node.problem t ≡ train.now
             → MatchOption result ((h : ℕ) → IsHolder node t op h → ⊥) (IsHolder node t op) }
     {
-        for before in 0..train.len() {
-            if self.goes_to(train, before as u32, op) {
-                return Some(before as u32);
-            }
+        if self.is_left() {
+            holder_at(&self.holders, op)
+        } else {
+            None
         }
-        None
     }
 
     /// Whether two operations are forced, the second nearer to the exit.

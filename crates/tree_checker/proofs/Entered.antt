@@ -240,18 +240,3 @@ left_all train order places demands bases e i entered ordered placed past before
   there = before.there;
   least = λ o n rest comes. entered_in_time train order places demands bases e i entered ordered placed before o n rest (omega (arith, past)) comes;
 }
-
--- what comes next is within the train
-pub inside_next : (train : List Operation) (o s : ℕ) → IsInside train → IsSuccessor train o s → s < length train
-inside_next train o s inside next = by (slice_get train o) refl next
-  where
-    by : (found : Option Operation) → slice_get train o ≡ found → Contains (option_map_or (λ p. p.next) found []) s → s < length train
-    by None at next = absurd (contains_none s next)
-    by (Some p) at next =
-        let lt = slice_get_within train o p at in
-        let same : get_or train o p ≡ p = get_or_from_slice_get train o p p at in
-        let each = subst (λ (q : Operation). All (λ (x : ℕ). x < length train) q.next) same (inside o p lt) in
-        let place = at_contains p.next s next in
-        let within = each place.0 0 (slice_get_within p.next place.0 s place.1) in
-        let found : get_or p.next place.0 0 ≡ s = get_or_from_slice_get p.next place.0 s 0 place.1 in
-        omega (arith, within, found)

@@ -50,6 +50,7 @@ carried problem fixings path place changed t known covers other is = record {
   sums_long = is.sums_long;
   sums_are = is.sums_are;
   needed_are = is.needed_are;
+  holders_are = is.holders_are;
 }
   where
     parts : All (λ decision. Covers decision changed) (drop place.depth path) × All (λ decision. Covers decision changed) (last_decision place.decision)

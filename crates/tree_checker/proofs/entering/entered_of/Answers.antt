@@ -1,7 +1,8 @@
 use Rattle.std.proofs.Common.{rules, ◌≡◌, ℕ, List, replicate, Some, None, ◌-◌, length, get_or, ap, subst, arith}
 use Rattle.std.specs.Prelude.{slice_get}
 use Rattle.std.proofs.lemmas.Option.{slice_get-get_or}
-use Rattle.tree_checker.proofs.Entered.{none_left, left_more, left_all, inside_next}
+use Rattle.node_facts.proofs.Holding.{inside_next}
+use Rattle.tree_checker.proofs.Entered.{none_left, left_more, left_all}
 use Rattle.tree_checker.proofs.entering.entered_of.Goals as goal
 
 pub loop-step-init : goal.loop-step-init
