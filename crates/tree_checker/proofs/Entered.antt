@@ -1,16 +1,15 @@
 -- When operations are entered, one operation left after another.
 use Rattle.std.proofs.Common.{◌≡◌, ℕ, zero, suc, ◌+◌, ◌-◌, ◌*◌, ◌^◌, ◌<◌, ◌≤◌, ◌⊎◌, List, [], ◌∷◌, ◌++◌, length, take, get_or, set, replicate, Option, Some, None, refl, sym, ap, subst, ◌∙◌, inl, inr, arith}
-use Rattle.std.specs.Prelude.{slice_get, slice_index, Contains, All, max, min, MatchOption}
-use Rattle.std.specs.Option.{option_map_or}
+use Rattle.std.specs.Prelude.{slice_get, slice_index, Contains, max, min, MatchOption}
 use Rattle.std.proofs.lemmas.Bool.{cases_lt}
-use Rattle.std.proofs.lemmas.Option.{none-some, same_Some, slice_get_within, get_or_from_slice_get}
+use Rattle.std.proofs.lemmas.Option.{none-some, same_Some}
 use Rattle.std.proofs.lemmas.List.{length-set, take_more, take_all, get_or-set_same, get_or-set_other, get_or_past, length-replicate}
 use Rattle.std.proofs.lemmas.List.Elements.{Contains-append_left, Contains-push, Contains-push_cases}
 use Rattle.disp_model.specs.declared.train.Operation.{Operation}
 use Rattle.disp_model.specs.Train.{next_of, duration_of, IsSuccessor}
 use Rattle.disp_laws.proofs.RouteSearch.{within_train}
-use Rattle.train_orders.specs.Orders.{IsInside, IsOrder}
-use Rattle.train_orders.proofs.Places.{at_contains, contains_at, contains_none, same_number}
+use Rattle.train_orders.specs.Orders.{IsOrder}
+use Rattle.train_orders.proofs.Places.{contains_at, contains_none, same_number}
 use Rattle.train_orders.proofs.Ordered.{contains_cases}
 use Rattle.node_facts.specs.declared.demands.Demand.{Demand}
 use Rattle.node_facts.specs.Ways.{MayGo, lesser, sum_at}

@@ -47,9 +47,7 @@ pub fn check_leaf(
         return Ok(true);
     }
     let own = OwnComponents::of(alloc, problem)?;
-    shows(
-        alloc, problem, fixings, &path, &trains, &own, verdict, leaf,
-    )
+    shows(alloc, problem, fixings, &path, &trains, &own, verdict, leaf)
 }
 
 /// What a leaf costs that keeps all other rules, and yet does not reach a cost.
