@@ -1,4 +1,5 @@
 mod dives;
 mod leaves;
+mod script;
 mod searches;
 mod steps;
