@@ -15,8 +15,13 @@ pub(crate) fn lasting(
 ) -> Result<Operation, Memory>
     ensures { IfOk result
         (λ o. o
-        ≡ record { lower = 0; upper = upper; min = min; listings = listings.now;
-        next = next.now }) }
+        ≡ record {
+          lower = 0;
+          upper = upper;
+          min = min;
+          listings = listings.now;
+          next = next.now;
+        }) }
 {
     Ok(Operation {
         lower: 0,
