@@ -32,8 +32,8 @@ use Rattle.tree_checker.specs.declared.why.Why.TheVariants.{
   NoVerdict,
   BelowCost,
 }
-use Rattle.tree_checker.specs.Checks.{places_behind, StopsAt, IsChecked}
-use Rattle.tree_checker.specs.Rules.{rank, rule_at, component_walks, listed_trains, IsBelow, BreaksNode, IsFirstBroken}
+use Rattle.tree_checker.specs.Checks.{places_behind, StopsAtNode, IsChecked}
+use Rattle.tree_checker.specs.Rules.{rank_of_why, rule_at, component_walks, listed_trains, CostsBelow, BreaksNode, IsFirstBrokenWhy}
 use Rattle.tree_checker.proofs.Enough.{walks_cost_once, shares_cost_once}
 use Rattle.text_puts.specs.Outside.{Holdings}
 use Rattle.command_words.specs.declared.task.Task.TheVariants.{Check}
@@ -59,7 +59,7 @@ use Rattle.answer_laws.proofs.Taken.{TellsGiven, one_number}
 -- ---- the first rule that is broken
 
 -- a rule whose place is below 13 is the rule of its place
-at_rank : (why : Why) → rank why < 13 → why ≡ rule_at (rank why)
+at_rank : (why : Why) → rank_of_why why < 13 → why ≡ rule_at (rank_of_why why)
 at_rank BadName lt = refl
 at_rank BadChoice lt = refl
 at_rank HasRoute lt = refl
@@ -81,13 +81,13 @@ record SpeaksOfCosts (why : Why) : Type 0 where
   cost : ℕ
   is : why ≡ BelowCost bound cost
 
-past_ranks : (why : Why) → 13 ≤ rank why → SpeaksOfCosts why
+past_ranks : (why : Why) → 13 ≤ rank_of_why why → SpeaksOfCosts why
 past_ranks (BelowCost bound cost) le = record { bound = bound; cost = cost; is = refl }
 past_ranks why le = absurd (omega (arith, le))
 
 module _ (node : Node) (verdict : Verdict) where
-  below_once : (leaf : TreeLeaf) (bound cost other paid : ℕ) → IsBelow node verdict leaf bound cost
-      → IsBelow node verdict leaf other paid → BelowCost bound cost ≡ BelowCost other paid
+  below_once : (leaf : TreeLeaf) (bound cost other paid : ℕ) → CostsBelow node verdict leaf bound cost
+      → CostsBelow node verdict leaf other paid → BelowCost bound cost ≡ BelowCost other paid
   below_once leaf bound cost other paid a b =
       let walks = walks_cost_once node (component_walks leaf) a.sum b.sum a.sum_is b.sum_is in
       let shares = shares_cost_once node (listed_trains leaf) a.shares b.shares a.shares_is
@@ -107,9 +107,9 @@ module _ (node : Node) (verdict : Verdict) where
   costs_once (Leaf leaf) bound cost other paid a b =
       let one = a.1 in let two = b.1 in below_once leaf bound cost other paid one.1 two.1
 
-  same_rank : (top : TreeNode) (why other : Why) → rank why ≡ rank other
+  same_rank : (top : TreeNode) (why other : Why) → rank_of_why why ≡ rank_of_why other
       → BreaksNode node verdict top why → BreaksNode node verdict top other → why ≡ other
-  same_rank top why other same a b = elim (cases_lt (rank why) 13) [
+  same_rank top why other same a b = elim (cases_lt (rank_of_why why) 13) [
     | inl lt ↦ at_rank why lt ∙ ap rule_at same ∙ sym (at_rank other (omega (arith, lt, same)))
     | inr le ↦
         let one = past_ranks why le in
@@ -121,11 +121,11 @@ module _ (node : Node) (verdict : Verdict) where
         ∙ sym two.is
   ]
 
-  first_once : (top : TreeNode) (why other : Why) → IsFirstBroken node verdict top why
-      → IsFirstBroken node verdict top other → why ≡ other
-  first_once top why other a b = elim (cases_lt (rank why) (rank other)) [
+  first_once : (top : TreeNode) (why other : Why) → IsFirstBrokenWhy node verdict top why
+      → IsFirstBrokenWhy node verdict top other → why ≡ other
+  first_once top why other a b = elim (cases_lt (rank_of_why why) (rank_of_why other)) [
     | inl lt ↦ absurd (b.first why lt a.broken)
-    | inr le ↦ elim (cases_lt (rank other) (rank why)) [
+    | inr le ↦ elim (cases_lt (rank_of_why other) (rank_of_why why)) [
       | inl lt ↦ absurd (a.first other lt b.broken)
       | inr ge ↦ same_rank top why other (omega (arith, le, ge)) a.broken b.broken
     ]
@@ -134,7 +134,7 @@ module _ (node : Node) (verdict : Verdict) where
 -- ---- the first node that is refused
 
 stops_once : (verdict : Verdict) (places : List Node) (tree : List TreeNode) (m n : ℕ)
-    (why other : Why) → StopsAt verdict places tree m why → StopsAt verdict places tree n other
+    (why other : Why) → StopsAtNode verdict places tree m why → StopsAtNode verdict places tree n other
     → Refused m why ≡ Refused n other
 stops_once verdict [] [] m n why other a b = absurd a
 stops_once verdict (node ∷ places) [] m n why other a b =

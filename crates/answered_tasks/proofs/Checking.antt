@@ -19,7 +19,7 @@ use Rattle.answered_tasks.specs.declared.cause.Cause.TheVariants.{Words, Failed,
 use Rattle.answered_tasks.specs.declared.cause.Input.{Input}
 use Rattle.answered_tasks.specs.declared.cause.Input.TheVariants as input
 use Rattle.text_puts.specs.Outside.{Holdings, Counts}
-use Rattle.answered_tasks.specs.Outside.{ReadsOne, ReadsNames, IsBehind, IsName, IsGiven, IsOneOfFour}
+use Rattle.answered_tasks.specs.Outside.{ReadsOne, ReadsNames, ReadsBehind, IsName, IsGiven, IsOneOfFour}
 use Rattle.answered_tasks.specs.Files.{IsProblemFile, IsTreeFile, IsPlanFile, AreFixings, AreOfEdition, AreChangesTaken, HasFixings}
 use Rattle.answered_tasks.specs.Answers.{IsCheckedWithPlan, IsCheckedFile}
 use Rattle.answered_tasks.specs.Causes.{StopsTree, StopsGivenPlan, StopsTask, TakesProblem, TakesTree, CountsTask, input_name}
@@ -96,7 +96,7 @@ has_fixings holds problem name fixings edition fixed = (fixings, are_fixings hol
 
 -- the reading of the tree
 pub stops_by_tree : (before holds : Holdings) (first old new : Counts) (problem : Problem) (fixings : List Fixing) (edition : ℕ) (problem_name tree : List ℕ) (fixings_name plan : Option (List ℕ)) (cause : Cause)
-    → IsBehind before holds first old → IsProblemFile before problem_name problem → AreOfEdition before problem fixings_name fixings edition → StopsTree holds old new edition tree cause
+    → ReadsBehind before holds first old → IsProblemFile before problem_name problem → AreOfEdition before problem fixings_name fixings edition → StopsTree holds old new edition tree cause
     → StopsTask before first new (Check problem_name tree fixings_name plan) cause
 stops_by_tree before holds first old new problem fixings edition problem_name tree fixings_name plan (Words text) behind file fixed stops = absurd stops
 stops_by_tree before holds first old new problem fixings edition problem_name tree fixings_name plan (Failed which) behind file fixed (is, lt) = rw is ((problem, takes before problem_name tree fixings_name plan problem file, has_fixings before problem fixings_name fixings edition fixed), (tree, refl, omega (arith, behind.counted tree, lt)))
@@ -118,7 +118,7 @@ stops_by_tree before holds first old new problem fixings edition problem_name tr
 
 -- the reading of the plan
 pub stops_by_plan : (before holds : Holdings) (first old new : Counts) (problem : Problem) (fixings : List Fixing) (edition : ℕ) (verdict : Verdict) (nodes : List TreeNode) (problem_name tree : List ℕ) (fixings_name plan : Option (List ℕ))
-    (cause : Cause) → IsBehind before holds first old → IsProblemFile before problem_name problem → AreOfEdition before problem fixings_name fixings edition → IsTreeFile before tree edition verdict nodes
+    (cause : Cause) → ReadsBehind before holds first old → IsProblemFile before problem_name problem → AreOfEdition before problem fixings_name fixings edition → IsTreeFile before tree edition verdict nodes
     → StopsGivenPlan holds old new plan cause → StopsTask before first new (Check problem_name tree fixings_name plan) cause
 stops_by_plan before holds first old new problem fixings edition verdict nodes problem_name tree fixings_name None cause behind file fixed shown stops = rw stops tt
 stops_by_plan before holds first old new problem fixings edition verdict nodes problem_name tree fixings_name (Some name) (Words text) behind file fixed shown stops = absurd stops
@@ -164,11 +164,11 @@ reads_well Given old new old_puts new_puts old_holds new_holds Never Fault none 
 }
 
 -- what is read behind names that were read without a fault is behind them
-pub behind_names : (Given : List ℕ → Type 0) (before holds : Holdings) (first old : Counts) (first_puts old_puts : Counts) (Fault : Type 0) → ReadsNames Given first old first_puts old_puts before holds Fault → IsBehind before holds first old
+pub behind_names : (Given : List ℕ → Type 0) (before holds : Holdings) (first old : Counts) (first_puts old_puts : Counts) (Fault : Type 0) → ReadsNames Given first old first_puts old_puts before holds Fault → ReadsBehind before holds first old
 behind_names Given before holds first old first_puts old_puts Fault h = record { held = h.held; counted = h.counted }
 
 -- one reading behind another
-pub behind_both : (before mid holds : Holdings) (first middle old : Counts) → IsBehind before mid first middle → IsBehind mid holds middle old → IsBehind before holds first old
+pub behind_both : (before mid holds : Holdings) (first middle old : Counts) → ReadsBehind before mid first middle → ReadsBehind mid holds middle old → ReadsBehind before holds first old
 behind_both before mid holds first middle old one two = record {
   held = λ name. two.held name ∙ one.held name;
   counted = λ name. omega (arith, one.counted name, two.counted name);

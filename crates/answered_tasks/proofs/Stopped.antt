@@ -18,7 +18,7 @@ use Rattle.answered_tasks.specs.declared.cause.Cause.TheVariants.{Words, Failed,
 use Rattle.answered_tasks.specs.declared.cause.Input.TheVariants as input
 use Rattle.text_puts.specs.Outside.{Holdings, Counts}
 use Rattle.text_puts.proofs.Counting.{never_falls}
-use Rattle.answered_tasks.specs.Outside.{IsFile, HoldsTooMuch, ReadsOne, ReadsNames, IsBehind, IsName, IsProblemOrFixings, IsOneOfThree}
+use Rattle.answered_tasks.specs.Outside.{IsFile, HoldsTooMuch, ReadsOne, ReadsNames, ReadsBehind, IsName, IsProblemOrFixings, IsOneOfThree}
 use Rattle.answered_tasks.specs.Files.{IsProblemFile, IsRefusedLine, AreAsked, AreFixings, HasFixings}
 use Rattle.disp_outside.specs.Lines.{HasLinesOf}
 use Rattle.disp_model.specs.declared.fixing.Change.{Change}
@@ -158,7 +158,7 @@ stops_at_problem holds old new task name Memory named stops = tt
 -- the reading of the fixings stopped a task, behind that of the problem
 stops_at_file : (before holds : Holdings) (first old new : Counts) (task : Task) (problem : Problem)
     (name : List ℕ) (cause : Cause) → input_name task input.Fixings ≡ Some name
-    → IsBehind before holds first old → TakesProblem before task problem
+    → ReadsBehind before holds first old → TakesProblem before task problem
     → StopsFixings holds old new problem name cause → StopsTask before first new task cause
 stops_at_file before holds first old new task problem name (Words text) named behind takes stops =
     absurd stops
@@ -188,7 +188,7 @@ stops_at_file before holds first old new task problem name Memory named behind t
 
 pub stops_at_fixings : (before holds : Holdings) (first old new : Counts) (task : Task)
     (problem : Problem) (fixings : Option (List ℕ)) (cause : Cause)
-    → input_name task input.Fixings ≡ fixings → IsBehind before holds first old
+    → input_name task input.Fixings ≡ fixings → ReadsBehind before holds first old
     → TakesProblem before task problem → StopsGivenFixings holds old new problem fixings cause
     → StopsTask before first new task cause
 stops_at_fixings before holds first old new task problem None cause named behind takes stops =

@@ -30,7 +30,7 @@ use Rattle.answered_tasks.specs.declared.cause.Cause.TheVariants.{Words, Failed,
 use Rattle.answered_tasks.specs.declared.cause.Input.{Input}
 use Rattle.answered_tasks.specs.declared.cause.Input.TheVariants as input
 use Rattle.text_puts.specs.Outside.{Holdings, Counts}
-use Rattle.answered_tasks.specs.Outside.{IsFile, HoldsTooMuch, IsBehind}
+use Rattle.answered_tasks.specs.Outside.{IsFile, HoldsTooMuch, ReadsBehind}
 use Rattle.answered_tasks.specs.Texts.{line}
 use Rattle.answered_tasks.specs.Files.{IsProblemFile, HasFixings, IsRefusedLine, AreOfEdition, IsTreeNamed, IsTreeFile}
 
@@ -350,21 +350,21 @@ StopsGivenFixings holds old new problem (Some name) cause = StopsFixings holds o
 -- why a tree is not checked, behind other readings that took a problem, fixings and the tree
 abbrev pub StopsFromPlan : Holdings → Counts → Counts → Problem → List Fixing → Verdict → List TreeNode → Option (List ℕ) → Cause → Type 0
 StopsFromPlan holds old new problem fixings verdict tree plan cause =
-    (before : Holdings) (first : Counts) (problem_name : List ℕ) (fixings_name : Option (List ℕ)) (tree_name : List ℕ) (edition : ℕ) → IsBehind before holds first old
+    (before : Holdings) (first : Counts) (problem_name : List ℕ) (fixings_name : Option (List ℕ)) (tree_name : List ℕ) (edition : ℕ) → ReadsBehind before holds first old
     → IsProblemFile before problem_name problem → AreOfEdition before problem fixings_name fixings edition → IsTreeFile before tree_name edition verdict tree
     → StopsTask before first new (Check problem_name tree_name fixings_name plan) cause
 
 -- so behind those that took a problem and fixings
 abbrev pub StopsFromTree : Holdings → Counts → Counts → Problem → List Fixing → ℕ → List ℕ → Option (List ℕ) → Cause → Type 0
 StopsFromTree holds old new problem fixings edition tree plan cause =
-    (before : Holdings) (first : Counts) (problem_name : List ℕ) (fixings_name : Option (List ℕ)) → IsBehind before holds first old
+    (before : Holdings) (first : Counts) (problem_name : List ℕ) (fixings_name : Option (List ℕ)) → ReadsBehind before holds first old
     → IsProblemFile before problem_name problem → AreOfEdition before problem fixings_name fixings edition
     → StopsTask before first new (Check problem_name tree fixings_name plan) cause
 
 -- so behind that of a problem
 abbrev pub StopsFromFixings : Holdings → Counts → Counts → Problem → Option (List ℕ) → List ℕ → Option (List ℕ) → Cause → Type 0
 StopsFromFixings holds old new problem fixings tree plan cause =
-    (before : Holdings) (first : Counts) (problem_name : List ℕ) → IsBehind before holds first old → IsProblemFile before problem_name problem
+    (before : Holdings) (first : Counts) (problem_name : List ℕ) → ReadsBehind before holds first old → IsProblemFile before problem_name problem
     → StopsTask before first new (Check problem_name tree fixings plan) cause
 
 -- a reading of the file of the fixings failed, or behind them one of the solution's

@@ -34,7 +34,7 @@ pub record ReadsNames (Given : List ℕ → Type 0) (old new : Counts) (old_puts
   pub held : (other : List ℕ) → new_holds other ≡ old_holds other
 
 -- another reading comes behind: what names hold is the same, and no count has fallen
-pub record IsBehind (before holds : Holdings) (first old : Counts) : Type 0 where
+pub record ReadsBehind (before holds : Holdings) (first old : Counts) : Type 0 where
   pub held : (name : List ℕ) → holds name ≡ before name
   pub counted : (name : List ℕ) → first name ≤ old name
 

@@ -55,11 +55,11 @@ answer_lines standing plan Infeasible = edition_line standing.edition ∷ infeas
 answer_lines standing plan (Stopped spent bound) = edition_line standing.edition ∷ unfinished_line standing.best bound spent ∷ plan_lines plan
 
 -- the line of the verdict, where there is one
-abbrev pub verdict_line : Standing → Mark → List ℕ
-verdict_line standing Working = []
-verdict_line standing (Optimal cost) = optimal_line cost
-verdict_line standing Infeasible = infeasible_line
-verdict_line standing (Stopped spent bound) = unfinished_line standing.best bound spent
+abbrev pub standing_verdict_line : Standing → Mark → List ℕ
+standing_verdict_line standing Working = []
+standing_verdict_line standing (Optimal cost) = optimal_line cost
+standing_verdict_line standing Infeasible = infeasible_line
+standing_verdict_line standing (Stopped spent bound) = unfinished_line standing.best bound spent
 
 abbrev pub trains_line : ℕ → List ℕ
 trains_line count = line (codes "trains " ++ decimal count)
@@ -71,7 +71,7 @@ operations_line count = line (codes "operations " ++ decimal count)
 abbrev pub made_lines : Problem → Standing → List (List ℕ)
 made_lines problem standing =
     trains_line (length problem.trains) ∷ operations_line (operation_count problem.trains)
-    ∷ verdict_line standing standing.mark ∷ []
+    ∷ standing_verdict_line standing standing.mark ∷ []
 
 -- the text of a problem, as a file
 abbrev pub problem_file : Problem → List ℕ

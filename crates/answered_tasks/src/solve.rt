@@ -7,7 +7,7 @@ ghost use Rattle.disp_model.specs.History.{newest, mark_of};
 ghost use Rattle.solved_problems.specs.Solved.{IsSearched, MayBeAsked};
 ghost use Rattle.answered_tasks.specs.Answers.{IsSolved, put_under, puts_of, status_of_mark};
 ghost use Rattle.answered_tasks.specs.Causes.{IsAnswerStatus, IsWant};
-ghost use Rattle.answered_tasks.specs.Texts.{edition_line, verdict_line, plan_line, plan_lines};
+ghost use Rattle.answered_tasks.specs.Texts.{edition_line, standing_verdict_line, plan_line, plan_lines};
 ghost use Rattle.answered_tasks.specs.Texts.{answer_lines};
 ghost use Rattle.journal_printer.specs.Journal.{tree_file};
 
@@ -49,7 +49,7 @@ fn lines_with(
 
 /// The line of the verdict, where there is one.
 pub(crate) fn verdict_line(alloc: Global, standing: &Standing) -> Result<List<u8>, Memory>
-    ensures { IfOk result (λ line. line ≡ verdict_line standing.now standing.now.mark) }
+    ensures { IfOk result (λ line. line ≡ standing_verdict_line standing.now standing.now.mark) }
 {
     match standing.mark {
         Mark::Working => Ok(List::new(alloc)),

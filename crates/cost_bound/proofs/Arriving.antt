@@ -13,7 +13,7 @@ use Rattle.disp_model.specs.Nodes.{component_op}
 use Rattle.disp_laws.proofs.HorizonBounds.{AreSmall, edition_is_small, within_horizon}
 use Rattle.disp_laws.proofs.Numbered.{below_count}
 use Rattle.incremental_paths.specs.declared.arc.Arc.{Arc}
-use Rattle.incremental_paths.specs.Walks.{IsLongest}
+use Rattle.incremental_paths.specs.Walks.{IsLongestLength}
 use Rattle.event_arcs.specs.Listed.{AreArcsOf, AreLowersOf}
 use Rattle.event_arcs.proofs.Numbering.{forced_is_op}
 use Rattle.event_arcs.proofs.Lengths.{same_longest}
@@ -27,8 +27,8 @@ pub record AreListed (node : Node) (arcs : List Arc) (lowers : List ℕ) : Type 
   pub no_cycle : HasCycle node → ⊥
   pub edition : IsOfEdition node
 
-pub listed_longest : (node : Node) (arcs : List Arc) (lowers : List ℕ) (o : Op) (number longest : ℕ) → AreListed node arcs lowers → IsForced node o → number ≡ number_of node.problem o → IsLongest lowers arcs number longest → IsLongestAt node o longest
-listed_longest node arcs lowers o number longest are forced is long = (same_longest node arcs lowers o longest are.arcs_are are.lowers_are are.no_cycle forced).1 (subst (λ (n : ℕ). IsLongest lowers arcs n longest) is long)
+pub listed_longest : (node : Node) (arcs : List Arc) (lowers : List ℕ) (o : Op) (number longest : ℕ) → AreListed node arcs lowers → IsForced node o → number ≡ number_of node.problem o → IsLongestLength lowers arcs number longest → IsLongestAt node o longest
+listed_longest node arcs lowers o number longest are forced is long = (same_longest node arcs lowers o longest are.arcs_are are.lowers_are are.no_cycle forced).1 (subst (λ (n : ℕ). IsLongestLength lowers arcs n longest) is long)
 
 pub is_node : (node : Node) (lowers : List ℕ) (o : Op) (number : ℕ) → AreLowersOf node lowers → IsForced node o → number ≡ number_of node.problem o → number < length lowers
 is_node node lowers o number are forced is = let op = forced_is_op node o forced in omega (arith, is, below_count node.problem o op.train op.op, are.long)
@@ -47,7 +47,7 @@ costs_most node c longest no_cycle edition is =
     (within_horizon node is.reached.0 longest (subst AreSmall (sym edition.2) (edition_is_small node.problem edition.0 edition.1)) no_cycle is.reached.3)
 
 pub arrives : (node : Node) (arcs : List Arc) (lowers : List ℕ) (c : Component) (number longest cost : ℕ) → AreListed node arcs lowers → IsForced node (component_op c) → number ≡ number_of node.problem (component_op c)
-    → IsLongest lowers arcs number longest → cost ≡ cost_at c longest → IsArrival node c (record { number = number; cost = cost })
+    → IsLongestLength lowers arcs number longest → cost ≡ cost_at c longest → IsArrival node c (record { number = number; cost = cost })
 arrives node arcs lowers c number longest cost are forced is long cost_is =
     let own = listed_longest node arcs lowers (component_op c) number longest are forced is long in
     record { forced = forced; number_is = is; total = longest; longest = own; cost_is = cost_is; most = omega (arith, cost_is, costs_most node c longest are.no_cycle are.edition own) }

@@ -13,7 +13,7 @@ use Rattle.disp_laws.proofs.Numbered.{below_count}
 use Rattle.disp_laws.proofs.LongestWalks.{from_once}
 use Rattle.disp_laws.proofs.EarliestExists.{walk_once}
 use Rattle.incremental_paths.specs.declared.arc.Arc.{Arc}
-use Rattle.incremental_paths.specs.Walks.{Follows, last_from, IsWalkTo, walk_length, IsLongest}
+use Rattle.incremental_paths.specs.Walks.{FollowsArcs, last_node_from, IsWalkTo, walk_length, IsLongestLength}
 use Rattle.incremental_paths.proofs.Members.{joining}
 use Rattle.event_arcs.specs.Listed.{IsArcOf}
 use Rattle.event_windows.specs.Operations.{HasOperation}
@@ -51,7 +51,7 @@ same_named problem (o ∷ one) (p ∷ other) here there same =
     let later : one ≡ other = same_named problem one other (All-tail (HasOperation problem) o one here) (All-tail (HasOperation problem) p other there) cc in
     ap (λ (x : Op). x ∷ one) first ∙ ap (λ (l : List Op). p ∷ l) later
 
-last_named : (problem : Problem) (ops : List Op) (n : ℕ) (rest : List ℕ) (o : Op) → All (HasOperation problem) ops → HasOperation problem o → map (number_of problem) ops ≡ n ∷ rest → last_from n rest ≡ number_of problem o → IsLast ops o
+last_named : (problem : Problem) (ops : List Op) (n : ℕ) (rest : List ℕ) (o : Op) → All (HasOperation problem) ops → HasOperation problem o → map (number_of problem) ops ≡ n ∷ rest → last_node_from n rest ≡ number_of problem o → IsLast ops o
 last_named problem [] n rest o there own is last = absurd cc
 last_named problem (u ∷ []) n [] o there own is last = let here : number_of problem u ≡ n = cc in same_by_number problem u o (All-head (HasOperation problem) u [] there) own (here ∙ last)
 last_named problem (u ∷ []) n (m ∷ rest) o there own is last = absurd cc
@@ -73,7 +73,7 @@ carried_whole : (node : Node) (arcs : List Arc) (lowers : List ℕ) (o : Op) (nu
 carried_whole node arcs lowers o number [] are forced is walk = absurd walk
 carried_whole node arcs lowers o number (n ∷ rest) are forced is walk = from_first (first_of rest walk.1 walk.2)
   where
-    first_of : (later : List ℕ) → Follows arcs n later → last_from n later ≡ number → (u : Op) × IsForced node u × (number_of node.problem u ≡ n)
+    first_of : (later : List ℕ) → FollowsArcs arcs n later → last_node_from n later ≡ number → (u : Op) × IsForced node u × (number_of node.problem u ≡ n)
     first_of [] follows last = (o, forced, sym (last ∙ is))
     first_of (m ∷ later) follows last =
         let listed = joining arcs n m follows.0 in
@@ -82,7 +82,7 @@ carried_whole node arcs lowers o number (n ∷ rest) are forced is walk = from_f
 
     from_first : ((u : Op) × IsForced node u × (number_of node.problem u ≡ n)) → IsCarriedWhole node arcs lowers (n ∷ rest)
     from_first (u, start, own) =
-        let over = carried node arcs lowers u rest are.arcs_are.sound are.lowers_are start (subst (λ (k : ℕ). Follows arcs k rest) (sym own) walk.1) in
+        let over = carried node arcs lowers u rest are.arcs_are.sound are.lowers_are start (subst (λ (k : ℕ). FollowsArcs arcs k rest) (sym own) walk.1) in
         record {
           ops = u ∷ over.ops;
           total = over.total;
@@ -109,7 +109,7 @@ last_walk problem ops lowers arcs o number (n ∷ rest) there own numbers is wal
 
 -- what is named of a longest walk over numbers
 pub long_walk : (node : Node) (arcs : List Arc) (lowers : List ℕ) (o : Op) (number : ℕ) (nodes : List ℕ) (walk : List Op) → AreListed node arcs lowers → IsForced node o → number ≡ number_of node.problem o → IsWalkTo lowers arcs number nodes
-    → IsLongest lowers arcs number (walk_length lowers arcs nodes) → All (HasOperation node.problem) walk → map (number_of node.problem) walk ≡ nodes → IsLongWalk node o (ends_of walk)
+    → IsLongestLength lowers arcs number (walk_length lowers arcs nodes) → All (HasOperation node.problem) walk → map (number_of node.problem) walk ≡ nodes → IsLongWalk node o (ends_of walk)
 long_walk node arcs lowers o number nodes walk are forced is to long there numbers =
     let over = carried_whole node arcs lowers o number nodes are forced is to in
     let same : over.ops ≡ walk = same_named node.problem over.ops walk (walk_there node over.ops over.total over.is_walk) there (over.numbers ∙ sym numbers) in

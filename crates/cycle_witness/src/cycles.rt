@@ -1,5 +1,5 @@
 ghost use Rattle.std.specs.Prelude.{ℕ, IfOk};
-ghost use Rattle.incremental_paths.specs.Walks.{Leads, IsCycle, HasCycle};
+ghost use Rattle.incremental_paths.specs.Walks.{Leads, IsArcCycle, ArcsHaveCycle};
 ghost use Rattle.incremental_paths.specs.Network.{IsNode, with_arc};
 
 use incremental_paths::{Memory, Paths};
@@ -9,10 +9,10 @@ use incremental_paths::{Memory, Paths};
 pub fn cycle(paths: &Paths, from: u32, to: u32) -> Result<Vec<u32>, Memory>
     requires from { IsNode paths.now from }
     requires to { IsNode paths.now to }
-    requires refused { (length : ℕ) × HasCycle (with_arc paths.now from to length).arcs }
+    requires refused { (length : ℕ) × ArcsHaveCycle (with_arc paths.now from to length).arcs }
     ensures way { IfOk result (λ nodes. Leads paths.now.arcs to from nodes.items) }
     ensures cycle { IfOk result
-        (λ nodes. (length : ℕ) → IsCycle (with_arc paths.now from to length).arcs nodes.items) }
+        (λ nodes. (length : ℕ) → IsArcCycle (with_arc paths.now from to length).arcs nodes.items) }
 {
     match paths.between(to, from)? {
         Some(nodes) => Ok(nodes),

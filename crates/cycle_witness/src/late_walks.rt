@@ -1,5 +1,5 @@
 ghost use Rattle.std.specs.Prelude.{ℕ, ◌<◌, ◌≤◌, ◌↔◌, IfOk, IfSome, IsNone};
-ghost use Rattle.incremental_paths.specs.Walks.{IsWalkTo, walk_length, HasNoNodeTwice, IsLongest};
+ghost use Rattle.incremental_paths.specs.Walks.{IsWalkTo, walk_length, HasNoNodeTwice, IsLongestLength};
 ghost use Rattle.incremental_paths.specs.Network.{IsNode};
 
 use incremental_paths::{Memory, Paths};
@@ -9,7 +9,7 @@ use incremental_paths::{Memory, Paths};
 pub fn late(paths: &Paths, node: u32, upper: u64) -> Result<Option<Vec<u32>>, Memory>
     requires { IsNode paths.now node }
     ensures none { IfOk result (λ found. IsNone found
-        ↔ ((longest : ℕ) → IsLongest paths.now.lowers paths.now.arcs node longest → longest
+        ↔ ((longest : ℕ) → IsLongestLength paths.now.lowers paths.now.arcs node longest → longest
         ≤ upper)) }
     ensures walk { IfOk result
         (λ found. IfSome found

@@ -11,7 +11,7 @@ use Rattle.std.proofs.lemmas.List.{length-append, length-set, take-append-le, ta
 use Rattle.std.proofs.lemmas.List.Elements.{filter-append}
 use Rattle.std.proofs.Math.Nat.{min-le_right}
 use Rattle.disp_model.specs.declared.decision.Decision.{Decision}
-use Rattle.decision_paths.specs.Kept.{train_about, about_one, speaks_of, list_of, is_listed, AreByTrain}
+use Rattle.decision_paths.specs.Kept.{train_about, about_one, speaks_of, list_of, is_listed, AreRoutesByTrain}
 
 -- ---- filters
 
@@ -95,10 +95,10 @@ module _ (decisions : List Decision) (decision : Decision) (routes : List (Vec D
   routes_same : train_about decision ≡ None → (last i : ℕ) → filter (is_listed last i) more ≡ filter (is_listed last i) decisions
   routes_same none last i = filter_same (is_listed last i) decisions decision (about_none (λ u. list_of last u == i) decision none)
 
-  pub routes_other : train_about decision ≡ None → AreByTrain decisions routes → AreByTrain more routes
+  pub routes_other : train_about decision ≡ None → AreRoutesByTrain decisions routes → AreRoutesByTrain more routes
   routes_other none are = record { some = are.some; each = λ i own e. are.each i own e ∙ sym (routes_same none (length routes - 1) i) }
 
-  pub routes_without : train_about decision ≡ None → AreByTrain more routes → AreByTrain decisions routes
+  pub routes_without : train_about decision ≡ None → AreRoutesByTrain more routes → AreRoutesByTrain decisions routes
   routes_without none are = record { some = are.some; each = λ i own e. are.each i own e ∙ routes_same none (length routes - 1) i }
 
   -- a decision on the routes of a train
@@ -118,7 +118,7 @@ module _ (decisions : List Decision) (decision : Decision) (routes : List (Vec D
     stood : slice_get routes place ≡ Some own
     stood = own_at routes place own (within (length routes) t place some place_is) own_is
 
-    pub routes_noted : new.items ≡ own.items ++ decision ∷ [] → AreByTrain decisions routes → AreByTrain more (set routes place new)
+    pub routes_noted : new.items ≡ own.items ++ decision ∷ [] → AreRoutesByTrain decisions routes → AreRoutesByTrain more (set routes place new)
     routes_noted new_is are = record {
       some = omega (arith, length-set routes place new, some);
       each = λ i list e. subst (λ (n : ℕ). list.items ≡ filter (is_listed (n - 1) i) more) (sym (length-set routes place new)) (by i list (set_parts routes place new i list lt e));
@@ -130,7 +130,7 @@ module _ (decisions : List Decision) (decision : Decision) (routes : List (Vec D
             ∙ ap (λ (j : ℕ). filter (is_listed (length routes - 1) j) more) (sym same.0)
         by i list (inr other) = are.each i list other.1 ∙ sym (filter_same (is_listed (length routes - 1) i) decisions decision (not_its i other.0))
 
-    pub routes_forgot : new.items ≡ take (own.len - 1) own.items → AreByTrain more routes → AreByTrain decisions (set routes place new)
+    pub routes_forgot : new.items ≡ take (own.len - 1) own.items → AreRoutesByTrain more routes → AreRoutesByTrain decisions (set routes place new)
     routes_forgot new_is are = record {
       some = omega (arith, length-set routes place new, some);
       each = λ i list e. subst (λ (n : ℕ). list.items ≡ filter (is_listed (n - 1) i) decisions) (sym (length-set routes place new)) (by i list (set_parts routes place new i list lt e));
@@ -149,7 +149,7 @@ module _ (decisions : List Decision) (decision : Decision) (routes : List (Vec D
         by i list (inr other) = are.each i list other.1 ∙ filter_same (is_listed (length routes - 1) i) decisions decision (not_its i other.0)
 
 -- no decisions, and one list more
-pub routes_none : (routes : List (Vec Decision)) (own : Vec Decision) → ((i : ℕ) (list : Vec Decision) → slice_get routes i ≡ Some list → list.items ≡ []) → own.items ≡ [] → AreByTrain [] (routes ++ own ∷ [])
+pub routes_none : (routes : List (Vec Decision)) (own : Vec Decision) → ((i : ℕ) (list : Vec Decision) → slice_get routes i ≡ Some list → list.items ≡ []) → own.items ≡ [] → AreRoutesByTrain [] (routes ++ own ∷ [])
 routes_none routes own are is = record {
   some = omega (arith, length-append routes (own ∷ []));
   each = λ i list e. by routes i list are e;
@@ -165,7 +165,7 @@ pub routes_empty : (routes : List (Vec Decision)) → routes ≡ [] → (i : ℕ
 routes_empty routes is i list e = absurd (none-some list (subst (λ (l : List (Vec Decision)). slice_get l i ≡ Some list) is e))
 
 -- what is lent of a train
-pub about_lent : (decisions value : List Decision) (routes read : List (Vec Decision)) (t place : ℕ) (own : Vec Decision) (lent : List Decision) → AreByTrain decisions routes → decisions ≡ value → read ≡ routes
+pub about_lent : (decisions value : List Decision) (routes read : List (Vec Decision)) (t place : ℕ) (own : Vec Decision) (lent : List Decision) → AreRoutesByTrain decisions routes → decisions ≡ value → read ≡ routes
     → place ≡ list_of (length read - 1) t → own ≡ get_or routes place own → lent ≡ own.items → filter (speaks_of t) lent ≡ filter (speaks_of t) value
 about_lent decisions value routes read t place own lent are value_is read_is place_is own_is lent_is =
     let at : place ≡ list_of (length routes - 1) t = subst (λ (l : List (Vec Decision)). place ≡ list_of (length l - 1) t) read_is place_is in

@@ -56,12 +56,12 @@ abbrev pub is_listed : ℕ → ℕ → Decision → Bool
 is_listed last i = about_one (λ u. list_of last u == i)
 
 -- each list has the decisions that are its own, in order
-pub record AreByTrain (decisions : List Decision) (routes : List (Vec Decision)) : Type 0 where
+pub record AreRoutesByTrain (decisions : List Decision) (routes : List (Vec Decision)) : Type 0 where
   pub some : 0 < length routes
   pub each : (i : ℕ) (own : Vec Decision) → slice_get routes i ≡ Some own → own.items ≡ filter (is_listed (length routes - 1) i) decisions
 
 -- ---- both
 
-pub record AreKept (decisions : List Decision) (orders : List ((Op × Op) × ℕ)) (routes : List (Vec Decision)) : Type 0 where
+pub record AreDecisionsKept (decisions : List Decision) (orders : List ((Op × Op) × ℕ)) (routes : List (Vec Decision)) : Type 0 where
   pub firsts : AreFirsts decisions orders
-  pub by_train : AreByTrain decisions routes
+  pub by_train : AreRoutesByTrain decisions routes

@@ -2,7 +2,7 @@ ghost use Rattle.std.specs.Prelude.{◌≡◌, ◌↔◌, ◌-◌, ◌<◌, ◌+
 ghost use Rattle.std.specs.List.{filter};
 ghost use Rattle.disp_model.specs.declared.decision.Decision.{Decision};
 ghost use Rattle.disp_model.specs.declared.decision.Decision.TheVariants.{First};
-ghost use Rattle.decision_paths.specs.Kept.{speaks_of, AreKept};
+ghost use Rattle.decision_paths.specs.Kept.{speaks_of, AreDecisionsKept};
 
 use crate::orders::{forget_order, note_order, place_of};
 use crate::routes::{forget_route, list_of, lists_of, note_route};
@@ -25,13 +25,13 @@ pub struct DecisionPath {
 impl Model for DecisionPath {
     ghost use Rattle.std.specs.Prelude.{List};
     ghost use Rattle.disp_model.specs.declared.decision.Decision.{Decision};
-    ghost use Rattle.decision_paths.specs.Kept.{AreKept};
+    ghost use Rattle.decision_paths.specs.Kept.{AreDecisionsKept};
 
     ghost Value = { List Decision };
 
     ghost view = { λ p. p.decisions.items };
 
-    ghost invariant = { λ p. AreKept p.decisions.items p.orders.entries p.routes.items };
+    ghost invariant = { λ p. AreDecisionsKept p.decisions.items p.orders.entries p.routes.items };
 }
 
 /// Keeps what is asked of a decision that is put behind.
@@ -43,11 +43,11 @@ fn note(
 ) -> Result<(), Memory>
     requires { 0 < length routes.old.items }
     ensures ok { OnOk result ((decisions : List Decision)
-        → AreKept decisions orders.old.entries routes.old.items → length decisions ≡ place
-        → AreKept (decisions ++ decision ∷ []) orders.new.entries routes.new.items) }
+        → AreDecisionsKept decisions orders.old.entries routes.old.items → length decisions ≡ place
+        → AreDecisionsKept (decisions ++ decision ∷ []) orders.new.entries routes.new.items) }
     ensures err { OnErr result ((decisions : List Decision)
-        → AreKept decisions orders.old.entries routes.old.items
-        → AreKept decisions orders.new.entries routes.new.items) }
+        → AreDecisionsKept decisions orders.old.entries routes.old.items
+        → AreDecisionsKept decisions orders.new.entries routes.new.items) }
 {
     match decision {
         Decision::Go { op, .. } => note_route(routes, op.train, decision),
@@ -66,9 +66,9 @@ fn forget(
 )
     requires { 0 < length routes.old.items }
     ensures { (decisions : List Decision)
-        → AreKept (decisions ++ decision ∷ []) orders.old.entries routes.old.items
+        → AreDecisionsKept (decisions ++ decision ∷ []) orders.old.entries routes.old.items
         → length decisions ≡ place
-        → AreKept decisions orders.new.entries routes.new.items }
+        → AreDecisionsKept decisions orders.new.entries routes.new.items }
 {
     match decision {
         Decision::Go { op, .. } => forget_route(routes, op.train),

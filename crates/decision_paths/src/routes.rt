@@ -1,13 +1,13 @@
 ghost use Rattle.std.specs.Prelude.{◌≡◌, ◌-◌, ◌<◌, ◌++◌, ◌∷◌, [], List, Some, OnOk, OnErr, IfOk, length};
 ghost use Rattle.disp_model.specs.declared.decision.Decision.{Decision};
-ghost use Rattle.decision_paths.specs.Kept.{list_of, train_about, AreByTrain};
+ghost use Rattle.decision_paths.specs.Kept.{list_of, train_about, AreRoutesByTrain};
 
 use disp_model::{Decision, Memory};
 use std::alloc::Global;
 
 /// A list for each of so many trains, and one for all others.
 pub(crate) fn lists_of(alloc: Global, trains: usize) -> Result<Vec<Vec<Decision>>, Memory>
-    ensures { IfOk result (λ lists. AreByTrain [] lists.items) }
+    ensures { IfOk result (λ lists. AreRoutesByTrain [] lists.items) }
 {
     let mut lists = Vec::new(alloc);
     lists.push(Vec::new(alloc))?;
@@ -33,10 +33,10 @@ pub(crate) fn note_route(
 ) -> Result<(), Memory>
     requires some { 0 < length lists.old.items }
     requires about { train_about decision ≡ Some train }
-    ensures ok { OnOk result ((decisions : List Decision) → AreByTrain decisions lists.old.items
-        → AreByTrain (decisions ++ decision ∷ []) lists.new.items) }
+    ensures ok { OnOk result ((decisions : List Decision) → AreRoutesByTrain decisions lists.old.items
+        → AreRoutesByTrain (decisions ++ decision ∷ []) lists.new.items) }
     ensures err { OnErr result ((decisions : List Decision)
-        → AreByTrain decisions lists.old.items → AreByTrain decisions lists.new.items) }
+        → AreRoutesByTrain decisions lists.old.items → AreRoutesByTrain decisions lists.new.items) }
 {
     let place = list_of(lists, train);
     lists[place].push(decision)?;
@@ -47,8 +47,8 @@ pub(crate) fn note_route(
 pub(crate) fn forget_route(lists: &mut Vec<Vec<Decision>>, train: u32)
     requires { 0 < length lists.old.items }
     ensures { (decisions : List Decision) (decision : Decision)
-        → AreByTrain (decisions ++ decision ∷ []) lists.old.items
-        → train_about decision ≡ Some train → AreByTrain decisions lists.new.items }
+        → AreRoutesByTrain (decisions ++ decision ∷ []) lists.old.items
+        → train_about decision ≡ Some train → AreRoutesByTrain decisions lists.new.items }
 {
     let place = list_of(lists, train);
     lists[place].pop();

@@ -12,10 +12,10 @@ is_over Ended = true
 is_over Broken = true
 
 -- how often it has failed
-abbrev pub fault_count : FeedState → ℕ
-fault_count Open = 0
-fault_count Ended = 0
-fault_count Broken = 1
+abbrev pub read_fault_count : FeedState → ℕ
+read_fault_count Open = 0
+read_fault_count Ended = 0
+read_fault_count Broken = 1
 
 -- how far it has come with this answer
 abbrev pub state_after : FeedLine → FeedState

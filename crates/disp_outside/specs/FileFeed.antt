@@ -1,7 +1,7 @@
 -- Lines out of a file of the system.
 use Rattle.std.specs.Prelude.{ℕ, Bool, List, string_bytes}
 use Rattle.disp_outside.specs.declared.file_feed.FileFeed.{FileFeed}
-use Rattle.disp_outside.specs.FeedState.{is_over, fault_count as state_faults}
+use Rattle.disp_outside.specs.FeedState.{is_over, read_fault_count as state_faults}
 
 module _ {R : Type 0} where
   -- the feed's name

@@ -22,7 +22,7 @@ use Rattle.rolling_driver.specs.Rolled.{Fed, IsRolled, fed}
 use Rattle.dispatch_cli.specs.declared.roll_no.RollNo.{RollNo}
 use Rattle.dispatch_cli.specs.declared.roll_no.RollNo.TheVariants.{TooManyFeeds, Problem as NoProblem, FeedFailed, Memory}
 use Rattle.dispatch_cli.specs.Feeds.{AreFed, AreOpened, StopsFeeds}
-use Rattle.dispatch_cli.specs.Rolls.{HasFewFeeds, IsAsBefore, StopsRoll, HasNotBegun, RunsFeeds, EndsRun, EndsStopped, ReadsInputs}
+use Rattle.dispatch_cli.specs.Rolls.{HasFewFeeds, IsOutsideAsBefore, StopsRoll, HasNotBegun, RunsFeeds, EndsRun, EndsStopped, ReadsInputs}
 use Rattle.dispatch_cli.specs.Stops.{IsFault, StopsWith}
 
 module _ {F : Type 0} (name : F → List ℕ) (told : F → Option (List (List ℕ))) (has_ended : F → Bool) (faults : F → ℕ) where
@@ -35,7 +35,7 @@ module _ {F : Type 0} (name : F → List ℕ) (told : F → Option (List (List �
 
 -- the feeds of a task ran
 pub runs_of : (task : RollTask) (problem : Problem) (old start new : Outside) (settings : Settings) (trees : Option (List ℕ)) (names : List (List ℕ)) (feeds : List Fed) (status : ℕ) (journal : List Entry)
-    → HasFewFeeds task → settings ≡ roll_settings_of task → trees ≡ task.trees → names ≡ task.feeds → AreFed old.holds names feeds → IsAsBefore old start
+    → HasFewFeeds task → settings ≡ roll_settings_of task → trees ≡ task.trees → names ≡ task.feeds → AreFed old.holds names feeds → IsOutsideAsBefore old start
     → IsRolled problem settings trees feeds start new journal status → RunsFeeds task problem old new status journal
 runs_of task problem old start new settings trees names feeds status journal few same_settings same_trees same_names are begins ran =
     let rolled : IsRolled problem (roll_settings_of task) task.trees feeds start new journal status =

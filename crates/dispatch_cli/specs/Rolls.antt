@@ -58,7 +58,7 @@ pub record EndsStopped (task : RollTask) (old new : Outside) (status : ℕ) (jou
   pub journal_is : journal ≡ []
 
 -- two moments with the same files, counts and output
-pub record IsAsBefore (old new : Outside) : Type 0 where
+pub record IsOutsideAsBefore (old new : Outside) : Type 0 where
   pub holds : (name : List ℕ) → new.holds name ≡ old.holds name
   pub reading : (name : List ℕ) → new.reading name ≡ old.reading name
   pub putting : (name : List ℕ) → new.putting name ≡ old.putting name
@@ -76,7 +76,7 @@ pub record RunsFeeds (task : RollTask) (problem : Problem) (old new : Outside) (
   pub feeds : List Fed
   pub fed : AreFed old.holds task.feeds feeds
   pub start : Outside
-  pub begins : IsAsBefore old start
+  pub begins : IsOutsideAsBefore old start
   pub ran : IsRolled problem (roll_settings_of task) task.trees feeds start new journal status
   pub promise : NewestIsPromised task problem journal
 

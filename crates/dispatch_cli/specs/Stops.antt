@@ -11,25 +11,25 @@ use Rattle.dispatch_cli.specs.declared.roll_no.RollNo.{RollNo}
 use Rattle.dispatch_cli.specs.declared.roll_no.RollNo.TheVariants.{TooManyFeeds, Problem, FeedFailed, Memory}
 
 -- the line that is printed for it
-abbrev pub line_of : RollNo → List ℕ
-line_of (TooManyFeeds count) = line (codes "TooMany feeds " ++ decimal count)
-line_of (Problem why) = cause_line why
-line_of (FeedFailed number) = line (codes "feed " ++ decimal number ++ codes ": Failed")
-line_of Memory = cause_line cause.Memory
+abbrev pub roll_line_of : RollNo → List ℕ
+roll_line_of (TooManyFeeds count) = line (codes "TooMany feeds " ++ decimal count)
+roll_line_of (Problem why) = cause_line why
+roll_line_of (FeedFailed number) = line (codes "feed " ++ decimal number ++ codes ": Failed")
+roll_line_of Memory = cause_line cause.Memory
 
 -- what is due before the line for want of memory: nothing where that is what stopped it
-abbrev pub due_line : RollNo → List ℕ
-due_line (TooManyFeeds count) = line_of (TooManyFeeds count)
-due_line (Problem why) = cause_due why
-due_line (FeedFailed number) = line_of (FeedFailed number)
-due_line Memory = []
+abbrev pub roll_due_line : RollNo → List ℕ
+roll_due_line (TooManyFeeds count) = roll_line_of (TooManyFeeds count)
+roll_due_line (Problem why) = cause_due why
+roll_due_line (FeedFailed number) = roll_line_of (FeedFailed number)
+roll_due_line Memory = []
 
 -- the status for it
-abbrev pub status_of : RollNo → ℕ
-status_of (TooManyFeeds count) = 2
-status_of (Problem why) = cause_status why
-status_of (FeedFailed number) = 4
-status_of Memory = 5
+abbrev pub roll_status_of : RollNo → ℕ
+roll_status_of (TooManyFeeds count) = 2
+roll_status_of (Problem why) = cause_status why
+roll_status_of (FeedFailed number) = 4
+roll_status_of Memory = 5
 
 -- a reading of a name failed
 abbrev pub IsFault : RollNo → Type 0
@@ -49,4 +49,4 @@ pub record Tells (old_faults new_faults : ℕ) (old new : Option (List ℕ)) (te
 
 -- how the writing of the line for what stopped a roll ends
 abbrev pub StopsWith : ℕ → ℕ → Option (List ℕ) → Option (List ℕ) → RollNo → ℕ → Type 0
-StopsWith old_faults new_faults old new why status = Tells old_faults new_faults old new (line_of why) (due_line why) (status_of why) status
+StopsWith old_faults new_faults old new why status = Tells old_faults new_faults old new (roll_line_of why) (roll_due_line why) (roll_status_of why) status

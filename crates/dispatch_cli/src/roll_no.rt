@@ -1,6 +1,6 @@
 ghost use Rattle.std.specs.Prelude.{◌≡◌, ◌≢◌, List, ℕ, IfOk, string_bytes};
 ghost use Rattle.dispatch_cli.specs.declared.roll_no.RollNo.TheVariants.{TooManyFeeds, FeedFailed};
-ghost use Rattle.dispatch_cli.specs.Stops.{StopsWith, Tells, line_of};
+ghost use Rattle.dispatch_cli.specs.Stops.{StopsWith, Tells, roll_line_of};
 
 use answered_tasks::{Cause, give_up, stop};
 use disp_model::Memory;
@@ -33,14 +33,14 @@ impl From<AllocError> for RollNo {
 
 /// The line for too many feeds.
 fn many_line(alloc: Global, count: u64) -> Result<String, Memory>
-    ensures { IfOk result (λ text. string_bytes text ≡ line_of (TooManyFeeds count)) }
+    ensures { IfOk result (λ text. string_bytes text ≡ roll_line_of (TooManyFeeds count)) }
 {
     Ok(format!(in alloc; "TooMany feeds {count}\n")?)
 }
 
 /// The line for a feed that could not be opened.
 fn failed_line(alloc: Global, number: u64) -> Result<String, Memory>
-    ensures { IfOk result (λ text. string_bytes text ≡ line_of (FeedFailed number)) }
+    ensures { IfOk result (λ text. string_bytes text ≡ roll_line_of (FeedFailed number)) }
 {
     Ok(format!(in alloc; "feed {number}: Failed\n")?)
 }

@@ -31,7 +31,7 @@ use Rattle.open_nodes.specs.States.{State, decisions_of}
 use Rattle.open_nodes.proofs.Touching.{newer_tree}
 use Rattle.dispatch_core.specs.declared.event.CoreReply.TheVariants as reply
 use Rattle.dispatch_core.specs.Falling.{AreFailing, AreFallen, fallen_all}
-use Rattle.dispatch_core.specs.Kept.{IsCostUnder, IsLast, IsLastAt, AreKept}
+use Rattle.dispatch_core.specs.Kept.{IsCostUnder, IsLastEntry, IsLastAt, AreCountsKept}
 use Rattle.dispatch_core.specs.Replies.{Asks}
 use Rattle.dispatch_core.specs.States.{Core, entered, with_nodes, DoesNotHold, Settles, IsSound}
 use Rattle.dispatch_core.proofs.Asking.{asks_sound}
@@ -98,17 +98,17 @@ same_published e f p q k l is =
     ap (λ (r : List Event). Some (r, k)) plans ∙ ap (λ (n : ℕ). Some (q, n)) costs
 
 -- the entry at the last place publishes the last plan
-last_found : (history : List Entry) (last : Option ℕ) (place : ℕ) (entry : Entry) (edition : ℕ) (plan : List Event) (cost : ℕ) → IsLast history last → last ≡ Some place
+last_found : (history : List Entry) (last : Option ℕ) (place : ℕ) (entry : Entry) (edition : ℕ) (plan : List Event) (cost : ℕ) → IsLastEntry history last → last ≡ Some place
     → entry ≡ get_or history place entry → entry ≡ Published edition plan cost → last_plan history ≡ Some (plan, cost)
 last_found history last place entry edition plan cost is last_is at entry_is =
-    let found : IsLastAt history place = subst (λ (o : Option ℕ). IsLast history o) last_is is in
+    let found : IsLastAt history place = subst (λ (o : Option ℕ). IsLastEntry history o) last_is is in
     let there : get_or history place entry ≡ Published found.edition found.plan found.cost =
     get_or_from_slice_get history place (Published found.edition found.plan found.cost) entry found.there in
     found.last ∙ same_published found.edition edition found.plan plan found.cost cost (sym (at ∙ there) ∙ entry_is)
 
 -- its cost is that under fixings where it is valid with them
 module _ (core self : Core) (fixings : List Fixing) (last : Option ℕ) (place : ℕ) (entry : Entry) (edition : ℕ) (plan : List Event) (cost : ℕ) (view_is : core ≡ self)
-    (is : IsLast core.history last) (last_is : last ≡ Some place) (at : entry ≡ get_or core.history place entry) (entry_is : entry ≡ Published edition plan cost) where
+    (is : IsLastEntry core.history last) (last_is : last ≡ Some place) (at : entry ≡ get_or core.history place entry) (entry_is : entry ≡ Published edition plan cost) where
   found : last_plan core.history ≡ Some (plan, cost)
   found = last_found core.history last place entry edition plan cost is last_is at entry_is
 
@@ -179,7 +179,7 @@ module _ (settings : Settings) (ended left : List Bool) where
         subst (λ (fs : List Fixing). IsCostUnder edition.problem fs (last_plan history) cost) stand
         (subst (λ (s : Core). IsCostUnder s.problem fixings (last_plan s.history) cost) (sym view_is) cost_is) in
         let asks : Asks core feed line change (Accepted number) behind = asks_accepted core whole.1 feed line change number numbers (said (Accepted number) is) falls in
-        let kept : AreKept behind more cost Working 0 last = kept_accepted core edition best mark spent last whole.0 feed line change number settled more cost whole.1.legal refl costs in
+        let kept : AreCountsKept behind more cost Working 0 last = kept_accepted core edition best mark spent last whole.0 feed line change number settled more cost whole.1.legal refl costs in
         let base : IsWhole behind more cost Working 0 last × Asks self feed line change (Accepted number) behind =
         ((kept, asks_sound core feed line change (reply.Asked (Accepted number)) behind whole.1 asks), subst (λ (s : Core). Asks s feed line change (Accepted number) behind) view_is asks) in
         subst (λ (e : Edition). IsWhole (core_of e later after) e cost Working 0 last × Asks self feed line change (Accepted number) (core_of e later after)) (sym now_is)

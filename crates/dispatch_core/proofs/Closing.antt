@@ -22,16 +22,16 @@ use Rattle.train_orders.proofs.Places.{get_kept, get_last}
 use Rattle.history_laws.proofs.Appended.{spent_more, mark_more, plan_more}
 use Rattle.open_nodes.specs.declared.place.Place.{Place}
 use Rattle.open_nodes.specs.declared.place.Kind.TheVariants.{Open}
-use Rattle.open_nodes.specs.States.{IsBelow, IsWanted, AreNotOpen, IsLeastBound}
+use Rattle.open_nodes.specs.States.{IsBoundBelow, IsWanted, AreNotOpen, IsLeastBound}
 use Rattle.open_nodes.specs.Preorder.{IsFirstSought, preorder}
 use Rattle.open_nodes.specs.Filled.{verdict_for}
 use Rattle.dispatch_core.specs.States.{Core, IsSound, entered}
-use Rattle.dispatch_core.specs.Replies.{IsBetter, IsRipe, IsStop}
-use Rattle.dispatch_core.specs.Kept.{IsLast, AreKept}
+use Rattle.dispatch_core.specs.Replies.{IsBetter, IsRipe, IsStopBound}
+use Rattle.dispatch_core.specs.Kept.{IsLastEntry, AreCountsKept}
 use Rattle.dispatch_core.proofs.Entering.{same_changes, same_newest, same_fixings}
 use Rattle.dispatch_core.proofs.Stopping.{have_bounds}
 
-last_stays : (history : List Entry) (entry : Entry) (last : Option ℕ) → last_plan (history ++ entry ∷ []) ≡ last_plan history → IsLast history last → IsLast (history ++ entry ∷ []) last
+last_stays : (history : List Entry) (entry : Entry) (last : Option ℕ) → last_plan (history ++ entry ∷ []) ≡ last_plan history → IsLastEntry history last → IsLastEntry (history ++ entry ∷ []) last
 last_stays history entry None same is = same ∙ is
 last_stays history entry (Some place) same is = record {
   edition = is.edition;
@@ -52,7 +52,7 @@ best_stays problem history longer best fixings plan is =
 
 pub quiet_kept : (core : Core) (edition : Edition) (best : Option ℕ) (before later : Mark) (spent : ℕ) (last : Option ℕ) (entry : Entry)
     → change_of entry ≡ [] → ((plan : Option (List Event × ℕ)) → plan_after plan entry ≡ plan) → ((n : ℕ) → splits_of n entry ≡ 0)
-    → later ≡ mark_after (newest core.history) before entry → AreKept core edition best before spent last → AreKept (entered core entry) edition best later spent last
+    → later ≡ mark_after (newest core.history) before entry → AreCountsKept core edition best before spent last → AreCountsKept (entered core entry) edition best later spent last
 quiet_kept core edition best before later spent last entry none same splits marked kept =
     let plan : last_plan (core.history ++ entry ∷ []) ≡ last_plan core.history = plan_more core.history entry ∙ same (last_plan core.history) in
     let number : newest (core.history ++ entry ∷ []) ≡ newest core.history = same_newest core entry core.nodes none in
@@ -74,19 +74,19 @@ own n x y = by (n == n) refl
     by false is = absurd (eqb-false n n is refl)
 
 pub settled_kept : (core : Core) (edition : Edition) (best : Option ℕ) (before : Mark) (spent : ℕ) (last : Option ℕ) (named : ℕ) (verdict : Verdict) (tree : List TreeNode)
-    → named ≡ newest core.history → AreKept core edition best before spent last → AreKept (entered core (Settled named verdict tree)) edition best (mark_of_verdict verdict) spent last
+    → named ≡ newest core.history → AreCountsKept core edition best before spent last → AreCountsKept (entered core (Settled named verdict tree)) edition best (mark_of_verdict verdict) spent last
 settled_kept core edition best before spent last named verdict tree is kept =
     quiet_kept core edition best before (mark_of_verdict verdict) spent last (Settled named verdict tree) refl (λ plan. refl) (λ n. refl) (rw is (sym (own (newest core.history) (mark_of_verdict verdict) before))) kept
 
 pub stopped_kept : (core : Core) (edition : Edition) (best : Option ℕ) (before : Mark) (spent : ℕ) (last : Option ℕ) (named all bound : ℕ)
-    → named ≡ newest core.history → AreKept core edition best before spent last → AreKept (entered core (Stopped named all bound)) edition best (mark.Stopped all bound) spent last
+    → named ≡ newest core.history → AreCountsKept core edition best before spent last → AreCountsKept (entered core (Stopped named all bound)) edition best (mark.Stopped all bound) spent last
 stopped_kept core edition best before spent last named all bound is kept =
     quiet_kept core edition best before (mark.Stopped all bound) spent last (Stopped named all bound) refl (λ plan. refl) (λ n. refl) (rw is (sym (own (newest core.history) (mark.Stopped all bound) before))) kept
 
 -- a valid plan is the last one published, and its cost the best
 pub published_kept : (core : Core) (edition : Edition) (best : Option ℕ) (before : Mark) (spent : ℕ) (last : Option ℕ) (named : ℕ) (plan : List Event) (cost : ℕ)
-    → IsValid core.problem (edition_of core.history) plan → AreKept core edition best before spent last
-    → AreKept (entered core (Published named plan cost)) edition (Some cost) before spent (Some (length core.history))
+    → IsValid core.problem (edition_of core.history) plan → AreCountsKept core edition best before spent last
+    → AreCountsKept (entered core (Published named plan cost)) edition (Some cost) before spent (Some (length core.history))
 published_kept core edition best before spent last named plan cost valid kept =
     let entry : Entry = Published named plan cost in
     let now : last_plan (core.history ++ entry ∷ []) ≡ Some (plan, cost) = plan_more core.history entry in
@@ -127,7 +127,7 @@ none_open_at (p ∷ places) zero place none there kind = none.0 (ap (λ (q : Pla
 none_open_at (p ∷ places) (suc n) place none there kind = none_open_at places n place none.1 there kind
 
 -- a least bound is below each cost above that of a wanted leaf
-pub below_wanted : (best : Option ℕ) (bound kept other : ℕ) → bound ≤ kept → IsBelow kept best → best ≡ Some other → bound < other
+pub below_wanted : (best : Option ℕ) (bound kept other : ℕ) → bound ≤ kept → IsBoundBelow kept best → best ≡ Some other → bound < other
 below_wanted None bound kept other low below is = absurd (none-some other is)
 below_wanted (Some cost) bound kept other low below is = omega (arith, low, below, same_Some cost other is)
 
@@ -145,7 +145,7 @@ module _ (core : Core) (sound : IsSound core) (best : Option ℕ) (spent : ℕ) 
     pub some_open : AreNotOpen core.nodes.places → ⊥
     some_open none = let (n, place, there, wanted) = found_wanted core.nodes.places best (preorder core.nodes.places) found sought in none_open_at core.nodes.places n place none there wanted.0
 
-    pub stop_at : (bound : ℕ) → IsFirstSought core.nodes.places best (Some core.nodes.edition) (preorder core.nodes.places) None → IsLeastBound core.nodes.places (Some bound) → IsStop core bound
+    pub stop_at : (bound : ℕ) → IsFirstSought core.nodes.places best (Some core.nodes.edition) (preorder core.nodes.places) None → IsLeastBound core.nodes.places (Some bound) → IsStopBound core bound
     stop_at bound marked least =
         let (n, place, there, wanted) = found_wanted core.nodes.places best (preorder core.nodes.places) found sought in
         record {

@@ -14,7 +14,7 @@ use Rattle.open_nodes.specs.declared.place.Place.{Place}
 use Rattle.open_nodes.specs.declared.place.Errand.{Errand}
 use Rattle.open_nodes.specs.States.{State, decisions_of}
 use Rattle.history_laws.proofs.Appended.{changes_more, front_stays}
-use Rattle.dispatch_core.specs.States.{Core, entered, with_nodes, IsErrand, IsExamined, IsMarked}
+use Rattle.dispatch_core.specs.States.{Core, entered, with_nodes, IsErrand, IsExamined, IsPlaceMarked}
 
 -- the accepted changes are the same
 pub same_changes : (history : List Entry) (entry : Entry) → change_of entry ≡ [] → changes_of (history ++ entry ∷ []) ≡ changes_of history
@@ -39,7 +39,7 @@ module _ (core : Core) (entry : Entry) (nodes : State) (none : change_of entry �
       }
 
   pub mark_behind : (n : ℕ) (place : Place) (edition : ℕ) → decisions_of nodes.places n ≡ decisions_of core.nodes.places n
-      → IsMarked core n place edition → IsMarked (with_nodes (entered core entry) nodes) n place edition
+      → IsPlaceMarked core n place edition → IsPlaceMarked (with_nodes (entered core entry) nodes) n place edition
   mark_behind n place edition same is = record {
     within = omega (arith, is.within, same_newest);
     examined = λ newest_one. subst (λ (ds : List Decision). IsExamined core.settings.rule (node_at core.problem (edition_of (core.history ++ entry ∷ [])) ds) place.bound) (sym same)

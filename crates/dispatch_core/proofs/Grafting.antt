@@ -24,7 +24,7 @@ use Rattle.open_nodes.specs.States.{State, IsGone}
 use Rattle.tree_growth.specs.Left.{IsLeft}
 use Rattle.dispatch_core.specs.declared.event.CoreReply.TheVariants as reply
 use Rattle.dispatch_core.specs.Asked.{IsGrowth}
-use Rattle.dispatch_core.specs.Kept.{IsLast, AreKept}
+use Rattle.dispatch_core.specs.Kept.{IsLastEntry, AreCountsKept}
 use Rattle.dispatch_core.specs.Remaining.{with_tree}
 use Rattle.dispatch_core.specs.Replies.{IsGrow}
 use Rattle.dispatch_core.specs.States.{Core, IsSound, entered, with_nodes}
@@ -54,13 +54,13 @@ module _ (core : Core) (entry : Entry) (nodes : State) (none : change_of entry �
       (λ p. (IsValid core.problem (edition_of core.history) p.0 × (best ≡ Some p.1)) ⊎ ((IsValid core.problem (edition_of core.history) p.0 → ⊥) × (best ≡ None))))
       (sym same_plan) is)
 
-  same_last : (last : Option ℕ) → IsLast core.history last → IsLast longer last
+  same_last : (last : Option ℕ) → IsLastEntry core.history last → IsLastEntry longer last
   same_last None is = same_plan ∙ is
   same_last (Some place) is =
       record { edition = is.edition; plan = is.plan; cost = is.cost; there = get_kept core.history (entry ∷ []) _ place is.there; last = same_plan ∙ is.last }
 
-  pub kept_with : (editions : Edition) (best : Option ℕ) (mark : Mark) (spent later : ℕ) (last : Option ℕ) → AreKept core editions best mark spent last
-      → later ≡ spent + splits_of (newest core.history) entry → AreKept (with_nodes (entered core entry) nodes) editions best mark later last
+  pub kept_with : (editions : Edition) (best : Option ℕ) (mark : Mark) (spent later : ℕ) (last : Option ℕ) → AreCountsKept core editions best mark spent last
+      → later ≡ spent + splits_of (newest core.history) entry → AreCountsKept (with_nodes (entered core entry) nodes) editions best mark later last
   kept_with editions best mark spent later last kept later_is = record {
     problem = kept.problem;
     changes = kept.changes ∙ sym (same_changes core.history entry none);
@@ -99,13 +99,13 @@ module _ (core : Core) (searcher : ℕ) (fragment part : Fragment) (left : IsLef
           let counted : splits_of fragment.work.edition grown ≡ length splits = rw (eq-eqb fragment.work.edition fragment.work.edition refl) refl in
           omega (arith, counted, spent_more fragment.work.edition core.history grown, sound_grown.covered fragment.work.edition)
 
-      pub spent_grown : (editions : Edition) (best : Option ℕ) (mark : Mark) (spent : ℕ) (last : Option ℕ) → AreKept core editions best mark spent last
+      pub spent_grown : (editions : Edition) (best : Option ℕ) (mark : Mark) (spent : ℕ) (last : Option ℕ) → AreCountsKept core editions best mark spent last
           → spent + splits_of (newest core.history) grown ≤ core.settings.budget
       spent_grown editions best mark spent last kept =
           omega (arith, kept.spent_is, spent_more (newest core.history) core.history grown, sound_grown.covered (newest core.history))
 
-      pub kept_grown : (editions : Edition) (best : Option ℕ) (mark : Mark) (spent : ℕ) (last : Option ℕ) → AreKept core editions best mark spent last
-          → (later : ℕ) → later ≡ spent + splits_of (newest core.history) grown → AreKept after_grown editions best mark later last
+      pub kept_grown : (editions : Edition) (best : Option ℕ) (mark : Mark) (spent : ℕ) (last : Option ℕ) → AreCountsKept core editions best mark spent last
+          → (later : ℕ) → later ≡ spent + splits_of (newest core.history) grown → AreCountsKept after_grown editions best mark later last
       kept_grown editions best mark spent last kept later later_is =
           kept_with core grown nodes refl (λ before. refl) (λ number before. refl) editions best mark spent later last kept later_is
 
@@ -150,7 +150,7 @@ module _ {L : Type 0} (nodes_in : L → List TreeNode) (bounds_in : L → List �
       pub few_returned : length splits ≤ core.settings.budget
       few_returned = let part = part_of (growth.Grown splits) found in few_grown core searcher fragment part.0 part.1 nodes splits part.2 sound of_core
 
-      module _ (editions : Edition) (best : Option ℕ) (mark : Mark) (spent : ℕ) (last : Option ℕ) (kept : AreKept core editions best mark spent last)
+      module _ (editions : Edition) (best : Option ℕ) (mark : Mark) (spent : ℕ) (last : Option ℕ) (kept : AreCountsKept core editions best mark spent last)
           (edition : ℕ) (newest_is : edition ≡ newest now.history) (count : ℕ) (count_is : count ≡ length splits) where
         counted : (if fragment.work.edition == edition then count else 0) ≡ splits_of (newest core.history) grown_entry
         counted =
@@ -163,10 +163,10 @@ module _ {L : Type 0} (nodes_in : L → List TreeNode) (bounds_in : L → List �
             omega (arith, counted, spent_grown core searcher fragment part.0 part.1 nodes splits part.2 sound of_core editions best mark spent last kept)
 
         pub both_returned : (later : ℕ) → later ≡ spent + (if fragment.work.edition == edition then count else 0) → (history : List Entry) → history ≡ core.history ++ grown_entry ∷ []
-            → AreKept (core_with core history nodes) editions best mark later last × IsSound (core_with core history nodes)
+            → AreCountsKept (core_with core history nodes) editions best mark later last × IsSound (core_with core history nodes)
         both_returned later later_is history history_is =
             let part = part_of (growth.Grown splits) found in
-            subst (λ (h : List Entry). AreKept (core_with core h nodes) editions best mark later last × IsSound (core_with core h nodes)) (sym history_is) (
+            subst (λ (h : List Entry). AreCountsKept (core_with core h nodes) editions best mark later last × IsSound (core_with core h nodes)) (sym history_is) (
               kept_grown core searcher fragment part.0 part.1 nodes splits part.2 sound of_core editions best mark spent last kept later (later_is ∙ ap (λ (k : ℕ). spent + k) counted),
               sound_grown core searcher fragment part.0 part.1 nodes splits part.2 sound of_core,
             )

@@ -19,7 +19,7 @@ use Rattle.history_laws.proofs.Appended.{changes_more, spent_more, mark_more, pl
 use Rattle.history_laws.proofs.Legality.{new_number}
 use Rattle.open_nodes.specs.States.{State}
 use Rattle.train_orders.proofs.Places.{get_kept}
-use Rattle.dispatch_core.specs.Kept.{IsCostUnder, IsLast, AreKept}
+use Rattle.dispatch_core.specs.Kept.{IsCostUnder, IsLastEntry, AreCountsKept}
 use Rattle.dispatch_core.specs.States.{Core, entered, with_nodes, IsSound}
 use Rattle.dispatch_core.proofs.Noting.{flagged_sound}
 
@@ -32,7 +32,7 @@ pub record IsSilent (entry : Entry) : Type 0 where
 
 -- where an entry publishes nothing, the last plan stands where it stood
 pub last_stays : (history : List Entry) (entry : Entry) (last : Option ℕ) → ((before : Option (List Event × ℕ)) → plan_after before entry ≡ before)
-    → IsLast history last → IsLast (history ++ entry ∷ []) last
+    → IsLastEntry history last → IsLastEntry (history ++ entry ∷ []) last
 last_stays history entry None same is = plan_more history entry ∙ same (last_plan history) ∙ is
 last_stays history entry (Some place) same is = record {
   edition = is.edition;
@@ -49,9 +49,9 @@ best_behind problem history entry fixings best same edition is =
     subst (λ (o : Option (List Event × ℕ)). IsCostUnder problem (edition_of (history ++ entry ∷ [])) o best) (sym (plan_more history entry ∙ same (last_plan history)))
     (subst (λ (fs : List Fixing). IsCostUnder problem fs (last_plan history) best) (sym edition) is)
 
-module _ (core : Core) (edition : Edition) (best : Option ℕ) (mark : Mark) (spent : ℕ) (last : Option ℕ) (kept : AreKept core edition best mark spent last) where
+module _ (core : Core) (edition : Edition) (best : Option ℕ) (mark : Mark) (spent : ℕ) (last : Option ℕ) (kept : AreCountsKept core edition best mark spent last) where
   -- behind a silent entry all is as it was
-  pub kept_silent : (entry : Entry) → IsSilent entry → AreKept (entered core entry) edition best mark spent last
+  pub kept_silent : (entry : Entry) → IsSilent entry → AreCountsKept (entered core entry) edition best mark spent last
   kept_silent entry silent =
       let changes : changes_of (core.history ++ entry ∷ []) ≡ changes_of core.history =
       changes_more core.history entry ∙ ap (λ (l : List Change). changes_of core.history ++ l) silent.change ∙ append-nil (changes_of core.history) in
@@ -69,13 +69,13 @@ module _ (core : Core) (edition : Edition) (best : Option ℕ) (mark : Mark) (sp
 
   -- with other flags too
   pub kept_flagged : (ended left : List Bool)
-      → AreKept (record { problem = core.problem; settings = core.settings; history = core.history; nodes = core.nodes; ended = ended; left = left }) edition best mark spent last
+      → AreCountsKept (record { problem = core.problem; settings = core.settings; history = core.history; nodes = core.nodes; ended = ended; left = left }) edition best mark spent last
   kept_flagged ended left = record { problem = kept.problem; changes = kept.changes; best_is = kept.best_is; mark_is = kept.mark_is; spent_is = kept.spent_is; last_is = kept.last_is }
 
   -- behind an accepted change the edition is new, and nothing is spent on it
   pub kept_accepted : (feed line : ℕ) (change : Change) (number : ℕ) (nodes : State) (later : Edition) (cost : Option ℕ) → IsLegal core.problem core.settings core.history
       → later ≡ with_changes edition (edition.changes ++ change ∷ []) → IsCostUnder core.problem (standing_of (changes_of core.history ++ change ∷ [])) (last_plan core.history) cost
-      → AreKept (with_nodes (entered core (Asked feed line change (Accepted number))) nodes) later cost Working 0 last
+      → AreCountsKept (with_nodes (entered core (Asked feed line change (Accepted number))) nodes) later cost Working 0 last
   kept_accepted feed line change number nodes later cost legal later_is cost_is =
       let asked : Entry = Asked feed line change (Accepted number) in
       let changes : changes_of (core.history ++ asked ∷ []) ≡ changes_of core.history ++ change ∷ [] = changes_more core.history asked in
@@ -94,7 +94,7 @@ module _ (core : Core) (edition : Edition) (best : Option ℕ) (mark : Mark) (sp
 
 -- what is kept is right, and the core sound
 abbrev pub IsWhole : Core → Edition → Option ℕ → Mark → ℕ → Option ℕ → Type 0
-IsWhole core edition best mark spent last = AreKept core edition best mark spent last × IsSound core
+IsWhole core edition best mark spent last = AreCountsKept core edition best mark spent last × IsSound core
 
 abbrev pub with_history : Core → List Entry → Core
 with_history core history = record { problem = core.problem; settings = core.settings; history = history; nodes = core.nodes; ended = core.ended; left = core.left }

@@ -14,7 +14,7 @@ use Rattle.disp_model.specs.Node.{Node, node_at, with_decision}
 use Rattle.disp_model.specs.Trees.{children_of}
 use Rattle.open_nodes.specs.Grafts.{FillPlaces}
 use Rattle.tree_growth.specs.Left.{AreLeft}
-use Rattle.dispatch_core.specs.Pending.{lists_below, nodes_of, IsNextOf, Leaves, LeavesNode, LeavesLeaf}
+use Rattle.dispatch_core.specs.Pending.{lists_below, nodes_under, IsNextOf, LeavesPending, LeavesNode, LeavesLeaf}
 
 -- an element and what is behind it
 dropped : {X : Type 0} (xs : List X) (i : ℕ) (x : X) → slice_get xs i ≡ Some x → drop i xs ≡ x ∷ drop (i + 1) xs
@@ -26,7 +26,7 @@ dropped {X} xs i x is =
 
 module _ (problem : Problem) (fixings : List Fixing) where
   -- the next one stands first
-  next_first : (behind : List (List Decision)) (above : List Decision) → nodes_of problem fixings (behind ++ above ∷ []) ≡ node_at problem fixings above ∷ nodes_of problem fixings behind
+  next_first : (behind : List (List Decision)) (above : List Decision) → nodes_under problem fixings (behind ++ above ∷ []) ≡ node_at problem fixings above ∷ nodes_under problem fixings behind
   next_first behind above = ap (map (λ ds. node_at problem fixings ds)) (reverse-append behind (above ∷ []))
 
   -- the nodes of the children
@@ -35,12 +35,12 @@ module _ (problem : Problem) (fixings : List Fixing) where
   children_are above (child ∷ children) = ap (λ (ns : List Node). node_at problem fixings (above ++ child ∷ []) ∷ ns) (children_are above children)
 
   -- the children of the next one stand before the others
-  children_first : (behind : List (List Decision)) (above children : List Decision) → nodes_of problem fixings (behind ++ reverse (lists_below above children))
-      ≡ map (with_decision (node_at problem fixings above)) children ++ nodes_of problem fixings behind
+  children_first : (behind : List (List Decision)) (above children : List Decision) → nodes_under problem fixings (behind ++ reverse (lists_below above children))
+      ≡ map (with_decision (node_at problem fixings above)) children ++ nodes_under problem fixings behind
   children_first behind above children =
       let below = lists_below above children in
       ap (map (λ ds. node_at problem fixings ds)) (reverse-append behind (reverse below) ∙ ap (λ (l : List (List Decision)). l ++ reverse behind) (reverse-reverse below))
-      ∙ map-append (λ ds. node_at problem fixings ds) below (reverse behind) ∙ ap (λ (ns : List Node). ns ++ nodes_of problem fixings behind) (children_are above children)
+      ∙ map-append (λ ds. node_at problem fixings ds) below (reverse behind) ∙ ap (λ (ns : List Node). ns ++ nodes_under problem fixings behind) (children_are above children)
 
   -- as many as the children
   how_many : (above children : List Decision) → length (lists_below above children) ≡ length children
@@ -52,7 +52,7 @@ module _ (problem : Problem) (fixings : List Fixing) where
 -- a leaf was looked at
 pub leaf_looked_at : (problem : Problem) (fixings : List Fixing) (bounds : List ℕ) (top : TreeNode) (leaf : TreeLeaf) → top ≡ Leaf leaf
     → (pending behind : List (List Decision)) (above : List Decision) → pending ≡ behind ++ above ∷ [] → (nodes after : List TreeNode) (least least_after : List ℕ)
-    → LeavesLeaf problem fixings bounds above leaf nodes after least least_after → Leaves problem fixings bounds top pending behind nodes after least least_after
+    → LeavesLeaf problem fixings bounds above leaf nodes after least least_after → LeavesPending problem fixings bounds top pending behind nodes after least least_after
 leaf_looked_at problem fixings bounds top leaf is pending behind above next nodes after least least_after l = record {
   above = above;
   behind = behind;
@@ -64,7 +64,7 @@ leaf_looked_at problem fixings bounds top leaf is pending behind above next node
 pub record IsLeftFrom (problem : Problem) (fixings : List Fixing) (start : List Decision) (tree : List TreeNode) (bounds : List ℕ) (i : ℕ) (pending : List (List Decision))
     (nodes : List TreeNode) (least : List ℕ) : Type 0 where
   pub fills : FillPlaces problem (length pending) (drop i tree) (drop (length least) bounds)
-  pub whole : (rest : List TreeNode) (others : List ℕ) → AreLeft (nodes_of problem fixings pending) (drop i tree) (drop (length least) bounds) rest others
+  pub whole : (rest : List TreeNode) (others : List ℕ) → AreLeft (nodes_under problem fixings pending) (drop i tree) (drop (length least) bounds) rest others
       → AreLeft (node_at problem fixings start ∷ []) tree bounds (nodes ++ rest) (least ++ others)
 
 module _ (problem : Problem) (fixings : List Fixing) (start : List Decision) (tree : List TreeNode) (bounds : List ℕ) where
@@ -77,7 +77,7 @@ module _ (problem : Problem) (fixings : List Fixing) (start : List Decision) (tr
   all_looked_at i pending nodes least past left =
       subst (λ (ns : List TreeNode). AreLeft (node_at problem fixings start ∷ []) tree bounds ns least) (append-nil nodes)
       (subst (λ (bs : List ℕ). AreLeft (node_at problem fixings start ∷ []) tree bounds (nodes ++ []) bs) (append-nil least)
-      (left.whole [] [] (subst (λ (rest : List TreeNode). AreLeft (nodes_of problem fixings pending) rest (drop (length least) bounds) [] []) (sym (drop_all i tree past)) (refl, refl))))
+      (left.whole [] [] (subst (λ (rest : List TreeNode). AreLeft (nodes_under problem fixings pending) rest (drop (length least) bounds) [] []) (sym (drop_all i tree past)) (refl, refl))))
 
   module _ (i : ℕ) (behind : List (List Decision)) (above : List Decision) (nodes : List TreeNode) (least : List ℕ)
       (left : IsLeftFrom problem fixings start tree bounds i (behind ++ above ∷ []) nodes least) where
@@ -90,10 +90,10 @@ module _ (problem : Problem) (fixings : List Fixing) (start : List Decision) (tr
         (subst (λ (k : ℕ). FillPlaces problem k (drop i tree) (drop (length least) bounds)) many left.fills)
 
     from_here : (top : TreeNode) → slice_get tree i ≡ Some top → (rest : List TreeNode) (others : List ℕ)
-        → AreLeft (node_at problem fixings above ∷ nodes_of problem fixings behind) (top ∷ drop (i + 1) tree) (drop (length least) bounds) rest others
+        → AreLeft (node_at problem fixings above ∷ nodes_under problem fixings behind) (top ∷ drop (i + 1) tree) (drop (length least) bounds) rest others
         → AreLeft (node_at problem fixings start ∷ []) tree bounds (nodes ++ rest) (least ++ others)
     from_here top is rest others are = left.whole rest others
-        (subst (λ (t : List TreeNode). AreLeft (nodes_of problem fixings (behind ++ above ∷ [])) t (drop (length least) bounds) rest others) (sym (dropped tree i top is))
+        (subst (λ (t : List TreeNode). AreLeft (nodes_under problem fixings (behind ++ above ∷ [])) t (drop (length least) bounds) rest others) (sym (dropped tree i top is))
         (subst (λ (ns : List Node). AreLeft ns (top ∷ drop (i + 1) tree) (drop (length least) bounds) rest others) (sym (next_first problem fixings behind above)) are))
 
     one_more : (top : TreeNode) → slice_get tree i ≡ Some top → (pending : List (List Decision)) (after : List TreeNode) (least_after : List ℕ)
@@ -108,12 +108,12 @@ module _ (problem : Problem) (fixings : List Fixing) (start : List Decision) (tr
           fills = subst (λ (p : List (List Decision)). FillPlaces problem (length p) (drop (i + 1) tree) (drop (length least_after) bounds)) (sym same)
               (subst (λ (bs : List ℕ). FillPlaces problem (length behind) (drop (i + 1) tree) bs) (sym next) fills);
           whole = λ rest others are.
-              let behind_it : AreLeft (nodes_of problem fixings behind) (drop (i + 1) tree) (drop (length least + 1) bounds) rest others =
-              subst (λ (bs : List ℕ). AreLeft (nodes_of problem fixings behind) (drop (i + 1) tree) bs rest others) next
-              (subst (λ (p : List (List Decision)). AreLeft (nodes_of problem fixings p) (drop (i + 1) tree) (drop (length least_after) bounds) rest others) same are) in
+              let behind_it : AreLeft (nodes_under problem fixings behind) (drop (i + 1) tree) (drop (length least + 1) bounds) rest others =
+              subst (λ (bs : List ℕ). AreLeft (nodes_under problem fixings behind) (drop (i + 1) tree) bs rest others) next
+              (subst (λ (p : List (List Decision)). AreLeft (nodes_under problem fixings p) (drop (i + 1) tree) (drop (length least_after) bounds) rest others) same are) in
               let from : AreLeft (node_at problem fixings start ∷ []) tree bounds (nodes ++ Leaf l.one ∷ rest) (least ++ l.less ∷ others) =
               from_here (Leaf leaf) is (Leaf l.one ∷ rest) (l.less ∷ others)
-              (subst (λ (bs : List ℕ). AreLeft (node_at problem fixings above ∷ nodes_of problem fixings behind) (Leaf leaf ∷ drop (i + 1) tree) bs (Leaf l.one ∷ rest) (l.less ∷ others)) (sym used)
+              (subst (λ (bs : List ℕ). AreLeft (node_at problem fixings above ∷ nodes_under problem fixings behind) (Leaf leaf ∷ drop (i + 1) tree) bs (Leaf l.one ∷ rest) (l.less ∷ others)) (sym used)
               (l.one, l.less, rest, others, l.left, behind_it, refl, refl)) in
               subst (λ (ns : List TreeNode). AreLeft (node_at problem fixings start ∷ []) tree bounds ns (least_after ++ others))
               (sym (ap (λ (ns : List TreeNode). ns ++ rest) l.nodes_are ∙ append_assoc nodes (Leaf l.one ∷ []) rest))
@@ -135,9 +135,9 @@ module _ (problem : Problem) (fixings : List Fixing) (start : List Decision) (tr
           fills = subst (λ (bs : List ℕ). FillPlaces problem (length pending) (drop (i + 1) tree) (drop (length bs) bounds)) (sym least_are)
               (subst (λ (k : ℕ). FillPlaces problem k (drop (i + 1) tree) (drop (length least) bounds)) long fills.1);
           whole = λ rest others are.
-              let below : AreLeft (map (with_decision (node_at problem fixings above)) cs ++ nodes_of problem fixings behind) (drop (i + 1) tree) (drop (length least) bounds) rest others =
-              subst (λ (ns : List Node). AreLeft ns (drop (i + 1) tree) (drop (length least) bounds) rest others) (ap (nodes_of problem fixings) same ∙ children_first problem fixings behind above cs)
-              (subst (λ (bs : List ℕ). AreLeft (nodes_of problem fixings pending) (drop (i + 1) tree) (drop (length bs) bounds) rest others) least_are are) in
+              let below : AreLeft (map (with_decision (node_at problem fixings above)) cs ++ nodes_under problem fixings behind) (drop (i + 1) tree) (drop (length least) bounds) rest others =
+              subst (λ (ns : List Node). AreLeft ns (drop (i + 1) tree) (drop (length least) bounds) rest others) (ap (nodes_under problem fixings) same ∙ children_first problem fixings behind above cs)
+              (subst (λ (bs : List ℕ). AreLeft (nodes_under problem fixings pending) (drop (i + 1) tree) (drop (length bs) bounds) rest others) least_are are) in
               let from : AreLeft (node_at problem fixings start ∷ []) tree bounds (nodes ++ Branch choice children ∷ rest) (least ++ others) =
               from_here (Branch choice children) is (Branch choice children ∷ rest) others (rest, below, refl) in
               subst (λ (ns : List TreeNode). AreLeft (node_at problem fixings start ∷ []) tree bounds ns (least_after ++ others))
@@ -153,7 +153,7 @@ module _ (problem : Problem) (fixings : List Fixing) (start : List Decision) (tr
 
   -- what is left from the next place on
   pub looked_at : (i : ℕ) (top : TreeNode) → slice_get tree i ≡ Some top → (pending pending_after : List (List Decision)) (nodes after : List TreeNode) (least least_after : List ℕ)
-      → IsLeftFrom problem fixings start tree bounds i pending nodes least → Leaves problem fixings bounds top pending pending_after nodes after least least_after
+      → IsLeftFrom problem fixings start tree bounds i pending nodes least → LeavesPending problem fixings bounds top pending pending_after nodes after least least_after
       → IsLeftFrom problem fixings start tree bounds (i + 1) pending_after after least_after
   looked_at i top is pending pending_after nodes after least least_after left l =
       one_more i l.behind l.above nodes least (subst (λ (p : List (List Decision)). IsLeftFrom problem fixings start tree bounds i p nodes least) l.next left) top is pending_after after least_after l.leaves

@@ -33,7 +33,7 @@ use Rattle.tree_growth.proofs.Filling.{keeps_fill}
 use Rattle.tree_growth.proofs.Leaving.{all_left, left_keeps}
 use Rattle.dispatch_core.specs.Asked.{IsGrowth}
 use Rattle.dispatch_core.specs.Pending.{lists_below}
-use Rattle.dispatch_core.specs.Remaining.{IsWithdrawal, AreFixings, AreLeftOf, with_tree}
+use Rattle.dispatch_core.specs.Remaining.{IsWithdrawal, AreFixingChanges, AreLeftOf, with_tree}
 use Rattle.dispatch_core.specs.States.{Core, IsSound}
 use Rattle.dispatch_core.proofs.Behind.{stands_behind}
 use Rattle.dispatch_core.proofs.Leaving.{children_are}
@@ -106,7 +106,7 @@ module _ (problem : Problem) (changes : List Change) (edition : IsEdition proble
           (take_all (from + length changes) changes (omega arith)) (on (length changes) keeps)
 
 -- the changes behind the first ones, by their places
-dropped_fixings : (from : ℕ) (changes : List Change) → AreFixings (drop from changes) → (i : ℕ) (change : Change) → from ≤ i → slice_get changes i ≡ Some change → IsWithdrawal change → ⊥
+dropped_fixings : (from : ℕ) (changes : List Change) → AreFixingChanges (drop from changes) → (i : ℕ) (change : Change) → from ≤ i → slice_get changes i ≡ Some change → IsWithdrawal change → ⊥
 dropped_fixings from [] fixings i change later at = absurd (none-some change at)
 dropped_fixings zero (first ∷ changes) fixings zero change later at = subst (λ (c : Change). IsWithdrawal c → ⊥) (same_Some first change at) (All-head (λ c. IsWithdrawal c → ⊥) first changes fixings)
 dropped_fixings zero (first ∷ changes) fixings (suc i) change later at = dropped_fixings zero changes (All-tail (λ c. IsWithdrawal c → ⊥) first changes fixings) i change (omega arith) at
@@ -114,7 +114,7 @@ dropped_fixings (suc from) (first ∷ changes) fixings zero change later at = ab
 dropped_fixings (suc from) (first ∷ changes) fixings (suc i) change later at = dropped_fixings from changes fixings i change (omega (arith, later)) at
 
 -- all of a fragment is left
-pub all_stays : (core : Core) → IsSound core → (fragment : Fragment) → IsGrowth core fragment → AreFixings (drop fragment.work.edition (changes_of core.history))
+pub all_stays : (core : Core) → IsSound core → (fragment : Fragment) → IsGrowth core fragment → AreFixingChanges (drop fragment.work.edition (changes_of core.history))
     → AreLeftOf core fragment fragment.subtree fragment.bounds
 all_stays core sound fragment growth fixings =
     let node = node_at core.problem (edition_of core.history) fragment.work.decisions in

@@ -20,7 +20,7 @@ use Rattle.open_nodes.proofs.Keeping.{same_above}
 use Rattle.open_nodes.proofs.Holding.{decisions_same}
 use Rattle.tree_growth.specs.Keeping.{AllKeep}
 use Rattle.tree_replay.specs.Replayed.{IsReplayed}
-use Rattle.dispatch_core.specs.States.{Core, with_nodes, IsErrand, IsExamined, IsMarked, IsSound}
+use Rattle.dispatch_core.specs.States.{Core, with_nodes, IsErrand, IsExamined, IsPlaceMarked, IsSound}
 
 -- what holds of each element of a list holds where one is replaced, if it holds of the new one
 pub each_set : {X : Type 0} (P : ℕ → X → Type 0) (xs : List X) (n : ℕ) (x q : X) → slice_get xs n ≡ Some x → ((m : ℕ) (p : X) → m ≢ n → slice_get xs m ≡ Some p → P m p) → P n q
@@ -53,7 +53,7 @@ pub errand_over : (core : Core) (nodes : State) (n : ℕ) (place : Place) (erran
 errand_over core nodes n place errand is = record { seen = is.seen; edition = is.edition; best = is.best; leaf = is.leaf; bound = is.bound }
 
 pub mark_over : (core : Core) (nodes : State) (n : ℕ) (place : Place) (edition : ℕ) → decisions_of nodes.places n ≡ decisions_of core.nodes.places n
-    → IsMarked core n place edition → IsMarked (with_nodes core nodes) n place edition
+    → IsPlaceMarked core n place edition → IsPlaceMarked (with_nodes core nodes) n place edition
 mark_over core nodes n place edition same is = record {
   within = is.within;
   examined = λ e. subst (λ (ds : List Decision). IsExamined core.settings.rule (node_at core.problem (edition_of core.history) ds) place.bound) (sym same) (is.examined e);
@@ -71,7 +71,7 @@ module _ (core : Core) (sound : IsSound core) (n : ℕ) (x q : Place) (there : s
       → ((edition : ℕ) → spent_on edition core.history + (sum_by (λ (r : Place). allowance_for edition r.out) core.nodes.places + allowance_for edition q.out)
       ≤ core.settings.budget + allowance_for edition x.out)
       → ((errand : Errand) → q.out ≡ Some errand → IsErrand core n q errand)
-      → ((edition : ℕ) → q.examined ≡ Some edition → IsMarked core n q edition)
+      → ((edition : ℕ) → q.examined ≡ Some edition → IsPlaceMarked core n q edition)
       → IsSound (with_nodes core replaced)
   replaced_sound tree replayed keep covers errand mark = record {
     legal = sound.legal;
@@ -84,7 +84,7 @@ module _ (core : Core) (sound : IsSound core) (n : ℕ) (x q : Place) (there : s
     cost = sound.cost;
     errands = λ m p e at out. each_set (λ (k : ℕ) (r : Place). (f : Errand) → r.out ≡ Some f → IsErrand (with_nodes core replaced) k r f) core.nodes.places n x q there
         (λ k r other is f o. errand_over core replaced k r f (sound.errands k r f is o)) (λ f o. errand_over core replaced n q f (errand f o)) m p at e out;
-    marks = λ m p e at marked. each_set (λ (k : ℕ) (r : Place). (f : ℕ) → r.examined ≡ Some f → IsMarked (with_nodes core replaced) k r f) core.nodes.places n x q there
+    marks = λ m p e at marked. each_set (λ (k : ℕ) (r : Place). (f : ℕ) → r.examined ≡ Some f → IsPlaceMarked (with_nodes core replaced) k r f) core.nodes.places n x q there
         (λ k r other is f o. mark_over core replaced k r f (same_decisions k (slice_get_within core.nodes.places k r is)) (sound.marks k r f is o))
         (λ f o. mark_over core replaced n q f (same_decisions n (slice_get_within core.nodes.places n x there)) (mark f o)) m p at e marked;
   }

@@ -18,14 +18,14 @@ use Rattle.open_nodes.specs.States.{State, allowance_for, allowed_of, out_count,
 use Rattle.dispatch_core.specs.declared.event.CoreReply.{CoreReply}
 use Rattle.dispatch_core.specs.declared.event.CoreReply.TheVariants as reply
 use Rattle.dispatch_core.specs.Asked.{MayGiveBack}
-use Rattle.dispatch_core.specs.Kept.{AreKept}
+use Rattle.dispatch_core.specs.Kept.{AreCountsKept}
 use Rattle.dispatch_core.specs.Replies.{IsCurrent, IsTake, IsGiveBack}
 use Rattle.dispatch_core.specs.States.{Core, with_nodes, free_of, IsSound}
 use Rattle.dispatch_core.proofs.Taking.{takes_sound, back_sound}
 
 -- what is kept beside the state does not depend on the tree
-pub kept_beside : (core : Core) (edition : Edition) (best : Option ℕ) (mark : Mark) (spent : ℕ) (last : Option ℕ) → AreKept core edition best mark spent last
-    → (nodes : State) → AreKept (with_nodes core nodes) edition best mark spent last
+pub kept_beside : (core : Core) (edition : Edition) (best : Option ℕ) (mark : Mark) (spent : ℕ) (last : Option ℕ) → AreCountsKept core edition best mark spent last
+    → (nodes : State) → AreCountsKept (with_nodes core nodes) edition best mark spent last
 kept_beside core edition best mark spent last kept nodes =
     record { problem = kept.problem; changes = kept.changes; best_is = kept.best_is; mark_is = kept.mark_is; spent_is = kept.spent_is; last_is = kept.last_is }
 
@@ -81,7 +81,7 @@ pub record Answered (core : Core) (edition want spent : ℕ) (answer : Take) (no
   pub takes : Takes core.nodes best (free_of core) want (length core.history) answer nodes
 
 -- asked by what is kept beside the state
-pub asked_by : (core now : Core) → core ≡ now → (editions : Edition) (best : Option ℕ) (mark : Mark) (spent : ℕ) (last : Option ℕ) → AreKept core editions best mark spent last
+pub asked_by : (core now : Core) → core ≡ now → (editions : Edition) (best : Option ℕ) (mark : Mark) (spent : ℕ) (last : Option ℕ) → AreCountsKept core editions best mark spent last
     → (edition want free seen : ℕ) → IsCurrent now edition → free ≡ free_of now → seen ≡ length core.history → (answer : Take) (nodes : State)
     → Takes core.nodes best free want seen answer nodes → Answered core edition want spent answer nodes
 asked_by core now same editions best mark spent last kept edition want free seen current free_is seen_is answer nodes takes = record {

@@ -26,7 +26,7 @@ use Rattle.open_nodes.specs.declared.place.Place.{Place}
 use Rattle.open_nodes.specs.Grafts.{kind_of}
 use Rattle.open_nodes.specs.Preorder.{preorder, IsNotAt, IsFirstSought}
 use Rattle.open_nodes.specs.Shown.{leaf_in}
-use Rattle.open_nodes.specs.States.{decisions_of, IsBelow, IsWanted, HaveBounds, HasBound}
+use Rattle.open_nodes.specs.States.{decisions_of, IsBoundBelow, IsWanted, HaveBounds, HasBound}
 use Rattle.open_nodes.proofs.Joining.{IsIn}
 use Rattle.open_nodes.proofs.Touching.{open_no_branch}
 use Rattle.tree_growth.specs.Grown.{KeepsBound}
@@ -36,7 +36,7 @@ use Rattle.tree_replay.proofs.Showing.{on_links, numbers_are, shows_one, leaf_or
 use Rattle.tree_replay.proofs.Telling.{tells_leaves, tells_back}
 use Rattle.dispatch_core.specs.declared.event.CoreReply.{CoreReply}
 use Rattle.dispatch_core.specs.declared.event.CoreReply.TheVariants as reply
-use Rattle.dispatch_core.specs.Replies.{IsCurrent, IsStop, IsStopped}
+use Rattle.dispatch_core.specs.Replies.{IsCurrent, IsStopBound, IsStopReply}
 use Rattle.dispatch_core.specs.States.{Core, entered, IsExamined, IsSound}
 use Rattle.dispatch_core.proofs.Noting.{cost_stays, entered_sound}
 use Rattle.dispatch_core.proofs.Publishing.{current_works}
@@ -64,7 +64,7 @@ below_best : (best : Option ℕ) (bound : ℕ) → ((other : ℕ) → best ≡ S
 below_best None bound less = tt
 below_best (Some cost) bound less = less cost refl
 
-is_below : (best : Option ℕ) (bound less : ℕ) → less ≤ bound → MatchOption best (Unit {0}) (λ cost. bound < cost) → IsBelow less best
+is_below : (best : Option ℕ) (bound less : ℕ) → less ≤ bound → MatchOption best (Unit {0}) (λ cost. bound < cost) → IsBoundBelow less best
 is_below None bound less le below = tt
 is_below (Some cost) bound less le below = omega (arith, le, below)
 
@@ -101,7 +101,7 @@ have_bounds bound (p ∷ places) have (suc n) place there kind = have_bounds bou
 
 -- ---- stopping
 
-module _ (core : Core) (sound : IsSound core) (bound : ℕ) (stop : IsStop core bound) where
+module _ (core : Core) (sound : IsSound core) (bound : ℕ) (stop : IsStopBound core bound) where
   abbrev node_of : List Decision → Node
   node_of above = node_at core.problem (edition_of core.history) above
 
@@ -186,7 +186,7 @@ module _ (core : Core) (sound : IsSound core) (bound : ℕ) (stop : IsStop core 
       entered_sound core stopped (record { change = refl; growth = λ g. refl; splits = λ n. refl }) sound (stop_legal edition current)
       (cost_stays core.history stopped (λ b. refl) sound.cost)
 
-pub stops_sound : (core : Core) (edition : ℕ) (told : CoreReply) (after : Core) → IsSound core → IsStopped core edition told after → IsSound after
+pub stops_sound : (core : Core) (edition : ℕ) (told : CoreReply) (after : Core) → IsSound core → IsStopReply core edition told after → IsSound after
 stops_sound core edition (reply.NotSpent spent) after sound is = subst IsSound (sym is.3) sound
 stops_sound core edition reply.Ripe after sound is = subst IsSound (sym is.3) sound
 stops_sound core edition (reply.Unexamined node) after sound is = subst IsSound (sym is.3) sound

@@ -31,7 +31,7 @@ use Rattle.tree_replay.proofs.Telling.{tells_leaves}
 use Rattle.history_laws.proofs.Appended.{newest_front}
 use Rattle.dispatch_core.specs.declared.event.CoreReply.{CoreReply}
 use Rattle.dispatch_core.specs.declared.event.CoreReply.TheVariants as reply
-use Rattle.dispatch_core.specs.States.{Core, with_nodes, free_of, IsErrand, IsExamined, IsMarked, IsSound}
+use Rattle.dispatch_core.specs.States.{Core, with_nodes, free_of, IsErrand, IsExamined, IsPlaceMarked, IsSound}
 use Rattle.dispatch_core.specs.Asked.{MayGiveBack}
 use Rattle.dispatch_core.specs.Replies.{TakesFrom, IsTake, GivesIn, IsGiveBack}
 use Rattle.dispatch_core.proofs.Replacing.{replaced, replaced_sound, newest_fixings}
@@ -98,7 +98,7 @@ module _ (core : Core) (sound : IsSound core) where
       (takes_keep core.settings.rule core.problem (edition_of core.history) core.nodes sound.tree sound.keep from.best (free_of core) want (length core.history) (take.Taken work) from.nodes from.takes))
       (λ k. let covered = allowance_covered (errand_of work) (ap (λ (r : Errand). r.edition) e) few k in omega (arith, covered))
       (λ f out. subst (λ (r : Errand). IsErrand core n q r) (same_Some (errand_of work) f out) errand)
-      (λ k marked_for. let old : IsMarked core n x k = sound.marks n x k sends.there marked_for in record { within = old.within; examined = old.examined }) in
+      (λ k marked_for. let old : IsPlaceMarked core n x k = sound.marks n x k sends.there marked_for in record { within = old.within; examined = old.examined }) in
       subst IsSound (sym from.after_is) (subst (λ (s : State). IsSound (with_nodes core s)) (sym sends.after_is) whole)
 
   -- what is answered of a take keeps the core sound
@@ -113,9 +113,9 @@ module _ (core : Core) (sound : IsSound core) where
 
   -- it is marked for the edition of its work where it was examined, and as before otherwise
   back_marked : (work : Work) (x : Place) (mark : Option ℕ) → IsOut core.nodes.places work x → (examined : Bool) → MayGiveBack core work examined → (edition : ℕ)
-      → (if examined then Some work.edition else x.examined) ≡ Some edition → IsMarked core work.node (marked x mark) edition
+      → (if examined then Some work.edition else x.examined) ≡ Some edition → IsPlaceMarked core work.node (marked x mark) edition
   back_marked work x mark out false may edition e =
-      let old : IsMarked core work.node x edition = sound.marks work.node x edition out.there e in
+      let old : IsPlaceMarked core work.node x edition = sound.marks work.node x edition out.there e in
       record { within = old.within; examined = old.examined }
   back_marked work x mark out true may edition e =
       let errand : IsErrand core work.node x (errand_of work) = sound.errands work.node x (errand_of work) out.there out.out in

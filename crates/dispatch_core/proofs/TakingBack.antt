@@ -15,7 +15,7 @@ use Rattle.disp_model.specs.Changes.{withdraws, is_withdrawn, standing_from, sta
 use Rattle.disp_model.specs.Replies.{IsReply, IsEdition}
 use Rattle.fixing_editions.proofs.Accepting.{accepted_back, change_within}
 use Rattle.open_nodes.proofs.Places.{get_set_same, get_set_other}
-use Rattle.dispatch_core.specs.Falling.{noted_by, left_standing, AreTakenBack}
+use Rattle.dispatch_core.specs.Falling.{noted_by, fixings_left_standing, AreTakenBack}
 
 -- ---- one more change
 
@@ -80,13 +80,13 @@ abbrev pub standing_rest : List Change → ℕ → List Fixing
 standing_rest changes place = map (λ p. p.1) (standing_from changes (place + 1) (drop place changes))
 
 stands_first : (all rest : List Change) (n : ℕ) (change : Change) (taken : Bool) → taken ≡ is_withdrawn n all
-    → map (λ p. p.1) (standing_from all n (change ∷ rest)) ≡ left_standing change taken ++ map (λ p. p.1) (standing_from all (n + 1) rest)
+    → map (λ p. p.1) (standing_from all n (change ∷ rest)) ≡ fixings_left_standing change taken ++ map (λ p. p.1) (standing_from all (n + 1) rest)
 stands_first all rest n (Withdraw number) taken is = refl
 stands_first all rest n (Fix fixing) true is = rw (sym is) refl
 stands_first all rest n (Fix fixing) false is = rw (sym is) refl
 
 rest_opens : (changes : List Change) (taken : List Bool) (k : ℕ) (d : Change) (flag : Bool) → AreTakenBack changes taken → flag ≡ get_or taken k flag → k < length changes
-    → standing_rest changes k ≡ left_standing (get_or changes k d) flag ++ standing_rest changes (k + 1)
+    → standing_rest changes k ≡ fixings_left_standing (get_or changes k d) flag ++ standing_rest changes (k + 1)
 rest_opens changes taken k d flag are flag_is lt =
     let opens : drop k changes ≡ get_or changes k d ∷ drop (k + 1) changes = rw (add-one, drop-cons changes k d) refl in
     let is : flag ≡ is_withdrawn (k + 1) changes = are.1 k flag (slice_get_read taken (length taken) k flag refl (omega (arith, lt, are.0)) flag_is) in
@@ -94,9 +94,9 @@ rest_opens changes taken k d flag are flag_is lt =
 
 -- the loop's step: what is kept, before what stands of the rest, is what stands
 pub stands_more : (changes : List Change) (taken : List Bool) (k : ℕ) (d : Change) (flag : Bool) (kept : List Fixing) → AreTakenBack changes taken → flag ≡ get_or taken k flag → k < length changes
-    → kept ++ standing_rest changes k ≡ standing_of changes → (kept ++ left_standing (get_or changes k d) flag) ++ standing_rest changes (k + 1) ≡ standing_of changes
+    → kept ++ standing_rest changes k ≡ standing_of changes → (kept ++ fixings_left_standing (get_or changes k d) flag) ++ standing_rest changes (k + 1) ≡ standing_of changes
 stands_more changes taken k d flag kept are flag_is lt all =
-    append_assoc kept (left_standing (get_or changes k d) flag) (standing_rest changes (k + 1)) ∙ ap (λ (l : List Fixing). kept ++ l) (sym (rest_opens changes taken k d flag are flag_is lt)) ∙ all
+    append_assoc kept (fixings_left_standing (get_or changes k d) flag) (standing_rest changes (k + 1)) ∙ ap (λ (l : List Fixing). kept ++ l) (sym (rest_opens changes taken k d flag are flag_is lt)) ∙ all
 
 -- ---- a fixing at the end
 

@@ -5,14 +5,14 @@ use Rattle.disp_model.specs.Node.{node_at}
 use Rattle.disp_model.specs.History.{fixings_after}
 use Rattle.open_nodes.specs.declared.work.Work.{Work}
 use Rattle.open_nodes.specs.declared.work.Fragment.{Fragment}
-use Rattle.tree_growth.specs.Grown.{Grows, branches}
+use Rattle.tree_growth.specs.Grown.{GrowsBelow, branches}
 use Rattle.dispatch_core.specs.declared.event.CoreEvent.{CoreEvent}
 use Rattle.dispatch_core.specs.declared.event.CoreEvent.TheVariants as event
 use Rattle.dispatch_core.specs.States.{Core, IsExamined}
 
 -- under the fixings of its work's edition the fragment grows at the work's node, by no more branches than were allowed
 pub record IsGrowth (core : Core) (fragment : Fragment) : Type 0 where
-  pub grows : Grows core.settings.rule fragment.work.best (node_at core.problem (fixings_after fragment.work.edition core.history) fragment.work.decisions ∷ []) fragment.subtree fragment.bounds
+  pub grows : GrowsBelow core.settings.rule fragment.work.best (node_at core.problem (fixings_after fragment.work.edition core.history) fragment.work.decisions ∷ []) fragment.subtree fragment.bounds
   pub few : branches fragment.subtree ≤ fragment.work.allowance
 
 -- a work comes back as examined only where it is

@@ -21,10 +21,10 @@ noted_by taken (Fix fixing) = taken
 noted_by taken (Withdraw number) = noted_back taken number
 
 -- the fixing that a change leaves standing, where it is not taken back
-abbrev pub left_standing : Change → Bool → List Fixing
-left_standing (Fix fixing) true = []
-left_standing (Fix fixing) false = fixing ∷ []
-left_standing (Withdraw number) taken = []
+abbrev pub fixings_left_standing : Change → Bool → List Fixing
+fixings_left_standing (Fix fixing) true = []
+fixings_left_standing (Fix fixing) false = fixing ∷ []
+fixings_left_standing (Withdraw number) taken = []
 
 -- the flag of each change is set exactly where it is taken back
 abbrev pub AreTakenBack : List Change → List Bool → Type 0

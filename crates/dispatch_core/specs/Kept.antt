@@ -26,15 +26,15 @@ pub record IsLastAt (history : List Entry) (place : ℕ) : Type 0 where
   pub there : slice_get history place ≡ Some (Published edition plan cost)
   pub last : last_plan history ≡ Some (plan, cost)
 
-abbrev pub IsLast : List Entry → Option ℕ → Type 0
-IsLast history None = last_plan history ≡ None
-IsLast history (Some place) = IsLastAt history place
+abbrev pub IsLastEntry : List Entry → Option ℕ → Type 0
+IsLastEntry history None = last_plan history ≡ None
+IsLastEntry history (Some place) = IsLastAt history place
 
 -- the changes are those of the history, and so are the best cost, the mark and what is spent
-pub record AreKept (core : Core) (edition : Edition) (best : Option ℕ) (mark : Mark) (spent : ℕ) (last : Option ℕ) : Type 0 where
+pub record AreCountsKept (core : Core) (edition : Edition) (best : Option ℕ) (mark : Mark) (spent : ℕ) (last : Option ℕ) : Type 0 where
   pub problem : edition.problem ≡ core.problem
   pub changes : edition.changes ≡ changes_of core.history
   pub best_is : IsBestCost core.problem core.history best
   pub mark_is : mark ≡ mark_of (newest core.history) core.history
   pub spent_is : spent ≡ spent_on (newest core.history) core.history
-  pub last_is : IsLast core.history last
+  pub last_is : IsLastEntry core.history last

@@ -17,8 +17,8 @@ lists_below above [] = []
 lists_below above (child ∷ children) = (above ++ child ∷ []) ∷ lists_below above children
 
 -- the nodes of pending places, the next one first
-abbrev pub nodes_of : Problem → List Fixing → List (List Decision) → List Node
-nodes_of problem fixings pending = map (λ decisions. node_at problem fixings decisions) (reverse pending)
+abbrev pub nodes_under : Problem → List Fixing → List (List Decision) → List Node
+nodes_under problem fixings pending = map (λ decisions. node_at problem fixings decisions) (reverse pending)
 
 -- the leaf of the next place was looked at: what is left of it and of its bound stands behind the rest
 pub record LeavesLeaf (problem : Problem) (fixings : List Fixing) (bounds : List ℕ) (above : List Decision) (leaf : TreeLeaf)
@@ -45,7 +45,7 @@ abbrev pub IsNextOf : Problem → List (List Decision) → TreeNode → List ℕ
 IsNextOf problem pending top bounds = (rest : List TreeNode) × FillPlaces problem (length pending) (top ∷ rest) bounds
 
 -- one node more was looked at
-pub record Leaves (problem : Problem) (fixings : List Fixing) (bounds : List ℕ) (top : TreeNode) (pending pending_after : List (List Decision))
+pub record LeavesPending (problem : Problem) (fixings : List Fixing) (bounds : List ℕ) (top : TreeNode) (pending pending_after : List (List Decision))
     (nodes after : List TreeNode) (least least_after : List ℕ) : Type 0 where
   pub above : List Decision
   pub behind : List (List Decision)

@@ -15,8 +15,8 @@ IsWithdrawal (Fix fixing) = ⊥
 IsWithdrawal (Withdraw number) = Unit {0}
 
 -- none of these changes takes one back
-abbrev pub AreFixings : List Change → Type 0
-AreFixings changes = All (λ change. IsWithdrawal change → ⊥) changes
+abbrev pub AreFixingChanges : List Change → Type 0
+AreFixingChanges changes = All (λ change. IsWithdrawal change → ⊥) changes
 
 -- these nodes and bounds are what is left of the fragment's
 abbrev pub AreLeftOf : Core → Fragment → List TreeNode → List ℕ → Type 0

@@ -62,7 +62,7 @@ pub record Asks (core : Core) (feed line : ℕ) (change : Change) (told : Reply)
   pub tree : IsTreeAfter core change told nodes
   pub after_is : after ≡ with_nodes (entered core (entry.Asked feed line change told)) nodes
 
-pub record Shows (core : Core) (feed line : ℕ) (standing : Standing) (after : Core) : Type 0 where
+pub record ShowsStanding (core : Core) (feed line : ℕ) (standing : Standing) (after : Core) : Type 0 where
   pub standing_is : IsStanding core.problem core.history standing
   pub after_is : after ≡ entered core (entry.Shown feed line standing)
 
@@ -73,14 +73,14 @@ abbrev pub with_left : Core → ℕ → Core
 with_left core searcher = record { problem = core.problem; settings = core.settings; history = core.history; nodes = core.nodes; ended = core.ended; left = slice_set core.left searcher true }
 
 -- how many have not ended
-abbrev pub open_count : List Bool → ℕ
-open_count ended = count_by (λ e. if e then false else true) ended
+abbrev pub open_feed_count : List Bool → ℕ
+open_feed_count ended = count_by (λ e. if e then false else true) ended
 
-abbrev pub IsNext : Core → CoreReply → Type 0
-IsNext core (reply.Work edition) = (edition ≡ newest core.history) × (mark_of (newest core.history) core.history ≡ Working)
-IsNext core (reply.FeedsOpen count) = (mark_of (newest core.history) core.history ≢ Working) × (count ≡ open_count core.ended) × (1 ≤ count)
-IsNext core reply.Over = (mark_of (newest core.history) core.history ≢ Working) × (open_count core.ended ≡ 0)
-IsNext core _ = ⊥
+abbrev pub IsNextReply : Core → CoreReply → Type 0
+IsNextReply core (reply.Work edition) = (edition ≡ newest core.history) × (mark_of (newest core.history) core.history ≡ Working)
+IsNextReply core (reply.FeedsOpen count) = (mark_of (newest core.history) core.history ≢ Working) × (count ≡ open_feed_count core.ended) × (1 ≤ count)
+IsNextReply core reply.Over = (mark_of (newest core.history) core.history ≢ Working) × (open_feed_count core.ended ≡ 0)
+IsNextReply core _ = ⊥
 
 -- ---- searchers
 
@@ -164,7 +164,7 @@ IsSettle core edition (reply.Settled verdict) after = IsCurrent core edition × 
 IsSettle core edition told after = NotCurrent core edition told × (after ≡ core)
 
 -- the budget is spent, and each wanted leaf, of which there are some, is examined; the bound is the least of theirs
-pub record IsStop (core : Core) (bound : ℕ) : Type 0 where
+pub record IsStopBound (core : Core) (bound : ℕ) : Type 0 where
   pub spent : spent_on (newest core.history) core.history ≡ core.settings.budget
   pub best : Option ℕ
   pub best_is : IsBestCost core.problem core.history best
@@ -172,12 +172,12 @@ pub record IsStop (core : Core) (bound : ℕ) : Type 0 where
   pub least : IsLeastBound core.nodes.places (Some bound)
   pub below : (other : ℕ) → best ≡ Some other → bound < other
 
-abbrev pub IsStopped : Core → ℕ → CoreReply → Core → Type 0
-IsStopped core edition (reply.NotSpent spent) after = IsCurrent core edition × (spent ≡ spent_on (newest core.history) core.history) × (spent < core.settings.budget) × (after ≡ core)
-IsStopped core edition reply.Ripe after = IsCurrent core edition × (spent_on (newest core.history) core.history ≡ core.settings.budget) × ((verdict : Verdict) × IsRipe core verdict) × (after ≡ core)
-IsStopped core edition (reply.Unexamined node) after = IsCurrent core edition × (spent_on (newest core.history) core.history ≡ core.settings.budget) × ((bound : ℕ) × IsStillOpen core (Some (newest core.history)) node bound) × (after ≡ core)
-IsStopped core edition (reply.Stopped bound) after = IsCurrent core edition × IsStop core bound × (after ≡ entered core (entry.Stopped edition (spent_on (newest core.history) core.history) bound))
-IsStopped core edition told after = NotCurrent core edition told × (after ≡ core)
+abbrev pub IsStopReply : Core → ℕ → CoreReply → Core → Type 0
+IsStopReply core edition (reply.NotSpent spent) after = IsCurrent core edition × (spent ≡ spent_on (newest core.history) core.history) × (spent < core.settings.budget) × (after ≡ core)
+IsStopReply core edition reply.Ripe after = IsCurrent core edition × (spent_on (newest core.history) core.history ≡ core.settings.budget) × ((verdict : Verdict) × IsRipe core verdict) × (after ≡ core)
+IsStopReply core edition (reply.Unexamined node) after = IsCurrent core edition × (spent_on (newest core.history) core.history ≡ core.settings.budget) × ((bound : ℕ) × IsStillOpen core (Some (newest core.history)) node bound) × (after ≡ core)
+IsStopReply core edition (reply.Stopped bound) after = IsCurrent core edition × IsStopBound core bound × (after ≡ entered core (entry.Stopped edition (spent_on (newest core.history) core.history) bound))
+IsStopReply core edition told after = NotCurrent core edition told × (after ≡ core)
 
 -- ---- every event
 
@@ -190,7 +190,7 @@ IsAsk core feed line change (reply.Asked told) after = Asks core feed line chang
 IsAsk core feed line change _ after = ⊥
 
 abbrev pub IsShow : Core → ℕ → ℕ → CoreReply → Core → Type 0
-IsShow core feed line (reply.Shown standing) after = Shows core feed line standing after
+IsShow core feed line (reply.Shown standing) after = ShowsStanding core feed line standing after
 IsShow core feed line _ after = ⊥
 
 -- what is replied to an event, and the state then
@@ -200,13 +200,13 @@ Steps core (event.Unread feed line why) told after = IsNoted told × (after ≡ 
 Steps core (event.Show feed line) told after = IsShow core feed line told after
 Steps core (event.FeedEnd feed) told after = IsNoted told × (after ≡ with_ended core feed)
 Steps core (event.Leave searcher) told after = IsNoted told × (after ≡ with_left core searcher)
-Steps core event.Next told after = IsNext core told × (after ≡ core)
+Steps core event.Next told after = IsNextReply core told × (after ≡ core)
 Steps core (event.Take searcher edition want) told after = IsTake core edition want told after
 Steps core (event.Grow searcher fragment) told after = IsGrow core searcher fragment told after
 Steps core (event.GiveBack work examined) told after = IsGiveBack core work examined told after
 Steps core (event.Publish edition plan) told after = IsPublish core edition plan told after
 Steps core (event.Settle edition) told after = IsSettle core edition told after
-Steps core (event.Stop edition) told after = IsStopped core edition told after
+Steps core (event.Stop edition) told after = IsStopReply core edition told after
 
 -- the event may want memory; each other one is answered without
 abbrev pub TakesMemory : CoreEvent → Type 0

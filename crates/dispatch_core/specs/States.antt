@@ -70,12 +70,12 @@ pub record IsExamined (rule : Rule) (node : Node) (bound : ℕ) : Type 0 where
   pub picked : IsPicked node rule (Some choice)
 
 -- leaves are marked as examined for the newest edition at most, and those are
-pub record IsMarked (core : Core) (n : ℕ) (place : Place) (edition : ℕ) : Type 0 where
+pub record IsPlaceMarked (core : Core) (n : ℕ) (place : Place) (edition : ℕ) : Type 0 where
   pub within : edition ≤ newest core.history
   pub examined : edition ≡ newest core.history → IsExamined core.settings.rule (node_at core.problem (edition_of core.history) (decisions_of core.nodes.places n)) place.bound
 
 abbrev pub AreMarked : Core → Type 0
-AreMarked core = (n : ℕ) (place : Place) (edition : ℕ) → slice_get core.nodes.places n ≡ Some place → place.examined ≡ Some edition → IsMarked core n place edition
+AreMarked core = (n : ℕ) (place : Place) (edition : ℕ) → slice_get core.nodes.places n ≡ Some place → place.examined ≡ Some edition → IsPlaceMarked core n place edition
 
 -- the last published plan's cost can be written
 abbrev pub HasFittingCost : List Entry → Type 0

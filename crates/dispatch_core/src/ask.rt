@@ -5,7 +5,7 @@ ghost use Rattle.disp_model.specs.declared.entry.Entry.TheVariants.{Unread};
 ghost use Rattle.dispatch_core.specs.States.{entered};
 ghost use Rattle.dispatch_core.specs.Falling.{AreFallen};
 ghost use Rattle.dispatch_core.specs.Kept.{IsCostUnder};
-ghost use Rattle.dispatch_core.specs.Replies.{Asks, Shows, with_ended, with_left};
+ghost use Rattle.dispatch_core.specs.Replies.{Asks, ShowsStanding, with_ended, with_left};
 
 use crate::machine::Core;
 use crate::settling::{failing, fall_back, standing};
@@ -99,9 +99,9 @@ impl Core {
         Ok(())
     }
 
-    /// Shows a feed where the search stands.
+    /// ShowsStanding a feed where the search stands.
     pub(crate) fn show(&mut self, feed: u32, line: u64) -> Result<Standing, Memory>
-        ensures ok { IfOk result (λ standing. Shows self.old feed line standing self.new) }
+        ensures ok { IfOk result (λ standing. ShowsStanding self.old feed line standing self.new) }
         ensures err { OnErr result (self.new ≡ self.old) }
     {
         let standing = self.standing();

@@ -1,5 +1,5 @@
 ghost use Rattle.std.specs.Prelude.{◌≡◌, ◌↔◌, IsTrue, IfOk, false, replicate, length, slice_set, true, ◌<◌};
-ghost use Rattle.dispatch_core.specs.Replies.{open_count};
+ghost use Rattle.dispatch_core.specs.Replies.{open_feed_count};
 
 use disp_model::Memory;
 use std::alloc::Global;
@@ -13,14 +13,14 @@ pub(crate) fn flags(alloc: Global, count: u32) -> Result<Vec<bool>, Memory>
 
 /// How many flags are not set.
 pub(crate) fn open_count(flags: &[bool]) -> usize
-    ensures { result ≡ open_count flags.now }
+    ensures { result ≡ open_feed_count flags.now }
 {
     flags.iter().filter(|flag| !**flag).count()
 }
 
 /// Whether all flags are set.
 pub(crate) fn none_open(flags: &[bool]) -> bool
-    ensures { IsTrue result ↔ (open_count flags.now ≡ 0) }
+    ensures { IsTrue result ↔ (open_feed_count flags.now ≡ 0) }
 {
     open_count(flags) == 0
 }

@@ -1,7 +1,7 @@
 ghost use Rattle.std.specs.Prelude.{◌≡◌, ◌↔◌, ◌≤◌, ◌+◌, ◌==◌, IsTrue, length, IfOk, IfErr, OnErr, MatchOption, drop, if◌then◌else◌};
 ghost use Rattle.open_nodes.specs.Grafts.{FillPlaces, GrowsBy};
 ghost use Rattle.dispatch_core.specs.Asked.{IsGrowth};
-ghost use Rattle.dispatch_core.specs.Remaining.{IsWithdrawal, AreFixings, AreLeftOf, with_tree};
+ghost use Rattle.dispatch_core.specs.Remaining.{IsWithdrawal, AreFixingChanges, AreLeftOf, with_tree};
 ghost use Rattle.dispatch_core.specs.Replies.{IsGrow};
 
 use crate::event::CoreReply;
@@ -24,7 +24,7 @@ fn is_withdrawal(change: Change) -> bool
 
 /// Whether none of these changes takes one back.
 fn are_fixings(changes: &[Change]) -> bool
-    ensures { IsTrue result ↔ AreFixings changes.now }
+    ensures { IsTrue result ↔ AreFixingChanges changes.now }
 {
     changes.iter().all(|change| !is_withdrawal(*change))
 }

@@ -9,12 +9,12 @@ ghost use Rattle.disp_model.specs.declared.settings.Settings.{Settings};
 ghost use Rattle.disp_model.specs.WellFormed.{horizon};
 ghost use Rattle.open_nodes.specs.declared.work.Fragment.{Fragment};
 ghost use Rattle.open_nodes.specs.declared.work.Work.{Work};
-ghost use Rattle.open_nodes.specs.States.{one_leaf};
+ghost use Rattle.open_nodes.specs.States.{one_open_leaf};
 ghost use Rattle.dispatch_core.specs.declared.event.CoreEvent.{CoreEvent};
 ghost use Rattle.dispatch_core.specs.declared.event.CoreReply.{CoreReply};
 ghost use Rattle.dispatch_core.specs.States.{Core, IsSound, entered};
 ghost use Rattle.dispatch_core.specs.Asked.{IsGrowth, MayGiveBack, MayStep};
-ghost use Rattle.dispatch_core.specs.Replies.{IsAsk, IsShow, with_ended, with_left, IsTake, IsGrow, IsGiveBack, IsPublish, IsSettle, IsStopped, Steps};
+ghost use Rattle.dispatch_core.specs.Replies.{IsAsk, IsShow, with_ended, with_left, IsTake, IsGrow, IsGiveBack, IsPublish, IsSettle, IsStopReply, Steps};
 
 /// What feeds ask keeps the core sound.
 pub fn feeds_are_sound()
@@ -54,7 +54,7 @@ pub fn verdicts_are_sound()
     ensures settles { (core : Core) (edition : ℕ) (told : CoreReply) (after : Core)
         → IsSound core → IsSettle core edition told after → IsSound after }
     ensures stops { (core : Core) (edition : ℕ) (told : CoreReply) (after : Core) → IsSound core
-        → IsStopped core edition told after → IsSound after }
+        → IsStopReply core edition told after → IsSound after }
 {}
 
 /// A run without entries, whose tree is one leaf, is sound.
@@ -64,7 +64,7 @@ pub fn first_cores_are_sound()
           problem = problem;
           settings = settings;
           history = [];
-          nodes = one_leaf;
+          nodes = one_open_leaf;
           ended = ended;
           left = left;
         }) }

@@ -2,7 +2,7 @@ ghost use Rattle.std.specs.Prelude.{◌≡◌, ◌<◌, ◌∷◌, ◌++◌, [],
 ghost use Rattle.disp_model.specs.Node.{node_at};
 ghost use Rattle.open_nodes.specs.Grafts.{FillPlaces};
 ghost use Rattle.tree_growth.specs.Left.{IsLeafLeft, AreLeft};
-ghost use Rattle.dispatch_core.specs.Pending.{lists_below, IsNextOf, Leaves, LeavesLeaf};
+ghost use Rattle.dispatch_core.specs.Pending.{lists_below, IsNextOf, LeavesPending, LeavesLeaf};
 
 use disp_model::{Copied, Decision, Fixing, Leaf, List, Memory, Problem, TreeNode, Verdict};
 use std::alloc::Global;
@@ -87,7 +87,7 @@ fn leave(
 ) -> Result<(), Memory>
     requires { IsNextOf problem.now pending.old.items node.now
         (drop (length left.old.bounds.items) bounds.now) }
-    ensures { OnOk result (Leaves problem.now fixings.now bounds.now node.now
+    ensures { OnOk result (LeavesPending problem.now fixings.now bounds.now node.now
         pending.old.items pending.new.items left.old.nodes.items left.new.nodes.items
         left.old.bounds.items left.new.bounds.items) }
 {

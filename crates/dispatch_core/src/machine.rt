@@ -1,6 +1,6 @@
 ghost use Rattle.std.specs.Prelude.{◌≡◌, ◌↔◌, ℕ, IsTrue, IfOk, [], ◌∷◌, false, length, replicate};
-ghost use Rattle.open_nodes.specs.States.{one_leaf};
-ghost use Rattle.dispatch_core.specs.Replies.{open_count};
+ghost use Rattle.open_nodes.specs.States.{one_open_leaf};
+ghost use Rattle.dispatch_core.specs.Replies.{open_feed_count};
 
 use crate::flags::{flags, none_open};
 use disp_model::{Entry, List, Mark, Memory, Problem, Settings};
@@ -31,7 +31,7 @@ pub struct Core {
 
 impl Model for Core {
     ghost use Rattle.dispatch_core.specs.States.{Core as State, IsSound};
-    ghost use Rattle.dispatch_core.specs.Kept.{AreKept};
+    ghost use Rattle.dispatch_core.specs.Kept.{AreCountsKept};
 
     ghost Value = { State };
 
@@ -44,7 +44,7 @@ impl Model for Core {
       left = c.left.items;
     } };
 
-    ghost invariant = { λ c. AreKept (record {
+    ghost invariant = { λ c. AreCountsKept (record {
       problem = c.editions.problem;
       settings = c.settings;
       history = c.history.items;
@@ -80,7 +80,7 @@ impl Core {
           problem = problem.now;
           settings = settings;
           history = [];
-          nodes = one_leaf;
+          nodes = one_open_leaf;
           ended = replicate feeds false;
           left = replicate searchers false;
         }) }
@@ -116,8 +116,8 @@ impl Core {
 
     /// Whether all feeds have ended and all searchers have left.
     pub fn ended(&self) -> bool
-        ensures { IsTrue result ↔ ((open_count self.now.ended ≡ 0)
-            × (open_count self.now.left ≡ 0)) }
+        ensures { IsTrue result ↔ ((open_feed_count self.now.ended ≡ 0)
+            × (open_feed_count self.now.left ≡ 0)) }
     {
         none_open(self.ended.as_slice()) && none_open(self.left.as_slice())
     }

@@ -2,7 +2,7 @@ ghost use Rattle.std.specs.Prelude.{◌≡◌, ◌↔◌, ◌<◌, ◌++◌, ◌
 ghost use Rattle.disp_model.specs.Changes.{standing_of};
 ghost use Rattle.open_nodes.specs.declared.place.Place.{Place};
 ghost use Rattle.dispatch_core.specs.States.{DoesNotHold};
-ghost use Rattle.dispatch_core.specs.Falling.{noted_back, noted_by, left_standing, AreTakenBack, AreFailing, fallen_all};
+ghost use Rattle.dispatch_core.specs.Falling.{noted_back, noted_by, fixings_left_standing, AreTakenBack, AreFailing, fallen_all};
 
 use disp_model::{Change, Fixing, Memory, Problem, Verdict};
 use open_nodes::Nodes;
@@ -42,7 +42,7 @@ fn taken_back(alloc: Global, changes: &[Change]) -> Result<Vec<bool>, Memory>
 /// Adds the fixing that a change leaves standing.
 fn keep(fixings: &mut Vec<Fixing>, change: Change, taken: bool) -> Result<(), Memory>
     ensures { OnOk result
-        (fixings.new.items ≡ fixings.old.items ++ left_standing change taken) }
+        (fixings.new.items ≡ fixings.old.items ++ fixings_left_standing change taken) }
 {
     match change {
         Change::Fix(_) if taken => Ok(()),

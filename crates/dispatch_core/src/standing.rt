@@ -1,6 +1,6 @@
 ghost use Rattle.std.specs.Prelude.{◌≡◌, IfOk, MatchOption};
 ghost use Rattle.disp_model.specs.History.{newest, edition_of, IsStanding};
-ghost use Rattle.dispatch_core.specs.Replies.{IsCurrent, NotCurrent, IsNext};
+ghost use Rattle.dispatch_core.specs.Replies.{IsCurrent, NotCurrent, IsNextReply};
 ghost use Rattle.dispatch_core.specs.States.{IsSound};
 
 use crate::event::CoreReply;
@@ -60,7 +60,7 @@ impl Core {
 
     /// What there is to do.
     pub(crate) fn next(&self) -> CoreReply
-        ensures { IsNext self.now result }
+        ensures { IsNextReply self.now result }
     {
         if self.mark == Mark::Working {
             return CoreReply::Work(self.edition());

@@ -2,9 +2,9 @@ ghost use Rattle.std.specs.Prelude.{◌≡◌, ◌≤◌, All, Some, MatchOption
 ghost use Rattle.disp_model.specs.WellFormed.{horizon};
 ghost use Rattle.disp_model.specs.History.{mark_of_verdict, IsBestCost};
 ghost use Rattle.disp_model.specs.Replay.{IsBelowBest};
-ghost use Rattle.dispatch_core.specs.Judging.{IsJudged};
+ghost use Rattle.dispatch_core.specs.Judging.{IsPlanJudged};
 ghost use Rattle.disp_model.specs.Legal.{IsVerdictOf};
-ghost use Rattle.dispatch_core.specs.Replies.{IsPublish, IsSettle, IsStopped};
+ghost use Rattle.dispatch_core.specs.Replies.{IsPublish, IsSettle, IsStopReply};
 
 use crate::event::CoreReply;
 use crate::machine::Core;
@@ -60,7 +60,7 @@ impl Core {
     /// What a plan costs that is valid for the newest edition, or its first fault.
     fn judge(&self, alloc: Global, plan: &Plan) -> Result<Judged, Memory>
         requires { All (λ e. e.time ≤ horizon self.now.problem.trains) plan.now }
-        ensures { IfOk result (IsJudged self.now plan.now) }
+        ensures { IfOk result (IsPlanJudged self.now plan.now) }
     {
         let fixings = standing(alloc, self.editions.changes())?;
         match verify(self.editions.problem(), fixings.as_slice(), plan, None) {
@@ -102,7 +102,7 @@ impl Core {
 
     /// Stops an edition, where the budget is spent and each wanted leaf is examined.
     pub(crate) fn stop(&mut self, edition: u32) -> Result<CoreReply, Memory>
-        ensures ok { IfOk result (λ told. IsStopped self.old edition told self.new) }
+        ensures ok { IfOk result (λ told. IsStopReply self.old edition told self.new) }
         ensures err { OnErr result (self.new ≡ self.old) }
     {
         if let Some(told) = self.not_current(edition) {

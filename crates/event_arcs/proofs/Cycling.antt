@@ -15,7 +15,7 @@ use Rattle.disp_laws.proofs.Arcs.{passes_leads}
 use Rattle.disp_laws.proofs.Composed.{own_arc}
 use Rattle.disp_laws.proofs.Positions.{leads_then as then_up}
 use Rattle.incremental_paths.specs.declared.arc.Arc.{Arc}
-use Rattle.incremental_paths.specs.Walks.{IsJoined, Follows, last_from, IsCycle, HasCycle}
+use Rattle.incremental_paths.specs.Walks.{JoinsPair, FollowsArcs, last_node_from, IsArcCycle, ArcsHaveCycle}
 use Rattle.incremental_paths.proofs.Members.{joining}
 use Rattle.event_arcs.specs.Listed.{IsArcOf, LeadsOver, AreArcsOf}
 use Rattle.event_arcs.proofs.Leading.{leads_then, back_makes_cycle}
@@ -35,15 +35,15 @@ record IsClosed (node : Node) (first u : Op) (rest : List ℕ) : Type 0 where
   pub closes : ClosesTo node first u ops
 
 closed_of : (node : Node) (arcs : List Arc) (first u : Op) (rest : List ℕ) → All (IsArcOf node) arcs → IsForced node first → IsForced node u
-    → Follows arcs (number_of node.problem u) rest → IsJoined arcs (last_from (number_of node.problem u) rest) (number_of node.problem first) → IsClosed node first u rest
+    → FollowsArcs arcs (number_of node.problem u) rest → JoinsPair arcs (last_node_from (number_of node.problem u) rest) (number_of node.problem first) → IsClosed node first u rest
 closed_of node arcs first u [] sound start forced follows joined =
     let step = step_of node arcs u (number_of node.problem first) sound forced joined in
     let same = same_forced node step.v first step.longest.there.to_forced start step.number_is in
     record { ops = []; numbers = refl; closes = subst (λ (o : Op). HasArc node u o) same (step.arc_length, step.longest.there) }
 closed_of node arcs first u (m ∷ rest) sound start forced follows joined =
     let step = step_of node arcs u m sound forced follows.0 in
-    let on : Follows arcs (number_of node.problem step.v) rest = subst (λ (n : ℕ). Follows arcs n rest) (sym step.number_is) follows.1 in
-    let back : IsJoined arcs (last_from (number_of node.problem step.v) rest) (number_of node.problem first) = subst (λ (n : ℕ). IsJoined arcs (last_from n rest) (number_of node.problem first)) (sym step.number_is) joined in
+    let on : FollowsArcs arcs (number_of node.problem step.v) rest = subst (λ (n : ℕ). FollowsArcs arcs n rest) (sym step.number_is) follows.1 in
+    let back : JoinsPair arcs (last_node_from (number_of node.problem step.v) rest) (number_of node.problem first) = subst (λ (n : ℕ). JoinsPair arcs (last_node_from n rest) (number_of node.problem first)) (sym step.number_is) joined in
     let later = closed_of node arcs first step.v rest sound start step.longest.there.to_forced on back in
     record {
       ops = step.v ∷ later.ops;
@@ -56,15 +56,15 @@ two_or_more : (node : Node) (u : Op) (ops : List Op) → ClosesTo node u u ops �
 two_or_more node u [] closes = absurd (no_arc_to_itself node u closes.0 closes.1)
 two_or_more node u (v ∷ ops) closes = closes
 
-pub cycle_of_numbers : (node : Node) (arcs : List Arc) (numbers : List ℕ) → All (IsArcOf node) arcs → IsCycle arcs numbers
+pub cycle_of_numbers : (node : Node) (arcs : List Arc) (numbers : List ℕ) → All (IsArcOf node) arcs → IsArcCycle arcs numbers
     → (ops : List Op) × (map (number_of node.problem) ops ≡ numbers) × IsCycleAt node ops
 cycle_of_numbers node arcs [] sound cycle = absurd cycle
 cycle_of_numbers node arcs (m ∷ rest) sound cycle =
-    let listed = joining arcs (last_from m rest) m cycle.1 in
+    let listed = joining arcs (last_node_from m rest) m cycle.1 in
     let arc = All-contains (IsArcOf node) arcs listed.0 sound listed.1 in
     let is : number_of node.problem arc.v ≡ m = sym arc.to_is ∙ listed.3 in
-    let on : Follows arcs (number_of node.problem arc.v) rest = subst (λ (n : ℕ). Follows arcs n rest) (sym is) cycle.0 in
-    let back : IsJoined arcs (last_from (number_of node.problem arc.v) rest) (number_of node.problem arc.v) = subst (λ (n : ℕ). IsJoined arcs (last_from n rest) n) (sym is) cycle.1 in
+    let on : FollowsArcs arcs (number_of node.problem arc.v) rest = subst (λ (n : ℕ). FollowsArcs arcs n rest) (sym is) cycle.0 in
+    let back : JoinsPair arcs (last_node_from (number_of node.problem arc.v) rest) (number_of node.problem arc.v) = subst (λ (n : ℕ). JoinsPair arcs (last_node_from n rest) n) (sym is) cycle.1 in
     let closed = closed_of node arcs arc.v arc.v rest sound arc.joins.to_forced arc.joins.to_forced on back in
     (arc.v ∷ closed.ops, ap (λ (n : ℕ). n ∷ map (number_of node.problem) closed.ops) is ∙ ap (λ (l : List ℕ). m ∷ l) closed.numbers, two_or_more node arc.v closed.ops closed.closes)
 
@@ -79,17 +79,17 @@ leads_closed node arcs first u (v ∷ ops) are closes =
       leads_then arcs (number_of node.problem u) (number_of node.problem v) (number_of node.problem first) closes.0.0 later.0 (are.complete u v closes.0.0 closes.0.1) later.1,
     )
 
-cycle_of_ops : (node : Node) (arcs : List Arc) (ops : List Op) → AreArcsOf node arcs → IsCycleAt node ops → HasCycle arcs
+cycle_of_ops : (node : Node) (arcs : List Arc) (ops : List Op) → AreArcsOf node arcs → IsCycleAt node ops → ArcsHaveCycle arcs
 cycle_of_ops node arcs [] are cycle = absurd cycle
 cycle_of_ops node arcs (u ∷ []) are cycle = absurd cycle
 cycle_of_ops node arcs (u ∷ v ∷ ops) are cycle =
     let way = leads_closed node arcs u u (v ∷ ops) are cycle in
     back_makes_cycle arcs (number_of node.problem u) way.0 way.1
 
-pub cycle_from : (node : Node) (arcs : List Arc) → All (IsArcOf node) arcs → HasCycle arcs → HasCycleAt node
+pub cycle_from : (node : Node) (arcs : List Arc) → All (IsArcOf node) arcs → ArcsHaveCycle arcs → HasCycleAt node
 cycle_from node arcs sound has = let ops = cycle_of_numbers node arcs has.0 sound has.1 in (ops.0, ops.2)
 
-pub same_cycles : (node : Node) (arcs : List Arc) → AreArcsOf node arcs → (HasCycle arcs ↔ HasCycleAt node)
+pub same_cycles : (node : Node) (arcs : List Arc) → AreArcsOf node arcs → (ArcsHaveCycle arcs ↔ HasCycleAt node)
 same_cycles node arcs are = (cycle_from node arcs are.sound, λ has. cycle_of_ops node arcs has.0 are has.1)
 
 -- ---- where nothing is ordered

@@ -21,7 +21,7 @@ use Rattle.disp_model.specs.Routes.{IsForced}
 use Rattle.disp_model.specs.Arcs.{listings_of, shared_listings, Conflicts, release_of, min_of, IsTrainArc, GoesTo}
 use Rattle.disp_laws.proofs.OpenChoices.{goes_to_forced}
 use Rattle.disp_laws.proofs.Numbered.{below_count}
-use Rattle.route_sets.specs.Sets.{op_of}
+use Rattle.route_sets.specs.Sets.{op_of_train}
 use Rattle.incremental_paths.specs.declared.arc.Arc.{Arc}
 use Rattle.event_arcs.specs.declared.orders.KnownOrder.{KnownOrder}
 use Rattle.event_arcs.specs.declared.placed.Placed.{Placed}
@@ -60,31 +60,31 @@ pub number_small : (node : Node) (o : Op) → IsForced node o → number_of node
 number_small node o forced =
     let op = forced_is_op node o forced in omega (arith, below_count node.problem o op.train op.op, node.problem.well_formed.operations_fit)
 
-pub number_from : (node : Node) (t o : ℕ) (placed : Placed) → IsPlaced node t placed → placed.first + o ≡ number_of node.problem (op_of t o)
+pub number_from : (node : Node) (t o : ℕ) (placed : Placed) → IsPlaced node t placed → placed.first + o ≡ number_of node.problem (op_of_train t o)
 number_from node t o placed is = omega (arith, is.first_is)
 
-pub next_none : (node : Node) (a : Op) (found : Option ℕ) → IsForced node a → ((s : ℕ) → (found ≡ Some s) ↔ (IsForced node (op_of a.train a.op) × GoesTo node (op_of a.train a.op) (op_of a.train s))) → found ≡ None → IsNextNumber node a None
+pub next_none : (node : Node) (a : Op) (found : Option ℕ) → IsForced node a → ((s : ℕ) → (found ≡ Some s) ↔ (IsForced node (op_of_train a.train a.op) × GoesTo node (op_of_train a.train a.op) (op_of_train a.train s))) → found ≡ None → IsNextNumber node a None
 next_none node a found forced says none = record {
   found = λ n goes. absurd (none-some n.op (sym none ∙ (says n.op).1 (forced, (refl, goes.1))));
   only = λ number e. absurd (none-some number e);
 }
 
 pub next_some : (node : Node) (a : Op) (placed : Placed) (found : Option ℕ) (s : ℕ) → IsPlaced node a.train placed → IsForced node a
-    → ((m : ℕ) → (found ≡ Some m) ↔ (IsForced node (op_of a.train a.op) × GoesTo node (op_of a.train a.op) (op_of a.train m))) → found ≡ Some s → IsNextNumber node a (Some (placed.first + s))
+    → ((m : ℕ) → (found ≡ Some m) ↔ (IsForced node (op_of_train a.train a.op) × GoesTo node (op_of_train a.train a.op) (op_of_train a.train m))) → found ≡ Some s → IsNextNumber node a (Some (placed.first + s))
 next_some node a placed found s is forced says at = record {
   found = λ n goes.
       let same = same_Some s n.op (sym at ∙ (says n.op).1 (forced, (refl, goes.1))) in
-      let n_is : op_of a.train n.op ≡ n = ap (λ (t : ℕ). op_of t n.op) (sym goes.0) in
-      ap Some (number_from node a.train s placed is ∙ ap (λ (m : ℕ). number_of node.problem (op_of a.train m)) same ∙ ap (number_of node.problem) n_is);
-  only = λ number e. (op_of a.train s, ((says s).0 at).1, sym (same_Some (placed.first + s) number e) ∙ number_from node a.train s placed is);
+      let n_is : op_of_train a.train n.op ≡ n = ap (λ (t : ℕ). op_of_train t n.op) (sym goes.0) in
+      ap Some (number_from node a.train s placed is ∙ ap (λ (m : ℕ). number_of node.problem (op_of_train a.train m)) same ∙ ap (number_of node.problem) n_is);
+  only = λ number e. (op_of_train a.train s, ((says s).0 at).1, sym (same_Some (placed.first + s) number e) ∙ number_from node a.train s placed is);
 }
 
 pub next_fits : (node : Node) (a : Op) (placed : Placed) (found : Option ℕ) (s : ℕ) → IsPlaced node a.train placed
-    → ((m : ℕ) → (found ≡ Some m) ↔ (IsForced node (op_of a.train a.op) × GoesTo node (op_of a.train a.op) (op_of a.train m))) → found ≡ Some s → placed.first + s < 2 ^ 32
+    → ((m : ℕ) → (found ≡ Some m) ↔ (IsForced node (op_of_train a.train a.op) × GoesTo node (op_of_train a.train a.op) (op_of_train a.train m))) → found ≡ Some s → placed.first + s < 2 ^ 32
 next_fits node a placed found s is says at =
     let both = (says s).0 at in
-    let forced = goes_to_forced node (op_of a.train a.op) (op_of a.train s) both.0 both.1 in
-    omega (arith, number_small node (op_of a.train s) forced, number_from node a.train s placed is)
+    let forced = goes_to_forced node (op_of_train a.train a.op) (op_of_train a.train s) both.0 both.1 in
+    omega (arith, number_small node (op_of_train a.train s) forced, number_from node a.train s placed is)
 
 -- ---- the arcs of an order
 

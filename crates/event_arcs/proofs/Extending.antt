@@ -14,7 +14,7 @@ use Rattle.disp_model.specs.Arcs.{Conflicts, IsTrainArc, IsArc}
 use Rattle.disp_laws.proofs.Arcs.{passes_leads}
 use Rattle.disp_laws.proofs.LeastSums.{train_arc_exists}
 use Rattle.incremental_paths.specs.declared.arc.Arc.{Arc}
-use Rattle.event_arcs.specs.Listed.{IsArcOf, LeadsOver, AreArcsOf, IsLeft, SpansTrains}
+use Rattle.event_arcs.specs.Listed.{IsArcOf, LeadsOver, AreArcsOf, IsArcLeft, SpansTrains}
 use Rattle.event_windows.specs.Operations.{HasOperation}
 use Rattle.event_arcs.proofs.Numbering.{forced_is_op, same_by_number}
 use Rattle.event_arcs.specs.Owned.{train_of_decision}
@@ -30,7 +30,7 @@ any_long : (arcs : List Arc) (u v n : ℕ) → LeadsOver arcs u v n → LeadsOve
 any_long arcs u v n way = record { next = way.next; rest = way.rest; follows = way.follows; ends = way.ends; long = omega arith }
 
 -- where a listed arc begins there is a forced operation
-left_forced : (node : Node) (arcs : List Arc) (o : Op) → All (IsArcOf node) arcs → HasOperation node.problem o → IsLeft arcs (number_of node.problem o) → IsForced node o
+left_forced : (node : Node) (arcs : List Arc) (o : Op) → All (IsArcOf node) arcs → HasOperation node.problem o → IsArcLeft arcs (number_of node.problem o) → IsForced node o
 left_forced node arcs o sound op left =
     let arc = All-contains (IsArcOf node) arcs left.1 sound (left.0, left.2, left.3) in
     let from = arc.joins.from_forced in

@@ -9,14 +9,14 @@ use Rattle.disp_model.specs.Node.{Node}
 use Rattle.disp_model.specs.Routes.{IsForced}
 use Rattle.disp_model.specs.Arcs.{IsTrainArc}
 use Rattle.incremental_paths.specs.declared.arc.Arc.{Arc}
-use Rattle.event_arcs.specs.Listed.{LeadsOver, IsLeft, SpansTrains, GoesBetween, JoinsOps}
+use Rattle.event_arcs.specs.Listed.{LeadsOver, IsArcLeft, SpansTrains, GoesBetween, JoinsOps}
 use Rattle.event_arcs.proofs.Leading.{leads_then}
 use Rattle.event_arcs.proofs.Numbering.{same_forced}
 use Rattle.event_arcs.proofs.Cycling.{no_arc_to_itself}
 use Rattle.event_arcs.proofs.Joining.{leads_kept, pushed_there}
 use Rattle.event_arcs.proofs.Deciding.{leads_numbers}
 
-left_cases : (arcs : List Arc) (arc : Arc) (n : ℕ) → IsLeft (arcs ++ arc ∷ []) n → IsLeft arcs n ⊎ (arc.from ≡ n)
+left_cases : (arcs : List Arc) (arc : Arc) (n : ℕ) → IsArcLeft (arcs ++ arc ∷ []) n → IsArcLeft arcs n ⊎ (arc.from ≡ n)
 left_cases arcs arc n left = elim (Contains-append_cases arcs (arc ∷ []) left.1 (left.0, left.2, left.3)) [
   | inl old ↦ inl (old.0, left.1, old.1, old.2, left.4)
   | inr new ↦ inr (sym (ap (λ (a : Arc). a.from) (contains_one arc left.1 new)) ∙ left.4)
@@ -29,13 +29,13 @@ module _ (node : Node) (arcs : List Arc) (before op behind : Op) (first second :
   abbrev both : List Arc
   both = one ++ second ∷ []
 
-  left_one : (n : ℕ) → IsLeft one n → IsLeft arcs n
+  left_one : (n : ℕ) → IsArcLeft one n → IsArcLeft arcs n
   left_one n left = elim (left_cases arcs first n left) [
     | inl old ↦ old
-    | inr new ↦ subst (IsLeft arcs) (sym to_op.from_is ∙ new) between.left
+    | inr new ↦ subst (IsArcLeft arcs) (sym to_op.from_is ∙ new) between.left
   ]
 
-  left_both : (u : Op) → IsForced node u → IsLeft both (number_of node.problem u) → IsLeft arcs (number_of node.problem u) ⊎ (u ≡ op)
+  left_both : (u : Op) → IsForced node u → IsArcLeft both (number_of node.problem u) → IsArcLeft arcs (number_of node.problem u) ⊎ (u ≡ op)
   left_both u forced left = elim (left_cases one second (number_of node.problem u) left) [
     | inl old ↦ inl (left_one (number_of node.problem u) old)
     | inr new ↦ inr (same_forced node u op forced between.op_forced (sym (sym on.from_is ∙ new)))
@@ -56,13 +56,13 @@ module _ (node : Node) (arcs : List Arc) (before op behind : Op) (first second :
   second_way : LeadsOver both (number_of node.problem op) (number_of node.problem behind) 0
   second_way = leads_numbers node both second op behind 0 (pushed_there one second) on.from_is on.to_is (omega arith)
 
-  to_it : (u : Op) (sum : ℕ) → IsForced node u → IsLeft arcs (number_of node.problem u) → IsTrainArc node u op sum → LeadsOver both (number_of node.problem u) (number_of node.problem op) 0
+  to_it : (u : Op) (sum : ℕ) → IsForced node u → IsArcLeft arcs (number_of node.problem u) → IsTrainArc node u op sum → LeadsOver both (number_of node.problem u) (number_of node.problem op) 0
   to_it u sum forced left arc = elim (between.from u sum forced left arc) [
     | inl same ↦ subst (λ (o : Op). LeadsOver both (number_of node.problem o) (number_of node.problem op) 0) (sym same) first_way
     | inr far ↦ leads_then both (number_of node.problem u) (number_of node.problem before) (number_of node.problem op) 0 0 (old_way u before (spans.way u before far.0 forced between.before_forced far.1 left between.left)) first_way
   ]
 
-  from_it : (v : Op) (sum : ℕ) → IsForced node v → IsLeft arcs (number_of node.problem v) → IsTrainArc node op v sum → LeadsOver both (number_of node.problem op) (number_of node.problem v) 0
+  from_it : (v : Op) (sum : ℕ) → IsForced node v → IsArcLeft arcs (number_of node.problem v) → IsTrainArc node op v sum → LeadsOver both (number_of node.problem op) (number_of node.problem v) 0
   from_it v sum forced left arc = elim (between.to v sum forced left arc) [
     | inl same ↦ subst (λ (o : Op). LeadsOver both (number_of node.problem op) (number_of node.problem o) 0) (sym same) second_way
     | inr far ↦ leads_then both (number_of node.problem op) (number_of node.problem behind) (number_of node.problem v) 0 0 second_way (old_way behind v (spans.way behind v far.1.0 between.behind_forced forced far.1.1 far.0 left))

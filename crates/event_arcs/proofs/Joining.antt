@@ -24,12 +24,12 @@ use Rattle.train_orders.specs.Orders.{IsBehind, IsOrder}
 use Rattle.train_orders.proofs.Places.{at_contains}
 use Rattle.train_orders.proofs.Ordered.{at_taken, taken_more, one_place}
 use Rattle.route_sets.specs.declared.routes.Routes.{Routes}
-use Rattle.route_sets.specs.Sets.{op_of}
+use Rattle.route_sets.specs.Sets.{op_of_train}
 use Rattle.incremental_paths.specs.declared.arc.Arc.{Arc}
 use Rattle.incremental_paths.proofs.Members.{joined, longest_ge}
 use Rattle.incremental_paths.proofs.Walking.{Follows_part, steps_part}
 use Rattle.event_arcs.specs.Listed.{IsArcOf, LeadsOver}
-use Rattle.event_arcs.specs.Chained.{Extends, LeadsAlong, IsGiven, EndsAt, StandsFrom, IsChained, AddsChain, AddsChains}
+use Rattle.event_arcs.specs.Chained.{Extends, LeadsAlong, IsOrderGiven, EndsAt, StandsFrom, IsChained, AddsChain, AddsChains}
 use Rattle.event_arcs.proofs.Leading.{leads_then}
 
 -- ---- lists that grow
@@ -86,13 +86,13 @@ leads_up train order n i j o s is leads from to =
     let same = one_place train order place.0 j s is at.1 to in
     omega (arith, at.0, same)
 
-arc_up : (node : Node) (t : ℕ) (order : List ℕ) (i j o s n : ℕ) → IsOrder (train_at node.problem t) order → IsTrainArc node (op_of t o) (op_of t s) n → slice_get order i ≡ Some o → slice_get order j ≡ Some s → j < i
+arc_up : (node : Node) (t : ℕ) (order : List ℕ) (i j o s n : ℕ) → IsOrder (train_at node.problem t) order → IsTrainArc node (op_of_train t o) (op_of_train t s) n → slice_get order i ≡ Some o → slice_get order j ≡ Some s → j < i
 arc_up node t order i j o s n is arc from to =
     let way = passes_leads (train_at node.problem t) arc.reached.0 o s n arc.reached.1.is_route arc.reached.2 in
     leads_up (train_at node.problem t) order way.0 i j o s is way.1 from to
 
 -- of two forced operations one leads to the other
-pub either_leads : (node : Node) (t o s : ℕ) → IsForced node (op_of t o) → IsForced node (op_of t s) → (o ≡ s → ⊥) → ((n : ℕ) × LeadsTo (train_at node.problem t) n o s) ⊎ ((n : ℕ) × LeadsTo (train_at node.problem t) n s o)
+pub either_leads : (node : Node) (t o s : ℕ) → IsForced node (op_of_train t o) → IsForced node (op_of_train t s) → (o ≡ s → ⊥) → ((n : ℕ) × LeadsTo (train_at node.problem t) n o s) ⊎ ((n : ℕ) × LeadsTo (train_at node.problem t) n s o)
 either_leads node t o s one other apart = by_route one.allowed.0 one.allowed.1
   where
     by_parts : (route : List ℕ) → IsAllowed node t route → Parted s route → ((n : ℕ) × LeadsTo (train_at node.problem t) n o s) ⊎ ((n : ℕ) × LeadsTo (train_at node.problem t) n s o)
@@ -109,10 +109,10 @@ either_leads node t o s one other apart = by_route one.allowed.0 one.allowed.1
     by_route route allowed = by_parts route allowed (parted s route (is_in s route (other.each_has route allowed)))
 
 -- a forced operation that stands behind another one has an arc to it
-pub arc_down : (node : Node) (t : ℕ) (order : List ℕ) (i j o s : ℕ) → IsOrder (train_at node.problem t) order → IsForced node (op_of t o) → IsForced node (op_of t s)
-    → slice_get order i ≡ Some o → slice_get order j ≡ Some s → j < i → (sum : ℕ) × IsTrainArc node (op_of t o) (op_of t s) sum
+pub arc_down : (node : Node) (t : ℕ) (order : List ℕ) (i j o s : ℕ) → IsOrder (train_at node.problem t) order → IsForced node (op_of_train t o) → IsForced node (op_of_train t s)
+    → slice_get order i ≡ Some o → slice_get order j ≡ Some s → j < i → (sum : ℕ) × IsTrainArc node (op_of_train t o) (op_of_train t s) sum
 arc_down node t order i j o s is one other from to lt = elim (either_leads node t o s one other apart) [
-  | inl way ↦ train_arc_exists node (op_of t o) (op_of t s) way.0 refl way.1 one other
+  | inl way ↦ train_arc_exists node (op_of_train t o) (op_of_train t s) way.0 refl way.1 one other
   | inr way ↦ let up = leads_up (train_at node.problem t) order way.0 j i s o is way.1 to from in absurd (omega (arith, up, lt))
 ]
   where
@@ -138,7 +138,7 @@ last_on node t order place None stands = tt
 last_on node t order place (Some o) stands = on_from node t order place o stands
 
 -- over an operation that is not forced
-pub chained_past : (node : Node) (t : ℕ) (order : List ℕ) (place q : ℕ) (base arcs : List Arc) (last : Option ℕ) → slice_get order place ≡ Some q → (IsForced node (op_of t q) → ⊥)
+pub chained_past : (node : Node) (t : ℕ) (order : List ℕ) (place q : ℕ) (base arcs : List Arc) (last : Option ℕ) → slice_get order place ≡ Some q → (IsForced node (op_of_train t q) → ⊥)
     → IsChained node t order (place + 1) base arcs last → IsChained node t order place base arcs last
 chained_past node t order place q base arcs last here not chained = record {
   extends = chained.extends;
@@ -149,12 +149,12 @@ chained_past node t order place q base arcs last here not chained = record {
   where
     on : (o : ℕ) → StandsFrom node t order place o → StandsFrom node t order (place + 1) o
     on o stands = elim (at_or_on node t order place q o here stands) [
-      | inl same ↦ absurd (not (subst (λ (x : ℕ). IsForced node (op_of t x)) (sym same) stands.forced))
+      | inl same ↦ absurd (not (subst (λ (x : ℕ). IsForced node (op_of_train t x)) (sym same) stands.forced))
       | inr further ↦ further
     ]
 
 -- the first forced operation
-pub chained_first : (node : Node) (t : ℕ) (order : List ℕ) (place q : ℕ) (base arcs : List Arc) → IsOrder (train_at node.problem t) order → slice_get order place ≡ Some q → IsForced node (op_of t q)
+pub chained_first : (node : Node) (t : ℕ) (order : List ℕ) (place q : ℕ) (base arcs : List Arc) → IsOrder (train_at node.problem t) order → slice_get order place ≡ Some q → IsForced node (op_of_train t q)
     → IsChained node t order (place + 1) base arcs None → IsChained node t order place base arcs (Some q)
 chained_first node t order place q base arcs is here forced chained = record {
   extends = chained.extends;
@@ -169,7 +169,7 @@ chained_first node t order place q base arcs is here forced chained = record {
       | inr further ↦ let ends = chained.to_last o further in absurd (none-some ends.end ends.is_last)
     ]
 
-    none : (o s sum : ℕ) → StandsFrom node t order place o → StandsFrom node t order place s → IsTrainArc node (op_of t o) (op_of t s) sum → ⊥
+    none : (o s sum : ℕ) → StandsFrom node t order place o → StandsFrom node t order place s → IsTrainArc node (op_of_train t o) (op_of_train t s) sum → ⊥
     none o s sum one other arc =
         let up = arc_up node t order one.at other.at o s sum is arc one.here other.here in
         let same = one_place (train_at node.problem t) order one.at other.at q is (subst (λ (x : ℕ). slice_get order one.at ≡ Some x) (only o one) one.here) (subst (λ (x : ℕ). slice_get order other.at ≡ Some x) (only s other) other.here) in
@@ -179,8 +179,8 @@ abbrev chain_arc : ℕ → ℕ → ℕ → ℕ → Arc
 chain_arc first p q sum = record { from = first + p; to = first + q; length = sum }
 
 -- a forced operation behind a forced one
-pub chained_on : (node : Node) (t : ℕ) (order : List ℕ) (place p q first sum : ℕ) (base arcs new : List Arc) → IsOrder (train_at node.problem t) order → first ≡ number_of node.problem (op_of t 0) → slice_get order place ≡ Some q
-    → IsForced node (op_of t q) → IsTrainArc node (op_of t p) (op_of t q) sum → new ≡ arcs ++ record { from = first + p; to = first + q; length = sum } ∷ []
+pub chained_on : (node : Node) (t : ℕ) (order : List ℕ) (place p q first sum : ℕ) (base arcs new : List Arc) → IsOrder (train_at node.problem t) order → first ≡ number_of node.problem (op_of_train t 0) → slice_get order place ≡ Some q
+    → IsForced node (op_of_train t q) → IsTrainArc node (op_of_train t p) (op_of_train t q) sum → new ≡ arcs ++ record { from = first + p; to = first + q; length = sum } ∷ []
     → IsChained node t order (place + 1) base arcs (Some p) → IsChained node t order place base new (Some q)
 chained_on node t order place p q first sum base arcs new is first_is here forced step new_is chained = record {
   extends = extends_then node base arcs new chained.extends extends;
@@ -195,42 +195,42 @@ chained_on node t order place p q first sum base arcs new is first_is here force
     at_p : StandsFrom node t order (place + 1) p
     at_p = chained.last_stands
 
-    from_is : first + p ≡ number_of node.problem (op_of t p)
+    from_is : first + p ≡ number_of node.problem (op_of_train t p)
     from_is = omega (arith, first_is)
 
-    to_is : first + q ≡ number_of node.problem (op_of t q)
+    to_is : first + q ≡ number_of node.problem (op_of_train t q)
     to_is = omega (arith, first_is)
 
     is_arc : IsArcOf node added
-    is_arc = record { u = op_of t p; v = op_of t q; arc_length = sum; joins = record { from_forced = at_p.forced; to_forced = forced; kind = inl step }; from_is = from_is; to_is = to_is; no_longer = omega arith }
+    is_arc = record { u = op_of_train t p; v = op_of_train t q; arc_length = sum; joins = record { from_forced = at_p.forced; to_forced = forced; kind = inl step }; from_is = from_is; to_is = to_is; no_longer = omega arith }
 
     extends : Extends node arcs new
     extends = subst (Extends node arcs) (sym new_is) (extends_push node arcs added is_arc)
 
-    by_step : LeadsAlong node new (op_of t p) (op_of t q) sum
+    by_step : LeadsAlong node new (op_of_train t p) (op_of_train t q) sum
     by_step =
         let listed = leads_by new added sum (subst (λ (l : List Arc). Contains l added) (sym new_is) (pushed_there arcs added)) (omega arith) in
-        subst (λ (n : ℕ). LeadsOver new n (number_of node.problem (op_of t q)) sum) from_is (subst (λ (n : ℕ). LeadsOver new (first + p) n sum) to_is listed)
+        subst (λ (n : ℕ). LeadsOver new n (number_of node.problem (op_of_train t q)) sum) from_is (subst (λ (n : ℕ). LeadsOver new (first + p) n sum) to_is listed)
 
-    kept : (o s least : ℕ) → LeadsAlong node arcs (op_of t o) (op_of t s) least → LeadsAlong node new (op_of t o) (op_of t s) least
-    kept o s least way = leads_kept arcs new (number_of node.problem (op_of t o)) (number_of node.problem (op_of t s)) least extends.kept way
+    kept : (o s least : ℕ) → LeadsAlong node arcs (op_of_train t o) (op_of_train t s) least → LeadsAlong node new (op_of_train t o) (op_of_train t s) least
+    kept o s least way = leads_kept arcs new (number_of node.problem (op_of_train t o)) (number_of node.problem (op_of_train t s)) least extends.kept way
 
-    through : (o : ℕ) → StandsFrom node t order (place + 1) o → (total : ℕ) × IsTrainArc node (op_of t o) (op_of t q) total × LeadsAlong node new (op_of t o) (op_of t q) total
+    through : (o : ℕ) → StandsFrom node t order (place + 1) o → (total : ℕ) × IsTrainArc node (op_of_train t o) (op_of_train t q) total × LeadsAlong node new (op_of_train t o) (op_of_train t q) total
     through o stands = by_end (chained.to_last o stands)
       where
-        by_end : EndsAt node t arcs (Some p) o → (total : ℕ) × IsTrainArc node (op_of t o) (op_of t q) total × LeadsAlong node new (op_of t o) (op_of t q) total
+        by_end : EndsAt node t arcs (Some p) o → (total : ℕ) × IsTrainArc node (op_of_train t o) (op_of_train t q) total × LeadsAlong node new (op_of_train t o) (op_of_train t q) total
         by_end ends =
             let end = same_Some p ends.end ends.is_last in
             elim ends.leads [
               | inl same ↦
                   let o_is : o ≡ p = same ∙ sym end in
-                  (sum, subst (λ (x : ℕ). IsTrainArc node (op_of t x) (op_of t q) sum) (sym o_is) step, subst (λ (x : ℕ). LeadsAlong node new (op_of t x) (op_of t q) sum) (sym o_is) by_step)
+                  (sum, subst (λ (x : ℕ). IsTrainArc node (op_of_train t x) (op_of_train t q) sum) (sym o_is) step, subst (λ (x : ℕ). LeadsAlong node new (op_of_train t x) (op_of_train t q) sum) (sym o_is) by_step)
               | inr far ↦
-                  let arc = subst (λ (x : ℕ). IsTrainArc node (op_of t o) (op_of t x) far.0) (sym end) far.1 in
-                  let way = kept o p far.0 (subst (λ (x : ℕ). LeadsAlong node arcs (op_of t o) (op_of t x) far.0) (sym end) far.2) in (
+                  let arc = subst (λ (x : ℕ). IsTrainArc node (op_of_train t o) (op_of_train t x) far.0) (sym end) far.1 in
+                  let way = kept o p far.0 (subst (λ (x : ℕ). LeadsAlong node arcs (op_of_train t o) (op_of_train t x) far.0) (sym end) far.2) in (
                     far.0 + sum,
-                    arcs_compose node (op_of t o) (op_of t p) (op_of t q) far.0 sum at_p.forced arc step,
-                    leads_then new (number_of node.problem (op_of t o)) (number_of node.problem (op_of t p)) (number_of node.problem (op_of t q)) far.0 sum way by_step,
+                    arcs_compose node (op_of_train t o) (op_of_train t p) (op_of_train t q) far.0 sum at_p.forced arc step,
+                    leads_then new (number_of node.problem (op_of_train t o)) (number_of node.problem (op_of_train t p)) (number_of node.problem (op_of_train t q)) far.0 sum way by_step,
                   )
             ]
 
@@ -240,7 +240,7 @@ chained_on node t order place p q first sum base arcs new is first_is here force
       | inr further ↦ record { end = q; is_last = refl; leads = inr (through o further) }
     ]
 
-    between : (o s least : ℕ) → StandsFrom node t order place o → StandsFrom node t order place s → IsTrainArc node (op_of t o) (op_of t s) least → LeadsAlong node new (op_of t o) (op_of t s) least
+    between : (o s least : ℕ) → StandsFrom node t order place o → StandsFrom node t order place s → IsTrainArc node (op_of_train t o) (op_of_train t s) least → LeadsAlong node new (op_of_train t o) (op_of_train t s) least
     between o s least one other arc = elim (at_or_on node t order place q s here other) [
       | inl same ↦ elim (at_or_on node t order place q o here one) [
         | inl too ↦
@@ -249,8 +249,8 @@ chained_on node t order place p q first sum base arcs new is first_is here force
             absurd (omega (arith, up, places))
         | inr further ↦
             let way = through o further in
-            let length_is = one_train_arc node (op_of t o) (op_of t q) way.0 least way.1 (subst (λ (x : ℕ). IsTrainArc node (op_of t o) (op_of t x) least) (sym same) arc) in
-            subst (λ (x : ℕ). LeadsAlong node new (op_of t o) (op_of t x) least) same (subst (λ (n : ℕ). LeadsAlong node new (op_of t o) (op_of t q) n) length_is way.2)
+            let length_is = one_train_arc node (op_of_train t o) (op_of_train t q) way.0 least way.1 (subst (λ (x : ℕ). IsTrainArc node (op_of_train t o) (op_of_train t x) least) (sym same) arc) in
+            subst (λ (x : ℕ). LeadsAlong node new (op_of_train t o) (op_of_train t x) least) same (subst (λ (n : ℕ). LeadsAlong node new (op_of_train t o) (op_of_train t q) n) length_is way.2)
       ]
       | inr further ↦ elim (at_or_on node t order place q o here one) [
         | inl too ↦
@@ -262,23 +262,23 @@ chained_on node t order place p q first sum base arcs new is first_is here force
 
 -- ---- the arcs of a train, and of all
 
-pub chain_done : (node : Node) (t : ℕ) (routes : Routes) (order : List ℕ) (first place : ℕ) (base arcs : List Arc) (last : Option ℕ) → IsGiven node t routes order first → place ≤ 0 → IsChained node t order place base arcs last → AddsChain node t base arcs
+pub chain_done : (node : Node) (t : ℕ) (routes : Routes) (order : List ℕ) (first place : ℕ) (base arcs : List Arc) (last : Option ℕ) → IsOrderGiven node t routes order first → place ≤ 0 → IsChained node t order place base arcs last → AddsChain node t base arcs
 chain_done node t routes order first place base arcs last given low chained = record { extends = chained.extends; leads = leads }
   where
-    stands : (o : ℕ) → IsForced node (op_of t o) → StandsFrom node t order place o
+    stands : (o : ℕ) → IsForced node (op_of_train t o) → StandsFrom node t order place o
     stands o forced =
-        let at = at_contains order o (given.is_order.has o (forced_within node (op_of t o) forced)) in
+        let at = at_contains order o (given.is_order.has o (forced_within node (op_of_train t o) forced)) in
         record { at = at.0; from = omega (arith, low); here = at.1; forced = forced }
 
     own : (u v : Op) (sum : ℕ) → u.train ≡ t → v.train ≡ t → IsForced node u → IsForced node v → IsTrainArc node u v sum → LeadsAlong node arcs u v sum
     own u v sum same too one other arc =
-        let u_is : u ≡ op_of t u.op = ap (λ (n : ℕ). op_of n u.op) same in
-        let v_is : v ≡ op_of t v.op = ap (λ (n : ℕ). op_of n v.op) too in
+        let u_is : u ≡ op_of_train t u.op = ap (λ (n : ℕ). op_of_train n u.op) same in
+        let v_is : v ≡ op_of_train t v.op = ap (λ (n : ℕ). op_of_train n v.op) too in
         let at = stands u.op (subst (IsForced node) u_is one) in
         let to = stands v.op (subst (IsForced node) v_is other) in
         let half = subst (λ (x : Op). IsTrainArc node x v sum) u_is arc in
-        let way = chained.between u.op v.op sum at to (subst (λ (x : Op). IsTrainArc node (op_of t u.op) x sum) v_is half) in
-        subst (λ (x : Op). LeadsAlong node arcs x v sum) (sym u_is) (subst (λ (x : Op). LeadsAlong node arcs (op_of t u.op) x sum) (sym v_is) way)
+        let way = chained.between u.op v.op sum at to (subst (λ (x : Op). IsTrainArc node (op_of_train t u.op) x sum) v_is half) in
+        subst (λ (x : Op). LeadsAlong node arcs x v sum) (sym u_is) (subst (λ (x : Op). LeadsAlong node arcs (op_of_train t u.op) x sum) (sym v_is) way)
 
     leads : (u v : Op) (sum : ℕ) → u.train ≡ t → IsForced node u → IsForced node v → IsTrainArc node u v sum → LeadsAlong node arcs u v sum
     leads u v sum same one other arc = own u v sum same (sym arc.same_train ∙ same) one other arc

@@ -11,7 +11,7 @@ use Rattle.disp_laws.proofs.Numbered.{below_count}
 use Rattle.disp_laws.proofs.LongestWalks.{longest_walk, from_once}
 use Rattle.disp_laws.proofs.EarliestExists.{walk_once}
 use Rattle.incremental_paths.specs.declared.arc.Arc.{Arc}
-use Rattle.incremental_paths.specs.Walks.{Follows, last_from, IsWalkTo, steps_length, walk_length, IsLongest}
+use Rattle.incremental_paths.specs.Walks.{FollowsArcs, last_node_from, IsWalkTo, steps_length, walk_length, IsLongestLength}
 use Rattle.incremental_paths.proofs.WaysBack.{follows_append, last_append}
 use Rattle.incremental_paths.proofs.Members.{joining}
 use Rattle.incremental_paths.proofs.Bounds.{walks_once}
@@ -31,7 +31,7 @@ pub record IsCarried (node : Node) (arcs : List Arc) (lowers : List ℕ) (u : Op
   pub enough : walk_length lowers arcs (number_of node.problem u ∷ rest) ≤ total
 
 pub carried : (node : Node) (arcs : List Arc) (lowers : List ℕ) (u : Op) (rest : List ℕ) → All (IsArcOf node) arcs → AreLowersOf node lowers → IsForced node u
-    → Follows arcs (number_of node.problem u) rest → IsCarried node arcs lowers u rest
+    → FollowsArcs arcs (number_of node.problem u) rest → IsCarried node arcs lowers u rest
 carried node arcs lowers u rest sound are forced follows =
     let walked = walked_of node arcs u (lower_of node.problem node.fixings u) rest sound forced follows in
     let lower = are.at u (forced_is_op node u forced) in
@@ -47,7 +47,7 @@ unfolding last_op
 ends_last u [] = ([], refl)
 ends_last u (v ∷ ops) = let later = ends_last v ops in (u ∷ later.0, ap (λ (l : List Op). u ∷ l) later.1)
 
-last_number : (node : Node) (u : Op) (ops : List Op) → number_of node.problem (last_op u ops) ≡ last_from (number_of node.problem u) (map (number_of node.problem) ops)
+last_number : (node : Node) (u : Op) (ops : List Op) → number_of node.problem (last_op u ops) ≡ last_node_from (number_of node.problem u) (map (number_of node.problem) ops)
 unfolding last_op
 last_number node u [] = refl
 last_number node u (v ∷ ops) = last_number node v ops
@@ -57,7 +57,7 @@ unfolding last_op
 last_forced node u walked [] total forced on = forced
 last_forced node u walked (v ∷ ops) total forced on = last_forced node v (walked + on.0) ops total on.1.there.to_forced on.2
 
-ends_at : (node : Node) (u o : Op) (ops : List Op) (total : ℕ) → IsForced node o → IsWalk node (u ∷ ops) total → last_from (number_of node.problem u) (map (number_of node.problem) ops) ≡ number_of node.problem o
+ends_at : (node : Node) (u o : Op) (ops : List Op) (total : ℕ) → IsForced node o → IsWalk node (u ∷ ops) total → last_node_from (number_of node.problem u) (map (number_of node.problem) ops) ≡ number_of node.problem o
     → EndsIn (u ∷ ops) o
 ends_at node u o ops total forced walk last =
     let same = same_forced node (last_op u ops) o (last_forced node u (lower_of node.problem node.fixings u) ops total walk.0 walk.1) forced (last_number node u ops ∙ last) in
@@ -69,7 +69,7 @@ list_within : (node : Node) (arcs : List Arc) (lowers : List ℕ) (o : Op) (tota
 list_within node arcs lowers o total [] sound are no_cycle forced longest walk = absurd walk
 list_within node arcs lowers o total (n ∷ rest) sound are no_cycle forced longest walk = from_first (first_of rest walk.1 walk.2)
   where
-    first_of : (later : List ℕ) → Follows arcs n later → last_from n later ≡ number_of node.problem o → (u : Op) × IsForced node u × (number_of node.problem u ≡ n)
+    first_of : (later : List ℕ) → FollowsArcs arcs n later → last_node_from n later ≡ number_of node.problem o → (u : Op) × IsForced node u × (number_of node.problem u ≡ n)
     first_of [] follows last = (o, forced, sym last)
     first_of (m ∷ later) follows last =
         let listed = joining arcs n m follows.0 in
@@ -78,10 +78,10 @@ list_within node arcs lowers o total (n ∷ rest) sound are no_cycle forced long
 
     from_first : ((u : Op) × IsForced node u × (number_of node.problem u ≡ n)) → walk_length lowers arcs (n ∷ rest) ≤ total
     from_first (u, start, is) =
-        let on : Follows arcs (number_of node.problem u) rest = subst (λ (k : ℕ). Follows arcs k rest) (sym is) walk.1 in
+        let on : FollowsArcs arcs (number_of node.problem u) rest = subst (λ (k : ℕ). FollowsArcs arcs k rest) (sym is) walk.1 in
         let over = carried node arcs lowers u rest sound are start on in
-        let last : last_from (number_of node.problem u) (map (number_of node.problem) over.ops) ≡ number_of node.problem o =
-        ap (λ (l : List ℕ). last_from (number_of node.problem u) l) over.numbers ∙ ap (λ (k : ℕ). last_from k rest) is ∙ walk.2 in
+        let last : last_node_from (number_of node.problem u) (map (number_of node.problem) over.ops) ≡ number_of node.problem o =
+        ap (λ (l : List ℕ). last_node_from (number_of node.problem u) l) over.numbers ∙ ap (λ (k : ℕ). last_node_from k rest) is ∙ walk.2 in
         let ends = ends_at node u o over.ops over.total forced over.is_walk last in
         let once = from_once (u ∷ over.ops) (walk_once node no_cycle u (lower_of node.problem node.fixings u) over.ops over.total over.is_walk.1) in
         let same : walk_length lowers arcs (number_of node.problem u ∷ rest) ≡ walk_length lowers arcs (n ∷ rest) = ap (λ (k : ℕ). walk_length lowers arcs (k ∷ rest)) is in
@@ -92,8 +92,8 @@ list_within node arcs lowers o total (n ∷ rest) sound are no_cycle forced long
 -- a way along the list over the arcs of a walk
 record IsListedWay (node : Node) (arcs : List Arc) (u : Op) (walked : ℕ) (o : Op) (total : ℕ) : Type 0 where
   pub rest : List ℕ
-  pub follows : Follows arcs (number_of node.problem u) rest
-  pub ends : last_from (number_of node.problem u) rest ≡ number_of node.problem o
+  pub follows : FollowsArcs arcs (number_of node.problem u) rest
+  pub ends : last_node_from (number_of node.problem u) rest ≡ number_of node.problem o
   pub enough : total ≤ walked + steps_length arcs (number_of node.problem u) rest
 
 way_over : (node : Node) (arcs : List Arc) (u : Op) (walked : ℕ) (ops : List Op) (total : ℕ) → AreArcsOf node arcs → WalksOn node u walked ops total → IsListedWay node arcs u walked (last_op u ops) total
@@ -102,12 +102,12 @@ way_over node arcs u walked [] total are on = record { rest = []; follows = tt; 
 way_over node arcs u walked (v ∷ ops) total are on =
     let later = way_over node arcs v (walked + on.0) ops total are on.2 in
     let first = are.complete u v on.0 on.1.there in
-    let from : Follows arcs (last_from first.next first.rest) later.rest = subst (λ (n : ℕ). Follows arcs n later.rest) (sym first.ends) later.follows in
-    let far : steps_length arcs (last_from first.next first.rest) later.rest ≡ steps_length arcs (number_of node.problem v) later.rest = ap (λ (n : ℕ). steps_length arcs n later.rest) first.ends in
+    let from : FollowsArcs arcs (last_node_from first.next first.rest) later.rest = subst (λ (n : ℕ). FollowsArcs arcs n later.rest) (sym first.ends) later.follows in
+    let far : steps_length arcs (last_node_from first.next first.rest) later.rest ≡ steps_length arcs (number_of node.problem v) later.rest = ap (λ (n : ℕ). steps_length arcs n later.rest) first.ends in
     record {
       rest = (first.next ∷ first.rest) ++ later.rest;
       follows = follows_append arcs (number_of node.problem u) (first.next ∷ first.rest) later.rest first.follows from;
-      ends = last_append (number_of node.problem u) (first.next ∷ first.rest) later.rest ∙ ap (λ (n : ℕ). last_from n later.rest) first.ends ∙ later.ends;
+      ends = last_append (number_of node.problem u) (first.next ∷ first.rest) later.rest ∙ ap (λ (n : ℕ). last_node_from n later.rest) first.ends ∙ later.ends;
       enough = omega (arith, later.enough, first.long, far, steps_append arcs (number_of node.problem u) (first.next ∷ first.rest) later.rest);
     }
 
@@ -128,13 +128,13 @@ last_same u o (v ∷ ops) ends = later ends.0 ends.1 (λ found. last_same v o op
 -- ---- the same longest
 
 listed_longest : (node : Node) (arcs : List Arc) (lowers : List ℕ) (o : Op) (total : ℕ) → AreArcsOf node arcs → AreLowersOf node lowers → (HasCycleAt node → ⊥) → IsForced node o
-    → IsLongestAt node o total → IsLongest lowers arcs (number_of node.problem o) total
+    → IsLongestAt node o total → IsLongestLength lowers arcs (number_of node.problem o) total
 listed_longest node arcs lowers o total are low no_cycle forced longest = from_walk longest.reached.0 longest.reached.1 longest.reached.3
   where
     within : (nodes : List ℕ) → IsWalkTo lowers arcs (number_of node.problem o) nodes → walk_length lowers arcs nodes ≤ total
     within nodes walk = list_within node arcs lowers o total nodes are.sound low no_cycle forced longest walk
 
-    from_walk : (walk : List Op) → EndsIn walk o → IsWalk node walk total → IsLongest lowers arcs (number_of node.problem o) total
+    from_walk : (walk : List Op) → EndsIn walk o → IsWalk node walk total → IsLongestLength lowers arcs (number_of node.problem o) total
     from_walk [] ends is = absurd is
     from_walk (u ∷ ops) ends is =
         let way = way_over node arcs u (lower_of node.problem node.fixings u) ops total are is.1 in
@@ -148,10 +148,10 @@ listed_longest node arcs lowers o total are low no_cycle forced longest = from_w
         }
 
 pub same_longest : (node : Node) (arcs : List Arc) (lowers : List ℕ) (o : Op) (total : ℕ) → AreArcsOf node arcs → AreLowersOf node lowers → (HasCycleAt node → ⊥) → IsForced node o
-    → (IsLongestAt node o total ↔ IsLongest lowers arcs (number_of node.problem o) total)
+    → (IsLongestAt node o total ↔ IsLongestLength lowers arcs (number_of node.problem o) total)
 same_longest node arcs lowers o total are low no_cycle forced = (listed_longest node arcs lowers o total are low no_cycle forced, back)
   where
-    back : IsLongest lowers arcs (number_of node.problem o) total → IsLongestAt node o total
+    back : IsLongestLength lowers arcs (number_of node.problem o) total → IsLongestAt node o total
     back listed =
         let longest = longest_walk node o forced in
         let other = listed_longest node arcs lowers o longest.0 are low no_cycle forced longest.1 in

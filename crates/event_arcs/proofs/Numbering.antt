@@ -13,7 +13,7 @@ use Rattle.disp_laws.proofs.Numbered.{numbers_apart}
 use Rattle.disp_laws.proofs.LongestWalks.{forced_within}
 use Rattle.disp_laws.proofs.LongestArcs.{longest_arc as longest_between}
 use Rattle.incremental_paths.specs.declared.arc.Arc.{Arc}
-use Rattle.incremental_paths.specs.Walks.{IsJoined, longest_arc, Follows, steps_length}
+use Rattle.incremental_paths.specs.Walks.{JoinsPair, longest_arc, FollowsArcs, steps_length}
 use Rattle.incremental_paths.proofs.Members.{joining, longest_le}
 use Rattle.event_arcs.specs.Listed.{IsArcOf}
 use Rattle.event_windows.specs.Operations.{HasOperation}
@@ -35,7 +35,7 @@ pub record IsStep (node : Node) (arcs : List Arc) (u : Op) (m : ℕ) : Type 0 wh
   pub longest : IsLongestArc node u v arc_length
   pub no_longer : longest_arc arcs (number_of node.problem u) m ≤ arc_length
 
-pub step_of : (node : Node) (arcs : List Arc) (u : Op) (m : ℕ) → All (IsArcOf node) arcs → IsForced node u → IsJoined arcs (number_of node.problem u) m → IsStep node arcs u m
+pub step_of : (node : Node) (arcs : List Arc) (u : Op) (m : ℕ) → All (IsArcOf node) arcs → IsForced node u → JoinsPair arcs (number_of node.problem u) m → IsStep node arcs u m
 step_of node arcs u m sound forced joined =
     let listed = joining arcs (number_of node.problem u) m joined in
     let arc = All-contains (IsArcOf node) arcs listed.0 sound listed.1 in
@@ -67,11 +67,11 @@ pub record IsWalked (node : Node) (arcs : List Arc) (u : Op) (walked : ℕ) (res
   pub on : WalksOn node u walked ops total
   pub enough : walked + steps_length arcs (number_of node.problem u) rest ≤ total
 
-pub walked_of : (node : Node) (arcs : List Arc) (u : Op) (walked : ℕ) (rest : List ℕ) → All (IsArcOf node) arcs → IsForced node u → Follows arcs (number_of node.problem u) rest → IsWalked node arcs u walked rest
+pub walked_of : (node : Node) (arcs : List Arc) (u : Op) (walked : ℕ) (rest : List ℕ) → All (IsArcOf node) arcs → IsForced node u → FollowsArcs arcs (number_of node.problem u) rest → IsWalked node arcs u walked rest
 walked_of node arcs u walked [] sound forced follows = record { ops = []; total = walked; numbers = refl; on = refl; enough = omega arith }
 walked_of node arcs u walked (m ∷ rest) sound forced follows =
     let step = step_of node arcs u m sound forced follows.0 in
-    let on : Follows arcs (number_of node.problem step.v) rest = subst (λ (n : ℕ). Follows arcs n rest) (sym step.number_is) follows.1 in
+    let on : FollowsArcs arcs (number_of node.problem step.v) rest = subst (λ (n : ℕ). FollowsArcs arcs n rest) (sym step.number_is) follows.1 in
     let later = walked_of node arcs step.v (walked + step.arc_length) rest sound step.longest.there.to_forced on in
     let far : steps_length arcs (number_of node.problem step.v) rest ≡ steps_length arcs m rest = ap (λ (n : ℕ). steps_length arcs n rest) step.number_is in
     record {

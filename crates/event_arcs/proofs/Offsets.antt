@@ -16,7 +16,7 @@ use Rattle.disp_laws.proofs.HorizonBounds.{get_within}
 use Rattle.disp_laws.proofs.Numbered.{below_count}
 use Rattle.train_orders.proofs.Places.{get_push_cases}
 use Rattle.route_sets.specs.declared.routes.Routes.{Routes}
-use Rattle.route_sets.specs.Sets.{op_of, AreRoutesOf}
+use Rattle.route_sets.specs.Sets.{op_of_train, AreRoutesOf}
 use Rattle.train_orders.specs.Orders.{IsOrder}
 use Rattle.event_arcs.specs.declared.owns.Own.{Own}
 use Rattle.event_arcs.specs.declared.placed.Placed.{Placed}
@@ -36,14 +36,14 @@ kept_order node t placed is = is.are_routes.is_order (is.are_routes.left.1 is.ha
 pub first_small : (node : Node) (t : ℕ) (placed : Placed) → t < length node.problem.trains → IsPlaced node t placed → placed.first < 2 ^ 31
 first_small node t placed there is =
     let entered = (node.problem.well_formed.acyclic t [] there).entered in
-    omega (arith, is.first_is, below_count node.problem (op_of t 0) there entered, node.problem.well_formed.operations_fit)
+    omega (arith, is.first_is, below_count node.problem (op_of_train t 0) there entered, node.problem.well_formed.operations_fit)
 
 -- ---- the numbers of the first operations
 
-pub first_of_next : (problem : Problem) (t : ℕ) → t < length problem.trains → number_of problem (op_of (t + 1) 0) ≡ number_of problem (op_of t 0) + length (train_at problem t)
+pub first_of_next : (problem : Problem) (t : ℕ) → t < length problem.trains → number_of problem (op_of_train (t + 1) 0) ≡ number_of problem (op_of_train t 0) + length (train_at problem t)
 first_of_next problem t there = omega (arith, sum_by_more (λ (train : List Operation). length train) problem.trains t [] there)
 
-pub first_within : (problem : Problem) (t : ℕ) → number_of problem (op_of t 0) < 2 ^ 31
+pub first_within : (problem : Problem) (t : ℕ) → number_of problem (op_of_train t 0) < 2 ^ 31
 first_within problem t = omega (arith, sum_by-take-le (λ (train : List Operation). length train) problem.trains t, problem.well_formed.operations_fit)
 
 -- ---- the routes of one more train

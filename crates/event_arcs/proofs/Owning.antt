@@ -16,7 +16,7 @@ use Rattle.disp_laws.proofs.RouteSearch.{same_number, same_option}
 use Rattle.route_marks.specs.declared.marks.Mark.{Mark}
 use Rattle.route_sets.specs.declared.routes.Routes.{Routes}
 use Rattle.route_marks.specs.Marks.{mark_at}
-use Rattle.route_sets.specs.Sets.{op_of, IsMarkOf, AreRoutesOf}
+use Rattle.route_sets.specs.Sets.{op_of_train, IsMarkOf, AreRoutesOf}
 use Rattle.event_arcs.specs.declared.owns.Own.{Own}
 use Rattle.event_arcs.specs.Owned.{train_of_fixing, train_of_decision, own_at, TakesFixing, TakesDecision, AreByTrain}
 
@@ -133,25 +133,25 @@ module _ (problem : Problem) (fixings own_fixings : List Fixing) (decisions own_
   route_to_own : HasRoute all t → HasRoute own t
   route_to_own has = (has.0, to_own has.0 has.1)
 
-  forced_to_all : (o : ℕ) → IsForced own (op_of t o) → IsForced all (op_of t o)
+  forced_to_all : (o : ℕ) → IsForced own (op_of_train t o) → IsForced all (op_of_train t o)
   forced_to_all o forced = record { train = forced.train; allowed = route_to_all forced.allowed; each_has = λ route allowed. forced.each_has route (to_own route allowed) }
 
-  forced_to_own : (o : ℕ) → IsForced all (op_of t o) → IsForced own (op_of t o)
+  forced_to_own : (o : ℕ) → IsForced all (op_of_train t o) → IsForced own (op_of_train t o)
   forced_to_own o forced = record { train = forced.train; allowed = route_to_own forced.allowed; each_has = λ route allowed. forced.each_has route (to_all route allowed) }
 
-  goes_to_all : (o s : ℕ) → GoesTo own (op_of t o) (op_of t s) → GoesTo all (op_of t o) (op_of t s)
+  goes_to_all : (o s : ℕ) → GoesTo own (op_of_train t o) (op_of_train t s) → GoesTo all (op_of_train t o) (op_of_train t s)
   goes_to_all o s goes = (goes.0, λ route allowed. goes.1 route (to_own route allowed))
 
-  goes_to_own : (o s : ℕ) → GoesTo all (op_of t o) (op_of t s) → GoesTo own (op_of t o) (op_of t s)
+  goes_to_own : (o s : ℕ) → GoesTo all (op_of_train t o) (op_of_train t s) → GoesTo own (op_of_train t o) (op_of_train t s)
   goes_to_own o s goes = (goes.0, λ route allowed. goes.1 route (to_all route allowed))
 
-  arc_to_all : (a b n : ℕ) → IsTrainArc own (op_of t a) (op_of t b) n → IsTrainArc all (op_of t a) (op_of t b) n
+  arc_to_all : (a b n : ℕ) → IsTrainArc own (op_of_train t a) (op_of_train t b) n → IsTrainArc all (op_of_train t a) (op_of_train t b) n
   arc_to_all a b n arc = record { same_train = arc.same_train; reached = (arc.reached.0, to_all arc.reached.0 arc.reached.1, arc.reached.2); least = λ route total allowed passes. arc.least route total (to_own route allowed) passes }
 
-  arc_to_own : (a b n : ℕ) → IsTrainArc all (op_of t a) (op_of t b) n → IsTrainArc own (op_of t a) (op_of t b) n
+  arc_to_own : (a b n : ℕ) → IsTrainArc all (op_of_train t a) (op_of_train t b) n → IsTrainArc own (op_of_train t a) (op_of_train t b) n
   arc_to_own a b n arc = record { same_train = arc.same_train; reached = (arc.reached.0, to_own arc.reached.0 arc.reached.1, arc.reached.2); least = λ route total allowed passes. arc.least route total (to_all route allowed) passes }
 
-  mark_to_all : (o : ℕ) (found : Option Mark) → MatchOption found (IsForced own (op_of t o) → ⊥) (IsMarkOf own t o) → MatchOption found (IsForced all (op_of t o) → ⊥) (IsMarkOf all t o)
+  mark_to_all : (o : ℕ) (found : Option Mark) → MatchOption found (IsForced own (op_of_train t o) → ⊥) (IsMarkOf own t o) → MatchOption found (IsForced all (op_of_train t o) → ⊥) (IsMarkOf all t o)
   mark_to_all o None none = λ forced. none (forced_to_own o forced)
   mark_to_all o (Some mark) is = record {
     forced = forced_to_all o is.forced;

@@ -24,12 +24,12 @@ use Rattle.disp_laws.proofs.Charges.{most_released, release_within}
 use Rattle.disp_laws.proofs.RouteSearch.{same_number, route_fits}
 use Rattle.disp_laws.proofs.LeastSums.{train_arc_exists}
 use Rattle.disp_laws.proofs.Composed.{own_arc, arcs_compose}
-use Rattle.route_sets.specs.Sets.{op_of}
+use Rattle.route_sets.specs.Sets.{op_of_train}
 use Rattle.incremental_paths.specs.declared.arc.Arc.{Arc}
-use Rattle.incremental_paths.specs.Walks.{IsJoined, Follows, IsWalkTo, steps_length, walk_length, HasCycle, WalksAreShort}
+use Rattle.incremental_paths.specs.Walks.{JoinsPair, FollowsArcs, IsWalkTo, steps_length, walk_length, ArcsHaveCycle, WalksAreShort}
 use Rattle.incremental_paths.proofs.Members.{joining}
 use Rattle.incremental_paths.proofs.Bounds.{walks_once, nodes_within, few_nodes}
-use Rattle.event_arcs.specs.Listed.{IsArcOf, LeadsOver, AreLowersOf, IsLeft, SpansTrains}
+use Rattle.event_arcs.specs.Listed.{IsArcOf, LeadsOver, AreLowersOf, IsArcLeft, SpansTrains}
 use Rattle.event_arcs.proofs.Leading.{leads_then, back_makes_cycle}
 use Rattle.event_arcs.proofs.Numbering.{IsStep, step_of, forced_is_op, same_forced}
 use Rattle.event_arcs.proofs.Joining.{either_leads}
@@ -104,7 +104,7 @@ fit_release problem o there = by (slice_get (train_at problem o.train) o.op) ref
         release_small p.listings (subst (λ (q : Operation). All (λ l. l.release ≤ GREATEST_NUMBER) q.listings) (get_or_from_slice_get (train_at problem o.train) o.op p p at) fits.releases)
 
 fit_duration : (problem : Problem) (t o : ℕ) → t < length problem.trains → duration_of (train_at problem t) o ≤ 2 ^ 31
-fit_duration problem t o there = omega (arith, fit_min problem (op_of t o) there)
+fit_duration problem t o there = omega (arith, fit_min problem (op_of_train t o) there)
 
 -- a train's arc is no longer than the train has operations, times the greatest number
 arc_within : (node : Node) (u v : Op) (sum : ℕ) → u.train < length node.problem.trains → IsTrainArc node u v sum → sum ≤ length (train_at node.problem u.train) * 2 ^ 31
@@ -141,7 +141,7 @@ record HasSpent (node : Node) (arcs : List Arc) (u t spent : ℕ) : Type 0 where
   pub forced : IsForced node lo
   pub arc : IsTrainArc node lo hi sum
   pub within : spent ≤ sum
-  pub left : IsLeft arcs (number_of node.problem lo)
+  pub left : IsArcLeft arcs (number_of node.problem lo)
   pub leads : (u ≡ number_of node.problem lo) ⊎ LeadsOver arcs u (number_of node.problem lo) 0
 
 record IsSpent (node : Node) (arcs : List Arc) (u : ℕ) (rest : List ℕ) : Type 0 where
@@ -149,15 +149,15 @@ record IsSpent (node : Node) (arcs : List Arc) (u : ℕ) (rest : List ℕ) : Typ
   pub each : (t : ℕ) → (spent t ≡ 0) ⊎ HasSpent node arcs u t (spent t)
   pub total : steps_length arcs u rest ≤ sum_to spent (length node.problem.trains) + length rest * 2 ^ 33
 
-module _ (node : Node) (arcs : List Arc) (sound : All (IsArcOf node) arcs) (spans : SpansTrains node arcs) (none : HasCycle arcs → ⊥) where
-  one_step : (u v : ℕ) → IsJoined arcs u v → LeadsOver arcs u v 0
+module _ (node : Node) (arcs : List Arc) (sound : All (IsArcOf node) arcs) (spans : SpansTrains node arcs) (none : ArcsHaveCycle arcs → ⊥) where
+  one_step : (u v : ℕ) → JoinsPair arcs u v → LeadsOver arcs u v 0
   one_step u v j = record { next = v; rest = []; follows = (j, tt); ends = refl; long = omega arith }
 
-  leaves : (u v : ℕ) → IsJoined arcs u v → IsLeft arcs u
+  leaves : (u v : ℕ) → JoinsPair arcs u v → IsArcLeft arcs u
   leaves u v j = (j.0, j.1, j.2, j.3, j.4.0)
 
   -- with a step before it
-  came : (u v t spent : ℕ) → IsJoined arcs u v → HasSpent node arcs v t spent → HasSpent node arcs u t spent
+  came : (u v t spent : ℕ) → JoinsPair arcs u v → HasSpent node arcs v t spent → HasSpent node arcs u t spent
   came u v t spent j has = record {
     lo = has.lo;
     hi = has.hi;
@@ -173,24 +173,24 @@ module _ (node : Node) (arcs : List Arc) (sound : All (IsArcOf node) arcs) (span
     ]);
   }
 
-  came_each : (u v t spent : ℕ) → IsJoined arcs u v → (spent ≡ 0) ⊎ HasSpent node arcs v t spent → (spent ≡ 0) ⊎ HasSpent node arcs u t spent
+  came_each : (u v t spent : ℕ) → JoinsPair arcs u v → (spent ≡ 0) ⊎ HasSpent node arcs v t spent → (spent ≡ 0) ⊎ HasSpent node arcs u t spent
   came_each u v t spent j (inl zero_is) = inl zero_is
   came_each u v t spent j (inr has) = inr (came u v t spent j has)
 
   -- a way that leads to an operation of the train leads up the train
-  leads_up_to : (v lo : Op) → IsForced node v → IsForced node lo → v.train ≡ lo.train → IsLeft arcs (number_of node.problem lo) → LeadsOver arcs (number_of node.problem v) (number_of node.problem lo) 0
+  leads_up_to : (v lo : Op) → IsForced node v → IsForced node lo → v.train ≡ lo.train → IsArcLeft arcs (number_of node.problem lo) → LeadsOver arcs (number_of node.problem v) (number_of node.problem lo) 0
       → (sum : ℕ) × IsTrainArc node v lo sum
   leads_up_to v lo one other same left way = by (either_leads node v.train v.op lo.op one (subst (IsForced node) lo_is other) apart)
     where
-      lo_is : lo ≡ op_of v.train lo.op
-      lo_is = ap (λ (t : ℕ). op_of t lo.op) (sym same)
+      lo_is : lo ≡ op_of_train v.train lo.op
+      lo_is = ap (λ (t : ℕ). op_of_train t lo.op) (sym same)
 
       back : LeadsOver arcs (number_of node.problem lo) (number_of node.problem v) 0 → ⊥
       back round = none (back_makes_cycle arcs (number_of node.problem v) 0 (leads_then arcs (number_of node.problem v) (number_of node.problem lo) (number_of node.problem v) 0 0 way round))
 
       apart : v.op ≡ lo.op → ⊥
       apart equal =
-          let whole : lo ≡ v = lo_is ∙ ap (λ (n : ℕ). op_of v.train n) (sym equal) in
+          let whole : lo ≡ v = lo_is ∙ ap (λ (n : ℕ). op_of_train v.train n) (sym equal) in
           none (back_makes_cycle arcs (number_of node.problem v) 0 (subst (λ (o : Op). LeadsOver arcs (number_of node.problem v) (number_of node.problem o) 0) whole way))
 
       by : ((n : ℕ) × LeadsTo (train_at node.problem v.train) n v.op lo.op) ⊎ ((n : ℕ) × LeadsTo (train_at node.problem v.train) n lo.op v.op) → (sum : ℕ) × IsTrainArc node v lo sum
@@ -200,7 +200,7 @@ module _ (node : Node) (arcs : List Arc) (sound : All (IsArcOf node) arcs) (span
           absurd (back (spans.way lo v arc.0 other one arc.1 left (leaves (number_of node.problem v) way.next way.follows.0)))
 
   -- with a step of the train before it
-  spent_more : (p v : Op) (len spent : ℕ) → IsForced node p → IsForced node v → IsTrainArc node p v len → IsJoined arcs (number_of node.problem p) (number_of node.problem v)
+  spent_more : (p v : Op) (len spent : ℕ) → IsForced node p → IsForced node v → IsTrainArc node p v len → JoinsPair arcs (number_of node.problem p) (number_of node.problem v)
       → (spent ≡ 0) ⊎ HasSpent node arcs (number_of node.problem v) p.train spent → HasSpent node arcs (number_of node.problem p) p.train (spent + len)
   spent_more p v len spent one other arc j (inl zero_is) = record {
     lo = p;
@@ -238,11 +238,11 @@ module _ (node : Node) (arcs : List Arc) (sound : All (IsArcOf node) arcs) (span
   nothing : ℕ → ℕ
   nothing t = 0
 
-  with_step : (p : Op) (m : ℕ) (rest : List ℕ) → IsForced node p → IsJoined arcs (number_of node.problem p) m → (step : IsStep node arcs p m) → IsSpent node arcs (number_of node.problem step.v) rest → IsSpent node arcs (number_of node.problem p) (m ∷ rest)
+  with_step : (p : Op) (m : ℕ) (rest : List ℕ) → IsForced node p → JoinsPair arcs (number_of node.problem p) m → (step : IsStep node arcs p m) → IsSpent node arcs (number_of node.problem step.v) rest → IsSpent node arcs (number_of node.problem p) (m ∷ rest)
   with_step p m rest forced joined step later = elim (same_number p.train step.v.train) [ inl same ↦ in_train same | inr apart ↦ across apart ]
     where
-      j : IsJoined arcs (number_of node.problem p) (number_of node.problem step.v)
-      j = subst (IsJoined arcs (number_of node.problem p)) (sym step.number_is) joined
+      j : JoinsPair arcs (number_of node.problem p) (number_of node.problem step.v)
+      j = subst (JoinsPair arcs (number_of node.problem p)) (sym step.number_is) joined
 
       far : steps_length arcs (number_of node.problem step.v) rest ≡ steps_length arcs m rest
       far = ap (λ (n : ℕ). steps_length arcs n rest) step.number_is
@@ -269,12 +269,12 @@ module _ (node : Node) (arcs : List Arc) (sound : All (IsArcOf node) arcs) (span
         total = omega (arith, later.total, far, step.no_longer, sum_bump later.spent p.train step.arc_length (length node.problem.trains) forced.train);
       }
 
-  spent_of : (p : Op) (rest : List ℕ) → IsForced node p → Follows arcs (number_of node.problem p) rest → IsSpent node arcs (number_of node.problem p) rest
+  spent_of : (p : Op) (rest : List ℕ) → IsForced node p → FollowsArcs arcs (number_of node.problem p) rest → IsSpent node arcs (number_of node.problem p) rest
   unfolding nothing
   spent_of p [] forced follows = record { spent = nothing; each = λ t. inl refl; total = omega arith }
   spent_of p (m ∷ rest) forced follows =
       let step = step_of node arcs p m sound forced follows.0 in
-      with_step p m rest forced follows.0 step (spent_of step.v rest step.longest.there.to_forced (subst (λ (n : ℕ). Follows arcs n rest) (sym step.number_is) follows.1))
+      with_step p m rest forced follows.0 step (spent_of step.v rest step.longest.there.to_forced (subst (λ (n : ℕ). FollowsArcs arcs n rest) (sym step.number_is) follows.1))
 
   spent_within : (u t spent : ℕ) → t < length node.problem.trains → (spent ≡ 0) ⊎ HasSpent node arcs u t spent → spent ≤ length (train_at node.problem t) * 2 ^ 31
   spent_within u t spent there (inl zero_is) = omega (arith, zero_is)
@@ -284,7 +284,7 @@ module _ (node : Node) (arcs : List Arc) (sound : All (IsArcOf node) arcs) (span
       omega (arith, has.within, long, same)
 
   -- the steps of a walk are no longer than a way through each train, and its orders
-  steps_within : (p : Op) (rest : List ℕ) → IsForced node p → Follows arcs (number_of node.problem p) rest
+  steps_within : (p : Op) (rest : List ℕ) → IsForced node p → FollowsArcs arcs (number_of node.problem p) rest
       → steps_length arcs (number_of node.problem p) rest ≤ operation_count node.problem.trains * 2 ^ 31 + length rest * 2 ^ 33
   steps_within p rest forced follows =
       let spent = spent_of p rest forced follows in
@@ -294,7 +294,7 @@ module _ (node : Node) (arcs : List Arc) (sound : All (IsArcOf node) arcs) (span
       let count : sum_by (λ (train : List Operation). length train) (take n node.problem.trains) ≡ operation_count node.problem.trains = ap (λ (l : List (List Operation)). sum_by (λ (train : List Operation). length train) l) all in
       omega (arith, spent.total, trains, trains_to node.problem n (omega arith), count)
 
-pub spanning_short : (node : Node) (arcs : List Arc) (lowers : List ℕ) → AreSmall node.fixings → All (IsArcOf node) arcs → SpansTrains node arcs → AreLowersOf node lowers → (HasCycle arcs → ⊥) → WalksAreShort lowers arcs
+pub spanning_short : (node : Node) (arcs : List Arc) (lowers : List ℕ) → AreSmall node.fixings → All (IsArcOf node) arcs → SpansTrains node arcs → AreLowersOf node lowers → (ArcsHaveCycle arcs → ⊥) → WalksAreShort lowers arcs
 spanning_short node arcs lowers small sound spans are none v [] walk = absurd walk
 spanning_short node arcs lowers small sound spans are none v (n ∷ rest) walk = by rest walk
   where
@@ -316,7 +316,7 @@ spanning_short node arcs lowers small sound spans are none v (n ∷ rest) walk =
         let listed = joining arcs n m w.1.0 in
         let arc = All-contains (IsArcOf node) arcs listed.0 sound listed.1 in
         let is : number_of node.problem arc.u ≡ n = sym arc.from_is ∙ listed.2 in
-        let on : Follows arcs (number_of node.problem arc.u) (m ∷ later) = subst (λ (k : ℕ). Follows arcs k (m ∷ later)) (sym is) w.1 in
+        let on : FollowsArcs arcs (number_of node.problem arc.u) (m ∷ later) = subst (λ (k : ℕ). FollowsArcs arcs k (m ∷ later)) (sym is) w.1 in
         let steps = steps_within node arcs sound spans none arc.u (m ∷ later) arc.joins.from_forced on in
         let same : steps_length arcs (number_of node.problem arc.u) (m ∷ later) ≡ steps_length arcs n (m ∷ later) = ap (λ (k : ℕ). steps_length arcs k (m ∷ later)) is in
         let ends = All-weaker (IsArcOf node) (λ (a : Arc). a.to < length lowers) ending arcs sound in

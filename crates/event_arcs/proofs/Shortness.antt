@@ -14,7 +14,7 @@ use Rattle.disp_model.specs.Walks.{HasCycle as HasCycleAt}
 use Rattle.disp_laws.proofs.Numbered.{each_number}
 use Rattle.disp_laws.proofs.HorizonBounds.{AreSmall, lower_within, within_horizon}
 use Rattle.incremental_paths.specs.declared.arc.Arc.{Arc}
-use Rattle.incremental_paths.specs.Walks.{Follows, walk_length, WalksAreShort}
+use Rattle.incremental_paths.specs.Walks.{FollowsArcs, walk_length, WalksAreShort}
 use Rattle.incremental_paths.proofs.Members.{joining}
 use Rattle.event_arcs.specs.Listed.{IsArcOf, AreLowersOf}
 use Rattle.event_arcs.proofs.Lengths.{carried}
@@ -59,7 +59,7 @@ short_walks node arcs lowers small sound are no_cycle v (n ∷ m ∷ rest) walk 
     let listed = joining arcs n m walk.1.0 in
     let arc = All-contains (IsArcOf node) arcs listed.0 sound listed.1 in
     let is : number_of node.problem arc.u ≡ n = sym arc.from_is ∙ listed.2 in
-    let on : Follows arcs (number_of node.problem arc.u) (m ∷ rest) = subst (λ (k : ℕ). Follows arcs k (m ∷ rest)) (sym is) walk.1 in
+    let on : FollowsArcs arcs (number_of node.problem arc.u) (m ∷ rest) = subst (λ (k : ℕ). FollowsArcs arcs k (m ∷ rest)) (sym is) walk.1 in
     let over = carried node arcs lowers arc.u (m ∷ rest) sound are arc.joins.from_forced on in
     let same : walk_length lowers arcs (number_of node.problem arc.u ∷ m ∷ rest) ≡ walk_length lowers arcs (n ∷ m ∷ rest) = ap (λ (k : ℕ). walk_length lowers arcs (k ∷ m ∷ rest)) is in
     let long = within_horizon node (arc.u ∷ over.ops) over.total small no_cycle over.is_walk in

@@ -8,7 +8,7 @@ use Rattle.disp_model.specs.Routes.{IsForced}
 use Rattle.disp_model.specs.Arcs.{IsTrainArc}
 use Rattle.train_orders.specs.Orders.{IsOrder}
 use Rattle.route_sets.specs.declared.routes.Routes.{Routes}
-use Rattle.route_sets.specs.Sets.{op_of, AreRoutesOf}
+use Rattle.route_sets.specs.Sets.{op_of_train, AreRoutesOf}
 use Rattle.incremental_paths.specs.declared.arc.Arc.{Arc}
 use Rattle.event_arcs.specs.Listed.{IsArcOf, LeadsOver}
 
@@ -22,31 +22,31 @@ abbrev pub LeadsAlong : Node → List Arc → Op → Op → ℕ → Type 0
 LeadsAlong node arcs u v arc_length = LeadsOver arcs (number_of node.problem u) (number_of node.problem v) arc_length
 
 -- a train's routes, an order of its operations, and its first number
-pub record IsGiven (node : Node) (t : ℕ) (routes : Routes) (order : List ℕ) (first : ℕ) : Type 0 where
+pub record IsOrderGiven (node : Node) (t : ℕ) (routes : Routes) (order : List ℕ) (first : ℕ) : Type 0 where
   pub there : t < length node.problem.trains
   pub are_routes : AreRoutesOf node t routes
   pub is_order : IsOrder (train_at node.problem t) order
-  pub first_is : first ≡ number_of node.problem (op_of t 0)
+  pub first_is : first ≡ number_of node.problem (op_of_train t 0)
 
 -- each forced operation of the order from a place on is the last one, or the list leads from it there
 pub record EndsAt (node : Node) (t : ℕ) (arcs : List Arc) (last : Option ℕ) (o : ℕ) : Type 0 where
   pub end : ℕ
   pub is_last : last ≡ Some end
-  pub leads : (o ≡ end) ⊎ ((sum : ℕ) × IsTrainArc node (op_of t o) (op_of t end) sum × LeadsAlong node arcs (op_of t o) (op_of t end) sum)
+  pub leads : (o ≡ end) ⊎ ((sum : ℕ) × IsTrainArc node (op_of_train t o) (op_of_train t end) sum × LeadsAlong node arcs (op_of_train t o) (op_of_train t end) sum)
 
 -- a forced operation of the order from a place on
 pub record StandsFrom (node : Node) (t : ℕ) (order : List ℕ) (place o : ℕ) : Type 0 where
   pub at : ℕ
   pub from : place ≤ at
   pub here : slice_get order at ≡ Some o
-  pub forced : IsForced node (op_of t o)
+  pub forced : IsForced node (op_of_train t o)
 
 -- the list leads between the forced operations of the order from a place on
 pub record IsChained (node : Node) (t : ℕ) (order : List ℕ) (place : ℕ) (base arcs : List Arc) (last : Option ℕ) : Type 0 where
   pub extends : Extends node base arcs
   pub last_stands : IfSome last (StandsFrom node t order place)
   pub to_last : (o : ℕ) → StandsFrom node t order place o → EndsAt node t arcs last o
-  pub between : (o q sum : ℕ) → StandsFrom node t order place o → StandsFrom node t order place q → IsTrainArc node (op_of t o) (op_of t q) sum → LeadsAlong node arcs (op_of t o) (op_of t q) sum
+  pub between : (o q sum : ℕ) → StandsFrom node t order place o → StandsFrom node t order place q → IsTrainArc node (op_of_train t o) (op_of_train t q) sum → LeadsAlong node arcs (op_of_train t o) (op_of_train t q) sum
 
 -- with the arcs of a train
 pub record AddsChain (node : Node) (t : ℕ) (old new : List Arc) : Type 0 where

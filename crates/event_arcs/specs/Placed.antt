@@ -3,14 +3,14 @@ use Rattle.std.specs.Prelude.{◌≡◌, ◌<◌, ◌≤◌, ℕ, List, length, 
 use Rattle.disp_model.specs.Numbers.{number_of}
 use Rattle.disp_model.specs.Node.{Node}
 use Rattle.disp_model.specs.Routes.{HasRoute}
-use Rattle.route_sets.specs.Sets.{op_of, AreRoutesOf}
+use Rattle.route_sets.specs.Sets.{op_of_train, AreRoutesOf}
 use Rattle.event_arcs.specs.declared.placed.Placed.{Placed}
 use Rattle.event_arcs.specs.declared.placed.Placing.{Placing}
 use Rattle.event_arcs.specs.declared.placed.Placing.TheVariants.{Each, NoRoute}
 
 -- the routes of a train and its first number, where it has an allowed route
 pub record IsPlaced (node : Node) (t : ℕ) (placed : Placed) : Type 0 where
-  pub first_is : placed.first ≡ number_of node.problem (op_of t 0)
+  pub first_is : placed.first ≡ number_of node.problem (op_of_train t 0)
   pub are_routes : AreRoutesOf node t placed.routes
   pub has_route : HasRoute node t
 

@@ -5,9 +5,9 @@ ghost use Rattle.disp_model.specs.declared.fixing.Fixing.{Fixing};
 ghost use Rattle.disp_model.specs.declared.decision.Decision.{Decision};
 ghost use Rattle.disp_model.specs.Routes.{IsForced};
 ghost use Rattle.disp_model.specs.Arcs.{IsTrainArc};
-ghost use Rattle.route_sets.specs.Sets.{op_of, AreRoutesOf};
+ghost use Rattle.route_sets.specs.Sets.{op_of_train, AreRoutesOf};
 ghost use Rattle.event_arcs.specs.Placed.{IsPlaced, ArePlaced};
-ghost use Rattle.event_arcs.specs.Chained.{IsGiven, IsChained, AddsChain, AddsChains};
+ghost use Rattle.event_arcs.specs.Chained.{IsOrderGiven, IsChained, AddsChain, AddsChains};
 
 use crate::placed::Placed;
 use disp_model::{Memory, Problem};
@@ -25,8 +25,8 @@ fn join(
     requires from { first + before < 2 ^ 32 }
     requires to { first + op < 2 ^ 32 }
     ensures { (node : Node) (t sum : ℕ) → AreRoutesOf node t routes.now
-        → IsForced node (op_of t before) → IsForced node (op_of t op)
-        → IsTrainArc node (op_of t before) (op_of t op) sum
+        → IsForced node (op_of_train t before) → IsForced node (op_of_train t op)
+        → IsTrainArc node (op_of_train t before) (op_of_train t op) sum
         → OnOk result (arcs.new.items
         ≡ arcs.old.items ++ record { from = first + before; to = first + op; length = sum } ∷ []) }
 {
@@ -52,7 +52,7 @@ fn step(
     requires to { first + op < 2 ^ 32 }
     ensures fits { IfOk result (λ next. IfSome next (λ before. first + before < 2 ^ 32)) }
     ensures chained { (node : Node) (t : ℕ) (order : List ℕ) (place : ℕ) (base : List Arc)
-        → IsGiven node t routes.now order first → slice_get order place ≡ Some op
+        → IsOrderGiven node t routes.now order first → slice_get order place ≡ Some op
         → IsChained node t order (place + 1) base arcs.old.items last
         → IfOk result (IsChained node t order place base arcs.new.items) }
 {
@@ -69,7 +69,7 @@ fn step(
 /// train from the exit back.
 fn chain(arcs: &mut Vec<Arc>, routes: &Routes, order: &[u32], first: u32) -> Result<(), Memory>
     requires { All (λ op. first + op < 2 ^ 32) order.now }
-    ensures { (node : Node) (t : ℕ) → IsGiven node t routes.now order.now first
+    ensures { (node : Node) (t : ℕ) → IsOrderGiven node t routes.now order.now first
         → OnOk result (AddsChain node t arcs.old.items arcs.new.items) }
 {
     let mut last = None;

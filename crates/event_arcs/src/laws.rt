@@ -15,7 +15,7 @@ ghost use Rattle.disp_model.specs.Replies.{IsEdition};
 ghost use Rattle.route_sets.specs.declared.routes.Routes.{Routes};
 ghost use Rattle.route_sets.specs.Sets.{AreRoutesOf};
 ghost use Rattle.incremental_paths.specs.declared.arc.Arc.{Arc};
-ghost use Rattle.incremental_paths.specs.Walks.{IsWalkTo, walk_length, IsLongest, IsCycle, HasCycle, WalksAreShort};
+ghost use Rattle.incremental_paths.specs.Walks.{IsWalkTo, walk_length, IsLongestLength, IsArcCycle, ArcsHaveCycle, WalksAreShort};
 ghost use Rattle.event_arcs.specs.Listed.{IsArcOf, AreArcsOf, AreLowersOf, SpansTrains, GoesBetween, JoinsOps};
 ghost use Rattle.event_arcs.specs.Owned.{train_of_decision};
 ghost use Rattle.event_arcs.specs.Chained.{LeadsAlong};
@@ -25,9 +25,9 @@ ghost use Rattle.event_arcs.specs.Ordering.{LeadsAsOrdered};
 /// of their operations.
 pub fn cycles_are_shared()
     ensures exactly { (node : Node) (arcs : List Arc)
-        → AreArcsOf node arcs → (HasCycle arcs ↔ HasCycleAt node) }
+        → AreArcsOf node arcs → (ArcsHaveCycle arcs ↔ HasCycleAt node) }
     ensures operations { (node : Node) (arcs : List Arc) (numbers : List ℕ)
-        → All (IsArcOf node) arcs → IsCycle arcs numbers
+        → All (IsArcOf node) arcs → IsArcCycle arcs numbers
         → (ops : List Op) × (map (number_of node.problem) ops ≡ numbers) × IsCycleAt node ops }
 {}
 
@@ -45,7 +45,7 @@ pub fn walks_are_carried_over()
 pub fn longest_are_shared()
     ensures { (node : Node) (arcs : List Arc) (lowers : List ℕ) (o : Op) (total : ℕ)
         → AreArcsOf node arcs → AreLowersOf node lowers → (HasCycleAt node → ⊥) → IsForced node o
-        → (IsLongestAt node o total ↔ IsLongest lowers arcs (number_of node.problem o) total) }
+        → (IsLongestAt node o total ↔ IsLongestLength lowers arcs (number_of node.problem o) total) }
 {}
 
 /// With an edition's fixings, where the arcs have no cycle, no walk along the list is longer than
@@ -63,7 +63,7 @@ pub fn spanning_lists_are_short()
     ensures { (node : Node) (changes : List Change) (arcs : List Arc) (lowers : List ℕ)
         → IsEdition node.problem changes → node.fixings ≡ standing_of changes
         → All (IsArcOf node) arcs → SpansTrains node arcs → AreLowersOf node lowers
-        → ¬ HasCycle arcs → WalksAreShort lowers arcs }
+        → ¬ ArcsHaveCycle arcs → WalksAreShort lowers arcs }
 {}
 
 /// Where no order is decided the arcs have no cycle.

@@ -14,7 +14,7 @@ use Rattle.disp_model.specs.Routes.{IsForced}
 use Rattle.disp_model.specs.Arcs.{Conflicts, GoesTo}
 use Rattle.disp_laws.proofs.LongestWalks.{forced_within}
 use Rattle.incremental_paths.specs.declared.arc.Arc.{Arc}
-use Rattle.route_sets.specs.Sets.{op_of}
+use Rattle.route_sets.specs.Sets.{op_of_train}
 use Rattle.event_arcs.specs.Listed.{IsArcOf}
 use Rattle.event_arcs.specs.Chained.{AddsChain}
 use Rattle.event_arcs.specs.Owned.{train_of_decision}
@@ -42,7 +42,7 @@ same_or_added node d t pairs old new o about adds forced = elim (cases_Bool (nat
   where
     by : o.train ≡ t → IsSame node d o ⊎ LeadsTouching (with_decision node d) (number_of node.problem o) pairs new
     by own =
-        let is : op_of t o.op ≡ o = ap (λ (u : ℕ). op_of u o.op) (sym own) in
+        let is : op_of_train t o.op ≡ o = ap (λ (u : ℕ). op_of_train u o.op) (sym own) in
         let within : o.op < length (train_at node.problem t) = subst (λ (u : ℕ). o.op < length (train_at node.problem u)) own (forced_within (with_decision node d) o forced) in
         elim (adds.each o.op within) [
           | inl stays ↦

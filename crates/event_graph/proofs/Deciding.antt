@@ -24,7 +24,7 @@ use Rattle.event_arcs.proofs.Cycling.{same_cycles}
 use Rattle.disp_laws.proofs.LeavesStay.{HaveRoutes}
 use Rattle.event_graph.specs.declared.orders.Pair.{Pair}
 use Rattle.event_graph.specs.Pairs.{IsDecidedAt}
-use Rattle.event_graph.specs.States.{pair_of, AreOrdersOf, State, IsStateAt, without}
+use Rattle.event_graph.specs.States.{pair_of, AreOrdersOf, GraphState, IsStateAt, without_last_of}
 use Rattle.event_graph.specs.declared.parts.Parts.{Parts}
 use Rattle.event_graph.specs.declared.changes.Change.TheVariants.{Nothing, Order}
 use Rattle.event_graph.specs.declared.faults.ExtendNo.{ExtendNo}
@@ -117,21 +117,21 @@ none_more node a b pairs none are = record {
 
 -- ---- the arcs that are added
 
-pub back_to : {X : Type 0} → (old more : List X) → without (length more) (old ++ more) ≡ old
+pub back_to : {X : Type 0} → (old more : List X) → without_last_of (length more) (old ++ more) ≡ old
 back_to old more = ap (λ (n : ℕ). take n (old ++ more)) (let same : length (old ++ more) - length more ≡ length old = omega (arith, length-append old more) in same) ∙ take-append-le (length old) old more (omega arith) ∙ take_all (length old) old (omega arith)
 
-pub added : (node : Node) (old more new : List Arc) (count : ℕ) → new ≡ old ++ more → count ≡ length more → AreArcsOf node (old ++ more) → (HasCycle node → ⊥) → AreArcsOf node new × (HasCycle node → ⊥) × (count ≤ length new) × (without count new ≡ old)
+pub added : (node : Node) (old more new : List Arc) (count : ℕ) → new ≡ old ++ more → count ≡ length more → AreArcsOf node (old ++ more) → (HasCycle node → ⊥) → AreArcsOf node new × (HasCycle node → ⊥) × (count ≤ length new) × (without_last_of count new ≡ old)
 added node old more new count is counted are none = (
   subst (AreArcsOf node) (sym is) are,
   none,
   omega (arith, counted, ap (λ (l : List Arc). length l) is, length-append old more),
-  ap (λ (l : List Arc). without count l) is ∙ ap (λ (n : ℕ). without n (old ++ more)) counted ∙ back_to old more,
+  ap (λ (l : List Arc). without_last_of count l) is ∙ ap (λ (n : ℕ). without_last_of n (old ++ more)) counted ∙ back_to old more,
 )
 
 -- ---- what is kept then
 
 abbrev pub HasAdded : Node → List Arc → List Arc → ℕ → Type 0
-HasAdded node old new count = AreArcsOf node new × (HasCycle node → ⊥) × (count ≤ length new) × (without count new ≡ old)
+HasAdded node old new count = AreArcsOf node new × (HasCycle node → ⊥) × (count ≤ length new) × (without_last_of count new ≡ old)
 
 pub order_decides : (node : Node) (a b : Op) (owns : List Own) (each : List Placed) (pairs : List Pair) (arcs : List Arc) (pair : Pair) (new_pairs : List Pair) (new_arcs : List Arc) (count : ℕ)
     → IsStateAt node (record { owns = owns; each = each; pairs = pairs; arcs = arcs }) → pair ≡ pair_of node.problem a b → new_pairs ≡ pairs ++ pair ∷ [] → HasAdded (with_decision node (First a b)) arcs new_arcs count
@@ -146,11 +146,11 @@ order_decides node a b owns each pairs arcs pair new_pairs new_arcs count state 
     no_cycle = none;
   };
   may = (omega (arith, ap (λ (ps : List Pair). length ps) pushed, length-append pairs (pair ∷ [])), within);
-  back = ap (λ (ps : List Pair). record { owns = owns; each = each; pairs = ps; arcs = without count new_arcs }) (ap (λ (ps : List Pair). without 1 ps) pushed ∙ back_to pairs (pair ∷ []))
+  back = ap (λ (ps : List Pair). record { owns = owns; each = each; pairs = ps; arcs = without_last_of count new_arcs }) (ap (λ (ps : List Pair). without_last_of 1 ps) pushed ∙ back_to pairs (pair ∷ []))
       ∙ ap (λ (l : List Arc). record { owns = owns; each = each; pairs = pairs; arcs = l }) back;
 }
 
-pub nothing_decides : (node : Node) (a b : Op) (state : State) → IsStateAt node state → (HasOperation node.problem a → HasOperation node.problem b → ⊥) → Decides (with_decision node (First a b)) Nothing state state
+pub nothing_decides : (node : Node) (a b : Op) (state : GraphState) → IsStateAt node state → (HasOperation node.problem a → HasOperation node.problem b → ⊥) → Decides (with_decision node (First a b)) Nothing state state
 nothing_decides node a b state is none = record {
   at = record {
     owns_long = is.owns_long;
@@ -190,9 +190,9 @@ refused_at node (Cycle ops) have says = (have, says)
 refused_at node Memory have says = tt
 
 pub back_again : (owns : List Own) (each : List Placed) (pairs pushed popped : List Pair) (pair : Pair) (arcs now : List Arc) → pushed ≡ pairs ++ pair ∷ [] → popped ≡ take (length pushed - 1) pushed → now ≡ arcs
-    → ◌≡◌ {A = State} (record { owns = owns; each = each; pairs = popped; arcs = now }) (record { owns = owns; each = each; pairs = pairs; arcs = arcs })
+    → ◌≡◌ {A = GraphState} (record { owns = owns; each = each; pairs = popped; arcs = now }) (record { owns = owns; each = each; pairs = pairs; arcs = arcs })
 back_again owns each pairs pushed popped pair arcs now up down same =
-    ap (λ (ps : List Pair). record { owns = owns; each = each; pairs = ps; arcs = now }) (down ∙ ap (λ (ps : List Pair). without 1 ps) up ∙ back_to pairs (pair ∷ []))
+    ap (λ (ps : List Pair). record { owns = owns; each = each; pairs = ps; arcs = now }) (down ∙ ap (λ (ps : List Pair). without_last_of 1 ps) up ∙ back_to pairs (pair ∷ []))
     ∙ ap (λ (l : List Arc). record { owns = owns; each = each; pairs = pairs; arcs = l }) same
 
 pub may_add : (node : Node) (ops : List Op) (parts : Parts) (each : List Placed) (a b : Op) → MayDecide node ops parts → each ≡ parts.each.items → MayAddOrder node ops each parts.paths (First a b)

@@ -14,15 +14,15 @@ use Rattle.disp_model.specs.Walks.{WalksOn, IsWalk, EndsIn, IsLongest, HasCycle,
 use Rattle.disp_laws.proofs.Numbered.{each_number}
 use Rattle.disp_laws.proofs.LongestWalks.{longest_walk, from_once}
 use Rattle.incremental_paths.specs.declared.arc.Arc.{Arc}
-use Rattle.incremental_paths.specs.Walks.{IsWalkTo, Follows, last_from, walk_length, IsLongest as IsLongestTo}
+use Rattle.incremental_paths.specs.Walks.{IsWalkTo, FollowsArcs, last_node_from, walk_length, IsLongestLength as IsLongestTo}
 use Rattle.incremental_paths.proofs.Members.{joining}
-use Rattle.timed_paths.specs.Above.{IsAbove}
+use Rattle.timed_paths.specs.Above.{IsAboveUpper}
 use Rattle.event_arcs.specs.Listed.{IsArcOf, AreArcsOf, AreLowersOf}
 use Rattle.event_arcs.proofs.Numbering.{forced_is_op, same_by_number}
 use Rattle.event_arcs.proofs.Lengths.{same_longest}
 use Rattle.event_windows.specs.Operations.{HasOperation, AreOperationsOf}
 use Rattle.event_windows.specs.Windows.{window_by}
-use Rattle.event_graph.specs.Late.{until_from, open_until, AreUppersOf, IsClosed, AreClosedOf, IsLateAt}
+use Rattle.event_graph.specs.Late.{until_from, open_until, AreUppersOf, IsWindowClosed, AreClosedOf, IsLateAt}
 
 -- ---- windows
 
@@ -74,14 +74,14 @@ module _ (node : Node) (arcs : List Arc) (lowers : List ℕ) (uppers : List (Opt
   entered o (n ∷ []) there walk late = absurd (omega (arith, late, ap (λ (k : ℕ). get_or lowers k 0) walk.2, lowers_are.at o there))
   entered o (n ∷ m ∷ rest) there walk late = last n m rest walk.1 walk.2
     where
-      last : (u v : ℕ) (later : List ℕ) → Follows arcs u (v ∷ later) → last_from v later ≡ number_of node.problem o → IsForced node o
+      last : (u v : ℕ) (later : List ℕ) → FollowsArcs arcs u (v ∷ later) → last_node_from v later ≡ number_of node.problem o → IsForced node o
       last u v [] follows is =
           let listed = joining arcs u v follows.0 in
           let arc = All-contains (IsArcOf node) arcs listed.0 arcs_are.sound listed.1 in
           subst (IsForced node) (same_by_number node.problem arc.v o (forced_is_op node arc.v arc.joins.to_forced) there (sym arc.to_is ∙ listed.3 ∙ is)) arc.joins.to_forced
       last u v (w ∷ later) follows is = last v w later follows.1 is
 
-  pub late_of_above : (ops : List Op) (number : ℕ) (o : Op) → AreOperationsOf node.problem ops → IsAbove lowers arcs uppers number → slice_get ops number ≡ Some o → IsLateAt node o
+  pub late_of_above : (ops : List Op) (number : ℕ) (o : Op) → AreOperationsOf node.problem ops → IsAboveUpper lowers arcs uppers number → slice_get ops number ≡ Some o → IsLateAt node o
   late_of_above ops number o ops_are above at = from (each_number node.problem number (omega (arith, slice_get_within uppers number (Some above.upper) above.upper_is, uppers_are.long)))
     where
       from : (p : Op) × (p.train < length node.problem.trains) × (p.op < length (train_at node.problem p.train)) × (number_of node.problem p ≡ number) → IsLateAt node o
@@ -100,7 +100,7 @@ module _ (node : Node) (arcs : List Arc) (lowers : List ℕ) (uppers : List (Opt
           }
 
   -- what is late is above its upper, or may start at no time
-  pub late_is_told : (closed : List Op) → AreClosedOf node.problem node.fixings closed → (late : HasLate node) → IsAbove lowers arcs uppers (number_of node.problem late.operation) ⊎ (Contains closed late.operation × IsForced node late.operation)
+  pub late_is_told : (closed : List Op) → AreClosedOf node.problem node.fixings closed → (late : HasLate node) → IsAboveUpper lowers arcs uppers (number_of node.problem late.operation) ⊎ (Contains closed late.operation × IsForced node late.operation)
   late_is_told closed closed_are late =
       let o = late.operation in
       let forced = longest_forced node o late.total late.longest in
@@ -119,7 +119,7 @@ module _ (node : Node) (arcs : List Arc) (lowers : List ℕ) (uppers : List (Opt
 -- an operation that must be run and may start at no time is late
 pub late_where_closed : (node : Node) (closed : List Op) (o : Op) → AreClosedOf node.problem node.fixings closed → Contains closed o → IsForced node o → IsLateAt node o
 late_where_closed node closed o are has forced =
-    let is = (All-contains (λ (p : Op). HasOperation node.problem p × IsClosed (window_by node.problem node.fixings p)) closed o are.only has).1 in
+    let is = (All-contains (λ (p : Op). HasOperation node.problem p × IsWindowClosed (window_by node.problem node.fixings p)) closed o are.only has).1 in
     let longest = longest_walk node o forced in
     record {
       late = record { operation = o; total = longest.0; longest = longest.1; upper = is.upper; upper_is = is.upper_is; late = omega (arith, is.below, from_lower node o longest.0 forced longest.1) };
@@ -128,7 +128,7 @@ late_where_closed node closed o are has forced =
 
 module _ (node : Node) (arcs : List Arc) (lowers : List ℕ) (uppers : List (Option ℕ)) (arcs_are : AreArcsOf node arcs) (lowers_are : AreLowersOf node lowers) (uppers_are : AreUppersOf node.problem node.fixings uppers) (no_cycle : HasCycle node → ⊥) where
   -- where each train has a route and no number is above its upper, only what must be run and may start at no time is late
-  pub none_late_or_closed : ((t : ℕ) → t < length node.problem.trains → HasRoute node t) → (closed : List Op) (found : Option Op) → AreClosedOf node.problem node.fixings closed → ((number : ℕ) → IsAbove lowers arcs uppers number → ⊥)
+  pub none_late_or_closed : ((t : ℕ) → t < length node.problem.trains → HasRoute node t) → (closed : List Op) (found : Option Op) → AreClosedOf node.problem node.fixings closed → ((number : ℕ) → IsAboveUpper lowers arcs uppers number → ⊥)
       → MatchOption found ((o : Op) → Contains closed o → IsForced node o → ⊥) (λ o. Contains closed o × IsForced node o) → MatchOption found (IsDead node → ⊥) (IsLateAt node)
   none_late_or_closed routes closed (Some o) are none is = late_where_closed node closed o are is.0 is.1
   none_late_or_closed routes closed None are none is = λ dead. elim dead [

@@ -13,7 +13,7 @@ use Rattle.disp_model.specs.Walks.{ClosesTo, IsCycle, HasCycle}
 use Rattle.disp_laws.proofs.Numbered.{below_count}
 use Rattle.disp_laws.proofs.HorizonBounds.{AreSmall, edition_is_small}
 use Rattle.incremental_paths.specs.declared.arc.Arc.{Arc}
-use Rattle.incremental_paths.specs.Walks.{WalksAreShort, IsCycle as IsCycleOf, HasCycle as HasCycleOf}
+use Rattle.incremental_paths.specs.Walks.{WalksAreShort, IsArcCycle as IsCycleOf, ArcsHaveCycle as HasCycleOf}
 use Rattle.incremental_paths.specs.Network.{IsNode}
 use Rattle.timed_paths.specs.Timed.{Timed, network_of}
 use Rattle.event_arcs.specs.Listed.{IsArcOf}

@@ -28,7 +28,7 @@ use Rattle.event_arcs.proofs.Offsets.{placed_at, routes_by_own, all_have_routes}
 use Rattle.event_graph.specs.declared.orders.Pair.{Pair}
 use Rattle.event_graph.specs.declared.changes.Change.TheVariants.{Nothing, Train}
 use Rattle.event_graph.specs.Pairs.{Ordered, IsDecidedAt}
-use Rattle.event_graph.specs.States.{AreOrdersOf, State, IsStateAt, AddsTrain, without}
+use Rattle.event_graph.specs.States.{AreOrdersOf, GraphState, IsStateAt, AddsTrain, without_last_of}
 use Rattle.train_orders.proofs.Places.{set_at, set_elsewhere}
 use Rattle.event_graph.specs.Joined.{MayJoin}
 use Rattle.event_graph.specs.Kept.{MayDecide, MayAddTrain, Decides}
@@ -159,8 +159,8 @@ pub train_decides : (node : Node) (d : Decision) (t : ℕ) (owns : List Own) (ea
 train_decides node d t owns each pairs arcs own more before placed new_arcs count state about there own_is placed_is was stood (are, none, within, back) = record {
   at = record { owns_long = length-set owns t more ∙ state.owns_long; own = own_is; placed = placed_is; orders = orders_stay node d t pairs about state.orders; arcs = are; no_cycle = none };
   may = (omega (arith, there, length-set owns t more, state.owns_long), omega (arith, there, length-set each t placed, state.placed.long), within);
-  back = ap (λ (os : List Own). record { owns = os; each = set (set each t placed) t before; pairs = pairs; arcs = without count new_arcs }) (put_back owns t more own was)
-      ∙ ap (λ (ps : List Placed). record { owns = owns; each = ps; pairs = pairs; arcs = without count new_arcs }) (put_back each t placed before stood)
+  back = ap (λ (os : List Own). record { owns = os; each = set (set each t placed) t before; pairs = pairs; arcs = without_last_of count new_arcs }) (put_back owns t more own was)
+      ∙ ap (λ (ps : List Placed). record { owns = owns; each = ps; pairs = pairs; arcs = without_last_of count new_arcs }) (put_back each t placed before stood)
       ∙ ap (λ (l : List Arc). record { owns = owns; each = each; pairs = pairs; arcs = l }) back;
 }
 
@@ -212,13 +212,13 @@ may_train node d ops parts t before placed each may about there at is now = reco
     within = omega (arith, there, may.state.placed.long)
 
 pub both_back : (owns : List Own) (each : List Placed) (pairs : List Pair) (arcs now : List Arc) (t : ℕ) (before placed : Placed) → before ≡ get_or each t before → now ≡ arcs
-    → ◌≡◌ {A = State} (record { owns = owns; each = set (set each t placed) t before; pairs = pairs; arcs = now }) (record { owns = owns; each = each; pairs = pairs; arcs = arcs })
+    → ◌≡◌ {A = GraphState} (record { owns = owns; each = set (set each t placed) t before; pairs = pairs; arcs = now }) (record { owns = owns; each = each; pairs = pairs; arcs = arcs })
 both_back owns each pairs arcs now t before placed stood same =
     ap (λ (ps : List Placed). record { owns = owns; each = ps; pairs = pairs; arcs = now }) (put_back each t placed before stood) ∙ ap (λ (l : List Arc). record { owns = owns; each = each; pairs = pairs; arcs = l }) same
 
 -- ---- a decision about a train that is not there
 
-pub elsewhere_decides : (node : Node) (d : Decision) (t : ℕ) (state : State) → IsStateAt node state → train_of_decision d ≡ Some t → length node.problem.trains ≤ t → Decides (with_decision node d) Nothing state state
+pub elsewhere_decides : (node : Node) (d : Decision) (t : ℕ) (state : GraphState) → IsStateAt node state → train_of_decision d ≡ Some t → length node.problem.trains ≤ t → Decides (with_decision node d) Nothing state state
 elsewhere_decides node d t state is about past = record {
   at = record {
     owns_long = is.owns_long;

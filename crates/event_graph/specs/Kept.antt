@@ -18,11 +18,11 @@ use Rattle.event_graph.specs.declared.parts.Parts.{Parts}
 use Rattle.event_graph.specs.declared.changes.Change.{Change}
 use Rattle.event_graph.specs.declared.faults.ExtendNo.{ExtendNo}
 use Rattle.event_graph.specs.declared.faults.ExtendNo.TheVariants.{NoRoute, Cycle, Memory}
-use Rattle.event_graph.specs.States.{AreOrdersOf, State, IsStateAt, without, restored, MayRestore}
+use Rattle.event_graph.specs.States.{AreOrdersOf, GraphState, IsStateAt, without_last_of, restored_state, MayRestore}
 use Rattle.event_graph.specs.Joined.{IsOfEdition, IsCycleOr}
 use Rattle.event_windows.specs.Operations.{AreOperationsOf}
 
-abbrev pub state_of : Parts → State
+abbrev pub state_of : Parts → GraphState
 state_of parts = record { owns = parts.owns.items; each = parts.each.items; pairs = parts.orders.pairs; arcs = parts.paths.arcs }
 
 -- a decision may be added to what is kept
@@ -33,21 +33,21 @@ pub record MayDecide (node : Node) (ops : List Op) (parts : Parts) : Type 0 wher
   pub edition : IsOfEdition node
   pub size : parts.orders.size ≡ operation_count node.problem.trains
 
--- why the node is none to go on from: the first train without a route; else a cycle; or memory ran out
+-- why the node is none to go on from: the first train without_last_of a route; else a cycle; or memory ran out
 abbrev pub IsRefusedAt : Node → ExtendNo → Type 0
 IsRefusedAt node (NoRoute t) = IsFirstWithout node t
 IsRefusedAt node (Cycle ops) = ((t : ℕ) → t < length node.problem.trains → HasRoute node t) × IsCycle node ops
 IsRefusedAt node Memory = Unit {0}
 
 -- what is kept stands for the node then, and the change puts back what was kept before
-pub record Decides (node : Node) (change : Change) (old new : State) : Type 0 where
+pub record Decides (node : Node) (change : Change) (old new : GraphState) : Type 0 where
   pub at : IsStateAt node new
   pub may : MayRestore change new
-  pub back : restored change new ≡ old
+  pub back : restored_state change new ≡ old
 
 -- arcs of the node are added behind the others, or none
 abbrev pub AddsArcs : Node → List Arc → List Arc → Result ℕ ExtendNo → Type 0
-AddsArcs node old new (Ok count) = AreArcsOf node new × (HasCycle node → ⊥) × (count ≤ length new) × (without count new ≡ old)
+AddsArcs node old new (Ok count) = AreArcsOf node new × (HasCycle node → ⊥) × (count ≤ length new) × (without_last_of count new ≡ old)
 AddsArcs node old new (Err why) = IsCycleOr node why
 
 -- the arcs of an order may be added
@@ -72,6 +72,6 @@ pub record MayAddTrain (node : Node) (decision : Decision) (ops : List Op) (each
   pub size : orders.size ≡ operation_count node.problem.trains
   pub arcs_are : AreArcsOf node paths.arcs
 
-abbrev pub AnswersAt : Node → State → State → Result Change ExtendNo → Type 0
+abbrev pub AnswersAt : Node → GraphState → GraphState → Result Change ExtendNo → Type 0
 AnswersAt node old new (Ok change) = Decides node change old new
 AnswersAt node old new (Err why) = IsRefusedAt node why × (new ≡ old)

@@ -21,7 +21,7 @@ abbrev pub open_until : Window → Option ℕ
 open_until window = until_from window.lower window.upper
 
 -- a window that is never open
-pub record IsClosed (window : Window) : Type 0 where
+pub record IsWindowClosed (window : Window) : Type 0 where
   pub upper : ℕ
   pub upper_is : window.upper ≡ Some upper
   pub below : upper < window.lower
@@ -33,13 +33,13 @@ pub record AreUppersOf (problem : Problem) (fixings : List Fixing) (uppers : Lis
 
 -- those of the first so many operations whose windows are never open
 pub record AreClosedTo (problem : Problem) (fixings : List Fixing) (count : ℕ) (closed : List Op) : Type 0 where
-  pub found : (o : Op) → HasOperation problem o → number_of problem o < count → IsClosed (window_by problem fixings o) → Contains closed o
-  pub only : All (λ o. HasOperation problem o × IsClosed (window_by problem fixings o)) closed
+  pub found : (o : Op) → HasOperation problem o → number_of problem o < count → IsWindowClosed (window_by problem fixings o) → Contains closed o
+  pub only : All (λ o. HasOperation problem o × IsWindowClosed (window_by problem fixings o)) closed
 
 -- the operations whose windows are never open
 pub record AreClosedOf (problem : Problem) (fixings : List Fixing) (closed : List Op) : Type 0 where
-  pub found : (o : Op) → HasOperation problem o → IsClosed (window_by problem fixings o) → Contains closed o
-  pub only : All (λ o. HasOperation problem o × IsClosed (window_by problem fixings o)) closed
+  pub found : (o : Op) → HasOperation problem o → IsWindowClosed (window_by problem fixings o) → Contains closed o
+  pub only : All (λ o. HasOperation problem o × IsWindowClosed (window_by problem fixings o)) closed
 
 -- the operation is late: its longest walk is longer than its upper
 pub record IsLateAt (node : Node) (o : Op) : Type 0 where

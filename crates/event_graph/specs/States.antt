@@ -49,14 +49,14 @@ pub record AddsTrain (node : Node) (d : Decision) (t : ℕ) (new : List Arc) : T
 
 -- ---- what is kept
 
-pub record State : Type 0 where
+pub record GraphState : Type 0 where
   pub owns : List Own
   pub each : List Placed
   pub pairs : List Pair
   pub arcs : List Arc
 
 -- what is kept stands for the node
-pub record IsStateAt (node : Node) (state : State) : Type 0 where
+pub record IsStateAt (node : Node) (state : GraphState) : Type 0 where
   pub owns_long : length state.owns ≡ length node.problem.trains
   pub own : AreByTrain node.fixings node.decisions state.owns
   pub placed : ArePlaced node state.each
@@ -67,16 +67,16 @@ pub record IsStateAt (node : Node) (state : State) : Type 0 where
 -- ---- what a change has replaced
 
 -- the last so many are taken away
-abbrev pub without : {X : Type 0} → ℕ → List X → List X
-without n xs = take (length xs - n) xs
+abbrev pub without_last_of : {X : Type 0} → ℕ → List X → List X
+without_last_of n xs = take (length xs - n) xs
 
-abbrev pub restored : Change → State → State
-restored Nothing state = state
-restored (Order arcs) state = record { owns = state.owns; each = state.each; pairs = without 1 state.pairs; arcs = without arcs state.arcs }
-restored (Train t own placed arcs) state = record { owns = slice_set state.owns t own; each = slice_set state.each t placed; pairs = state.pairs; arcs = without arcs state.arcs }
+abbrev pub restored_state : Change → GraphState → GraphState
+restored_state Nothing state = state
+restored_state (Order arcs) state = record { owns = state.owns; each = state.each; pairs = without_last_of 1 state.pairs; arcs = without_last_of arcs state.arcs }
+restored_state (Train t own placed arcs) state = record { owns = slice_set state.owns t own; each = slice_set state.each t placed; pairs = state.pairs; arcs = without_last_of arcs state.arcs }
 
 -- what the change names is there
-abbrev pub MayRestore : Change → State → Type 0
+abbrev pub MayRestore : Change → GraphState → Type 0
 MayRestore Nothing state = Unit {0}
 MayRestore (Order arcs) state = (0 < length state.pairs) × (arcs ≤ length state.arcs)
 MayRestore (Train t own placed arcs) state = (t < length state.owns) × (t < length state.each) × (arcs ≤ length state.arcs)

@@ -5,7 +5,7 @@ use Rattle.disp_model.specs.Node.{Node}
 use Rattle.disp_model.specs.Routes.{IsForced}
 use Rattle.disp_model.specs.Arcs.{Conflicts, GoesTo}
 use Rattle.incremental_paths.specs.declared.arc.Arc.{Arc}
-use Rattle.route_sets.specs.Sets.{op_of}
+use Rattle.route_sets.specs.Sets.{op_of_train}
 use Rattle.event_arcs.specs.Listed.{IsArcOf}
 use Rattle.event_arcs.specs.Ordering.{LeadsAsOrdered}
 use Rattle.event_graph.specs.declared.orders.Pair.{Pair}
@@ -21,5 +21,5 @@ pub record StaysAs (before node : Node) (o : Op) : Type 0 where
 pub record AddsChanged (before node : Node) (t count : ℕ) (pairs : List Pair) (old new : List Arc) : Type 0 where
   pub kept : (arc : Arc) → Contains old arc → Contains new arc
   pub sound : All (IsDecidedAt node) pairs → All (IsArcOf node) old → All (IsArcOf node) new
-  pub each : (o : ℕ) → o < count → StaysAs before node (op_of t o) ⊎
-      ((pair : Pair) → Contains pairs pair → Touches pair (number_of node.problem (op_of t o)) → IsForced node pair.first → IsForced node pair.second → Conflicts node.problem pair.first pair.second → LeadsAsOrdered node new pair.first pair.second)
+  pub each : (o : ℕ) → o < count → StaysAs before node (op_of_train t o) ⊎
+      ((pair : Pair) → Contains pairs pair → Touches pair (number_of node.problem (op_of_train t o)) → IsForced node pair.first → IsForced node pair.second → Conflicts node.problem pair.first pair.second → LeadsAsOrdered node new pair.first pair.second)

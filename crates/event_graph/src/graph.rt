@@ -11,7 +11,7 @@ ghost use Rattle.event_windows.specs.Operations.{HasOperation};
 ghost use Rattle.event_graph.specs.Joined.{IsOfEdition};
 ghost use Rattle.event_graph.specs.Kept.{IsRefusedAt};
 ghost use Rattle.event_graph.specs.Late.{IsLateAt};
-ghost use Rattle.event_graph.specs.Graphs.{without_last};
+ghost use Rattle.event_graph.specs.Graphs.{without_last_decision};
 
 use crate::changes::Change;
 use crate::decide::decide;
@@ -171,7 +171,7 @@ impl<'p> Graph<'p> {
     /// Takes the last decision back.
     pub fn undo(&mut self)
         requires { 0 < length self.old.decisions }
-        ensures { self.new ≡ without_last self.old }
+        ensures { self.new ≡ without_last_decision self.old }
     {
         if let Some(change) = self.trail.pop() {
             restore(&mut self.parts, change);

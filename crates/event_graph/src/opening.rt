@@ -3,7 +3,7 @@ ghost use Rattle.disp_model.specs.Node.{node_at};
 ghost use Rattle.event_arcs.specs.Listed.{AreLowersOf};
 ghost use Rattle.event_windows.specs.Operations.{AreOperationsOf};
 ghost use Rattle.event_windows.specs.Windows.{AreWindowsOf};
-ghost use Rattle.event_graph.specs.Late.{open_until, AreUppersOf, IsClosed, AreClosedOf};
+ghost use Rattle.event_graph.specs.Late.{open_until, AreUppersOf, IsWindowClosed, AreClosedOf};
 
 use disp_model::{Fixing, Memory, Op, Problem};
 use event_windows::Window;
@@ -44,7 +44,7 @@ fn uppers(alloc: Global, windows: &[Window]) -> Result<Vec<Option<u64>>, Memory>
 
 /// Whether a window is never open.
 fn is_closed(window: Window) -> bool
-    ensures { IsTrue result ↔ IsClosed window }
+    ensures { IsTrue result ↔ IsWindowClosed window }
 {
     match window.upper {
         Some(upper) => upper < window.lower,

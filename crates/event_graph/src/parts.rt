@@ -1,5 +1,5 @@
 ghost use Rattle.std.specs.Prelude.{◌≡◌};
-ghost use Rattle.event_graph.specs.States.{restored, MayRestore};
+ghost use Rattle.event_graph.specs.States.{restored_state, MayRestore};
 ghost use Rattle.event_graph.specs.Kept.{state_of};
 
 use crate::changes::Change;
@@ -24,7 +24,7 @@ pub(crate) fn restore(parts: &mut Parts, change: Change)
     ensures lowers { parts.new.paths.lowers ≡ parts.old.paths.lowers }
     ensures uppers { parts.new.paths.uppers ≡ parts.old.paths.uppers }
     ensures size { parts.new.orders.size ≡ parts.old.orders.size }
-    ensures state { state_of parts.new ≡ restored change (state_of parts.old) }
+    ensures state { state_of parts.new ≡ restored_state change (state_of parts.old) }
 {
     match change {
         Change::Nothing => {}

@@ -5,7 +5,7 @@ ghost use Rattle.disp_model.specs.declared.decision.Decision.{Decision};
 ghost use Rattle.disp_model.specs.Valid.{train_at};
 ghost use Rattle.disp_model.specs.WellFormed.{operation_count};
 ghost use Rattle.disp_model.specs.Node.{Node, node_at, with_decision};
-ghost use Rattle.route_sets.specs.Sets.{op_of, AreRoutesOf};
+ghost use Rattle.route_sets.specs.Sets.{op_of_train, AreRoutesOf};
 ghost use Rattle.event_arcs.specs.Placed.{IsPlaced, ArePlaced};
 ghost use Rattle.event_arcs.specs.Owned.{train_of_decision};
 ghost use Rattle.event_graph.specs.Touched.{StaysAs, AddsChanged};
@@ -22,7 +22,7 @@ use std::alloc::Global;
 /// follows it is known now, and was not.
 fn is_touched(old: &Routes, new: &Routes, op: u32) -> bool
     ensures { (before node : Node) (t : ℕ) → AreRoutesOf before t old.now
-        → AreRoutesOf node t new.now → IsFalse result → StaysAs before node (op_of t op) }
+        → AreRoutesOf node t new.now → IsFalse result → StaysAs before node (op_of_train t op) }
 {
     new.forced(op) && (!old.forced(op) || old.only_next(op) != new.only_next(op))
 }

@@ -6,13 +6,13 @@ use Rattle.disp_model.specs.declared.entry.Entry.{Entry}
 use Rattle.disp_model.specs.declared.limits.TheConstants.{MOST_LINES}
 use Rattle.shared_board.specs.declared.pass.Pass.{Pass}
 use Rattle.shared_board.specs.Board.{known, lines}
-use Rattle.shared_board.specs.Onward.{entries_by, GoesOn}
+use Rattle.shared_board.specs.Onward.{entries_by, PassGoesOn}
 use Rattle.feed_reader.specs.declared.read.Reading.{Reading}
 use Rattle.feed_reader.specs.declared.read.Reading.TheVariants as reading
 use Rattle.feed_reader.specs.Answered.{AnswersAs, AnswersNext, IsReadTo, one_too_many}
 use Rattle.feed_reader.proofs.Answering.{Lines, read_more, ends_read, ends_failed, ends_full}
 
-module _ (first mid last : Pass) (on : GoesOn first mid) (count : ℕ) (told left : Option Lines)
+module _ (first mid last : Pass) (on : PassGoesOn first mid) (count : ℕ) (told left : Option Lines)
     (to : IsReadTo (known first).caller count (lines mid) told left (entries_by (known first).caller (known mid).seen)) where
   -- what holds of the later pass's caller holds of the first one's
   of_first : (P : ℕ → Type 0) → P (known mid).caller → P (known first).caller

@@ -10,14 +10,14 @@ use Rattle.feed_reader.specs.declared.read.Reading.{Reading}
 use Rattle.feed_reader.specs.declared.read.Reading.TheVariants as reading
 
 -- the entry is of this feed's line
-abbrev pub IsAt : ℕ → ℕ → ℕ → ℕ → Type 0
-IsAt feed number f n = (f ≡ feed) × (n ≡ number)
+abbrev pub IsAtLine : ℕ → ℕ → ℕ → ℕ → Type 0
+IsAtLine feed number f n = (f ≡ feed) × (n ≡ number)
 
 -- the entry answers what the line of this feed and number asks
 abbrev pub AnswersText : ℕ → ℕ → List ℕ → Entry → Type 0
-AnswersText feed number text (Asked f n change told) = IsAt feed number f n × IsAsked text change
-AnswersText feed number text (Shown f n standing) = IsAt feed number f n × (text ≡ show_text)
-AnswersText feed number text (Unread f n Unreadable) = IsAt feed number f n × IsUnreadable text
+AnswersText feed number text (Asked f n change told) = IsAtLine feed number f n × IsAsked text change
+AnswersText feed number text (Shown f n standing) = IsAtLine feed number f n × (text ≡ show_text)
+AnswersText feed number text (Unread f n Unreadable) = IsAtLine feed number f n × IsUnreadable text
 AnswersText feed number text (Unread f n Long) = ⊥
 AnswersText feed number text (Unread f n TooMany) = ⊥
 AnswersText feed number text (Grown searcher edition seen node splits) = ⊥
@@ -27,7 +27,7 @@ AnswersText feed number text (Stopped edition spent bound) = ⊥
 
 -- the entry answers a line: one of more than 256 bytes is not read, else its text counts
 abbrev pub AnswersLine : ℕ → ℕ → List ℕ → Entry → Type 0
-AnswersLine feed number line (Unread f n Long) = IsAt feed number f n × (256 < length (without_end line))
+AnswersLine feed number line (Unread f n Long) = IsAtLine feed number f n × (256 < length (without_end line))
 AnswersLine feed number line entry = (length (without_end line) ≤ 256) × AnswersText feed number (text_of line) entry
 
 -- the entries answer the first so many lines, which have these numbers from the first on

@@ -3,7 +3,7 @@ ghost use Rattle.disp_model.specs.declared.entry.Entry.{Entry};
 ghost use Rattle.disp_model.specs.declared.entry.Entry.TheVariants.{Unread};
 ghost use Rattle.shared_board.specs.Board.{board_of, own_board, known, lines};
 ghost use Rattle.shared_board.specs.Calls.{HasLines};
-ghost use Rattle.shared_board.specs.Onward.{entries_by, GoesOn};
+ghost use Rattle.shared_board.specs.Onward.{entries_by, PassGoesOn};
 ghost use Rattle.feed_reader.specs.Answered.{AnswersText};
 
 use disp_model::{Memory, Unasked};
@@ -22,7 +22,7 @@ pub(crate) fn enter_unread<W: Wait>(
 ) -> Result<(), Memory>
     requires board { own_board pass.old ≡ board_of board.now }
     requires feed { HasLines (known pass.old) }
-    ensures on { GoesOn pass.old pass.new }
+    ensures on { PassGoesOn pass.old pass.new }
     ensures entered { OnOk result (entries_by (known pass.old).caller (known pass.new).seen
         ≡ entries_by (known pass.old).caller (known pass.old).seen
         ++ Unread (known pass.old).caller (lines pass.old + 1) why ∷ []) }
@@ -44,7 +44,7 @@ pub(crate) fn enter_text<W: Wait>(
 ) -> Result<(), Memory>
     requires board { own_board pass.old ≡ board_of board.now }
     requires feed { HasLines (known pass.old) }
-    ensures on { GoesOn pass.old pass.new }
+    ensures on { PassGoesOn pass.old pass.new }
     ensures entered { OnOk result ((entry : Entry)
         × AnswersText (known pass.old).caller (lines pass.old + 1) text.now entry
         × (entries_by (known pass.old).caller (known pass.new).seen

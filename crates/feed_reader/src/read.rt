@@ -3,7 +3,7 @@ ghost use Rattle.disp_model.specs.declared.limits.TheConstants.{MOST_LINES};
 ghost use Rattle.disp_outside.specs.Lines.{NoneLeft};
 ghost use Rattle.shared_board.specs.Board.{board_of, own_board, known, lines};
 ghost use Rattle.shared_board.specs.Calls.{IsFeed};
-ghost use Rattle.shared_board.specs.Onward.{entries_by, GoesOn};
+ghost use Rattle.shared_board.specs.Onward.{entries_by, PassGoesOn};
 ghost use Rattle.feed_reader.specs.Answered.{AnswersAs, AnswersNext, IsReadTo, one_too_many};
 
 use crate::enter::{enter_text, enter_unread};
@@ -50,7 +50,7 @@ fn read_next<W: Wait, F: Feed, G: Gate>(
     requires board { own_board pass.old ≡ board_of board.now }
     requires feed { IsFeed (known pass.old) }
     requires open { F.has_ended feed.old ≡ false }
-    ensures on { GoesOn pass.old pass.new }
+    ensures on { PassGoesOn pass.old pass.new }
     ensures given { result ≡ Ok false
         → AnswersNext (known pass.old).caller (lines pass.old + 1) (F.lines feed.old)
         (F.lines feed.new) (entries_by (known pass.old).caller (known pass.old).seen)
@@ -95,7 +95,7 @@ fn read_end<W: Wait, F: Feed>(
     requires feed { IsFeed (known pass.old) }
     requires open { F.has_ended feed.old ≡ false }
     requires read { lines pass.old ≡ MOST_LINES }
-    ensures on { GoesOn pass.old pass.new }
+    ensures on { PassGoesOn pass.old pass.new }
     ensures ended { result ≡ Reading.Ended → NoneLeft (F.lines feed.old) }
     ensures more { result ≡ Reading.TooMany
         → IfSome (F.lines feed.old) (λ left. 0 < length left)
@@ -140,7 +140,7 @@ pub fn read_lines<W: Wait, F: Feed, G: Gate>(
     requires none { (lines pass.old ≡ 0)
         × (entries_by (known pass.old).caller (known pass.old).seen ≡ []) }
     requires open { F.has_ended feed.old ≡ false }
-    ensures on { GoesOn pass.old pass.new }
+    ensures on { PassGoesOn pass.old pass.new }
     ensures answered { IfSome (F.lines feed.old) (λ told. AnswersAs (known pass.old).caller told
         (entries_by (known pass.old).caller (known pass.new).seen) result) }
 

@@ -9,7 +9,7 @@ use Rattle.shared_board.specs.declared.terms.Terms.{Terms}
 use Rattle.shared_board.specs.Board.{board_of, own_board, known, lines}
 use Rattle.shared_board.specs.Callers.{caller_of}
 use Rattle.shared_board.specs.Calls.{IsFeed}
-use Rattle.shared_board.specs.Onward.{entries_by, GoesOn}
+use Rattle.shared_board.specs.Onward.{entries_by, PassGoesOn}
 use Rattle.feed_reader.specs.Answered.{AnswersAs}
 use Rattle.feed_reader.specs.declared.read.Reading.TheVariants.{Failed}
 use Rattle.feed_runs.specs.declared.reader.Reader.{Reader}
@@ -58,7 +58,7 @@ module _ {F : Type 0} where
   -- the feed was read: the entries of its caller answer its lines, where these are told, as the reading ended; it failed exactly
   -- where its count of faults rose
   pub record HasRead (told : F → Option (List (List ℕ))) (faults : F → ℕ) (name : F → List ℕ) (before after : Reader F) : Type 0 where
-    pub goes : GoesOn before.pass after.pass
+    pub goes : PassGoesOn before.pass after.pass
     pub owns : OwnsPlaces caller_of (known after.pass)
     pub answered : IfSome (told before.feed) (λ all. AnswersAs (known before.pass).caller all (entries_by (known before.pass).caller (known after.pass).seen) after.reading)
     pub failed : (after.reading ≡ Failed) ↔ (faults before.feed < faults after.feed)

@@ -3,7 +3,7 @@ ghost use Rattle.turn_lock.specs.Section.{OwnsPlaces};
 ghost use Rattle.shared_board.specs.Board.{board_of, own_board, known, lines};
 ghost use Rattle.shared_board.specs.Callers.{caller_of};
 ghost use Rattle.shared_board.specs.Calls.{IsFeed};
-ghost use Rattle.shared_board.specs.Onward.{entries_by, GoesOn};
+ghost use Rattle.shared_board.specs.Onward.{entries_by, PassGoesOn};
 ghost use Rattle.feed_reader.specs.Answered.{AnswersAs};
 ghost use Rattle.feed_runs.specs.Readers.{IsReady, HasRead};
 
@@ -35,7 +35,7 @@ fn read_and_end<W: Wait, F: Feed, G: Gate>(
     requires none { (lines pass.old ≡ 0)
         × (entries_by (known pass.old).caller (known pass.old).seen ≡ []) }
     requires open { F.has_ended feed.old ≡ false }
-    ensures on { GoesOn pass.old pass.new }
+    ensures on { PassGoesOn pass.old pass.new }
     ensures owns { OwnsPlaces caller_of (known pass.new) }
     ensures answered { IfSome (F.lines feed.old) (λ told. AnswersAs (known pass.old).caller told
         (entries_by (known pass.old).caller (known pass.new).seen) result) }

@@ -15,7 +15,7 @@ use Rattle.disp_model.specs.Replies.{IsReply, IsEdition}
 use Rattle.fixing_editions.specs.declared.kept.Kept.{Kept}
 use Rattle.fixing_editions.specs.declared.train_fixings.Numbered.{Numbered}
 use Rattle.fixing_editions.specs.Own.{train_of, own_of, without}
-use Rattle.fixing_editions.specs.Edition.{AreOwn, AreWithdrawn, IsKeptOf, IsAsBefore, EntersFixing, TakesBack, Settles}
+use Rattle.fixing_editions.specs.Edition.{AreOwn, AreWithdrawn, IsKeptOf, IsAsBefore, EntersFixing, TakesBack, SettlesChanges}
 use Rattle.train_orders.proofs.Places.{get_push_cases, set_at, set_elsewhere}
 use Rattle.fixing_editions.proofs.Standing.{none_withdraws, withdrawn_after_fix, withdrawn_by_last, withdrawn_by_others, numbered_more, numbered_less, fewer_stand, as_many, fixings_push, own_more, own_kept, own_less, own_else}
 use Rattle.fixing_editions.proofs.Accepting.{IsNew, IsTakenBack, accepted_new, accepted_back, change_within, edition_more}
@@ -200,7 +200,7 @@ kept_same problem changes old new kept same = record {
   room = omega (arith, kept.room, ap (λ (l : List Fixing). length l) same.standing);
 }
 
-pub kept_settled : (problem : Problem) (changes : List Change) (old new : Kept) → IsKeptOf problem changes old → Settles changes old new → IsKeptOf problem changes new
+pub kept_settled : (problem : Problem) (changes : List Change) (old new : Kept) → IsKeptOf problem changes old → SettlesChanges changes old new → IsKeptOf problem changes new
 kept_settled problem changes old new kept settles = record {
   edition = kept.edition;
   fits = kept.fits;

@@ -14,7 +14,7 @@ use Rattle.disp_model.specs.Routes.{AgreesWithFixing, AgreesWithDecision, HasRou
 use Rattle.disp_model.specs.Replies.{is_same, known_as, fixed_next}
 use Rattle.disp_laws.proofs.RouteSearch.{Decided, has_route_or_not}
 use Rattle.fixing_editions.specs.declared.train_fixings.Numbered.{Numbered}
-use Rattle.fixing_editions.specs.Own.{train_of, own_of, fixings_with, number_in, start_in, next_in, earliest_in}
+use Rattle.fixing_editions.specs.Own.{train_of, own_of, fixings_with, number_in, start_in, next_numbered, earliest_in}
 
 -- ---- numbers
 
@@ -68,7 +68,7 @@ starts_from t o ((n, Started u p time) ∷ standing) = elim (cases_Bool (nat_eq 
 starts_from t o ((n, Chosen u p next) ∷ standing) = elim (cases_Bool (nat_eq u t)) [ inl e ↦ rw e (starts_from t o standing) | inr e ↦ rw e (starts_from t o standing) ]
 starts_from t o ((n, NotBefore u p time) ∷ standing) = elim (cases_Bool (nat_eq u t)) [ inl e ↦ rw e (starts_from t o standing) | inr e ↦ rw e (starts_from t o standing) ]
 
-nexts_from : (t o : ℕ) (standing : List (ℕ × Fixing)) → next_in (own_of t standing) o ≡ fixed_next (fixings_in standing) (record { train = t; op = o })
+nexts_from : (t o : ℕ) (standing : List (ℕ × Fixing)) → next_numbered (own_of t standing) o ≡ fixed_next (fixings_in standing) (record { train = t; op = o })
 nexts_from t o [] = refl
 nexts_from t o ((n, Chosen u p next) ∷ standing) = elim (cases_Bool (nat_eq u t)) [
   | inl e ↦ elim (cases_Bool (nat_eq p o)) [ inl s ↦ rw (e, s) refl | inr s ↦ rw (e, s) (nexts_from t o standing) ]
@@ -104,9 +104,9 @@ start_found t o changes kept result found is reads says =
     sym (starts_from t o (numbered_standing changes)) ∙ ap (λ (l : List Numbered). start_in l o) (sym is) ∙ sym reads ∙ says
 
 pub next_found : (t o : ℕ) (changes : List Change) (kept : List Numbered) (result found : Option ℕ) → kept ≡ own_of t (numbered_standing changes)
-    → result ≡ next_in kept o → result ≡ found → fixed_next (standing_of changes) (record { train = t; op = o }) ≡ found
+    → result ≡ next_numbered kept o → result ≡ found → fixed_next (standing_of changes) (record { train = t; op = o }) ≡ found
 next_found t o changes kept result found is reads says =
-    sym (nexts_from t o (numbered_standing changes)) ∙ ap (λ (l : List Numbered). next_in l o) (sym is) ∙ sym reads ∙ says
+    sym (nexts_from t o (numbered_standing changes)) ∙ ap (λ (l : List Numbered). next_numbered l o) (sym is) ∙ sym reads ∙ says
 
 pub earliest_found : (t o : ℕ) (changes : List Change) (kept : List Numbered) → kept ≡ own_of t (numbered_standing changes)
     → not_before (standing_of changes) (record { train = t; op = o }) ≡ earliest_in kept o

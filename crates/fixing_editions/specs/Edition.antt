@@ -80,7 +80,7 @@ pub record TakesBack (number taken : ℕ) (fixing : Fixing) (old new : Kept) : T
   pub stale : new.stale ≡ true
 
 -- the fixings that stand are put in order
-pub record Settles (changes : List Change) (old new : Kept) : Type 0 where
+pub record SettlesChanges (changes : List Change) (old new : Kept) : Type 0 where
   pub withdrawn : new.withdrawn.items ≡ old.withdrawn.items
   pub by_train : new.by_train.items ≡ old.by_train.items
   pub standing : new.standing.items ≡ standing_of changes

@@ -56,9 +56,9 @@ start_in [] o = None
 start_in (n ∷ kept) o = or_else (start_by n.fixing o) (start_in kept o)
 
 -- the operation to which they fix an operation to go on
-abbrev pub next_in : List Numbered → ℕ → Option ℕ
-next_in [] o = None
-next_in (n ∷ kept) o = or_else (next_by n.fixing o) (next_in kept o)
+abbrev pub next_numbered : List Numbered → ℕ → Option ℕ
+next_numbered [] o = None
+next_numbered (n ∷ kept) o = or_else (next_by n.fixing o) (next_numbered kept o)
 
 -- the greatest time before which they fix an operation not to start, or 0
 abbrev pub earliest_in : List Numbered → ℕ → ℕ

@@ -1,7 +1,7 @@
 ghost use Rattle.std.specs.Prelude.{◌≡◌, ◌+◌, ◌≤◌, ◌<◌, [], ◌∷◌, ◌++◌, false, IfOk, OnOk, OnErr, length, replicate};
 ghost use Rattle.disp_model.specs.Changes.{standing_of};
 ghost use Rattle.fixing_editions.specs.Own.{train_of};
-ghost use Rattle.fixing_editions.specs.Edition.{AreWithdrawn, left_standing, IsAsBefore, EntersFixing, TakesBack, Settles};
+ghost use Rattle.fixing_editions.specs.Edition.{AreWithdrawn, left_standing, IsAsBefore, EntersFixing, TakesBack, SettlesChanges};
 
 use crate::train_fixings::{Numbered, train_of, without};
 use disp_model::{Change, Fixing, List, Memory};
@@ -129,7 +129,7 @@ pub(crate) fn settle(kept: &mut Kept, changes: &[Change])
     requires withdrawn { AreWithdrawn changes.now kept.old.withdrawn.items }
     requires stands { kept.old.stale ≡ false → kept.old.standing.items ≡ standing_of changes.now }
     requires room { length (standing_of changes.now) ≤ length kept.old.standing.items }
-    ensures { Settles changes.now kept.old kept.new }
+    ensures { SettlesChanges changes.now kept.old kept.new }
 {
     if kept.stale {
         put_in_order(&mut kept.standing, changes, &kept.withdrawn);

@@ -1,5 +1,5 @@
 ghost use Rattle.std.specs.Prelude.{◌≡◌};
-ghost use Rattle.fixing_editions.specs.Own.{train_of, number_in, start_by, start_in, next_by, next_in, earliest_by, earliest_in, without};
+ghost use Rattle.fixing_editions.specs.Own.{train_of, number_in, start_by, start_in, next_by, next_numbered, earliest_by, earliest_in, without};
 
 use disp_model::{Fixing, List};
 
@@ -80,7 +80,7 @@ pub(crate) fn start_in(kept: &[Numbered], op: u64) -> Option<u64>
 
 /// The operation to which an operation of the train is fixed to go on, if it is.
 pub(crate) fn next_in(kept: &[Numbered], op: u64) -> Option<u64>
-    ensures { result ≡ next_in kept.now op }
+    ensures { result ≡ next_numbered kept.now op }
 {
     for numbered in kept {
         if let Some(next) = next_by(&numbered.fixing, op) {

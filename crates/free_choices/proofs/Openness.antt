@@ -34,7 +34,7 @@ use Rattle.disp_laws.proofs.LongestSteps.{longest_step}
 use Rattle.disp_laws.proofs.EarliestPlans.{longest_at}
 use Rattle.disp_laws.proofs.EarliestEnds.{event_ends, one_end_time, release_within}
 use Rattle.incremental_paths.proofs.Members.{Contains-filter}
-use Rattle.route_sets.specs.Sets.{op_of as op_at}
+use Rattle.route_sets.specs.Sets.{op_of_train as op_at}
 use Rattle.branch_rules.specs.declared.pick.Pick.{Pick}
 use Rattle.branch_rules.specs.declared.pick.Pick.TheVariants.{Choice, Plan}
 use Rattle.branch_rules.specs.Picks.{IsPickAt}

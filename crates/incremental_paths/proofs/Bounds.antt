@@ -12,24 +12,24 @@ use Rattle.std.proofs.Math.Nat.{mul-le-mul_right}
 use Rattle.std.proofs.lemmas.Map.Views.{Contains-from_any}
 use Rattle.incremental_paths.proofs.Members.{joining, longest_le}
 use Rattle.incremental_paths.specs.declared.arc.Arc.{Arc}
-use Rattle.incremental_paths.specs.Walks.{IsJoined, longest_arc, Follows, last_from, IsWalkTo, steps_length, walk_length, HasNoNodeTwice, HasCycle, WalksAreShort}
+use Rattle.incremental_paths.specs.Walks.{JoinsPair, longest_arc, FollowsArcs, last_node_from, IsWalkTo, steps_length, walk_length, HasNoNodeTwice, ArcsHaveCycle, WalksAreShort}
 use Rattle.incremental_paths.proofs.Walking.{apart_cons}
 
 -- the steps up to a place where x stands
-steps_to : (arcs : List Arc) (x u : ℕ) (rest : List ℕ) (k : ℕ) → Follows arcs u rest → k < length rest → get_or rest k 0 ≡ x
-    → (before : List ℕ) × Follows arcs u before × IsJoined arcs (last_from u before) x
+steps_to : (arcs : List Arc) (x u : ℕ) (rest : List ℕ) (k : ℕ) → FollowsArcs arcs u rest → k < length rest → get_or rest k 0 ≡ x
+    → (before : List ℕ) × FollowsArcs arcs u before × JoinsPair arcs (last_node_from u before) x
 steps_to arcs x u [] k f lt e = absurd (omega (arith, lt))
-steps_to arcs x u (v ∷ rest) zero f lt e = ([], tt, subst (λ z. IsJoined arcs u z) e f.0)
+steps_to arcs x u (v ∷ rest) zero f lt e = ([], tt, subst (λ z. JoinsPair arcs u z) e f.0)
 steps_to arcs x u (v ∷ rest) (suc k) f lt e =
     let h = steps_to arcs x v rest k f.1 (omega (arith, lt)) e in
     (v ∷ h.0, (f.0, h.1), h.2)
 
-module _ (arcs : List Arc) (none : HasCycle arcs → ⊥) where
-  not_again : (u : ℕ) (rest : List ℕ) → Follows arcs u rest → All (λ w. u ≢ w) rest
+module _ (arcs : List Arc) (none : ArcsHaveCycle arcs → ⊥) where
+  not_again : (u : ℕ) (rest : List ℕ) → FollowsArcs arcs u rest → All (λ w. u ≢ w) rest
   not_again u rest f = All-from_get_or (λ w. u ≢ w) rest 0 (λ k lt e.
       let h = steps_to arcs u u rest k f lt (sym e) in none (u ∷ h.0, (h.1, h.2)))
 
-  follows_once : (u : ℕ) (rest : List ℕ) → Follows arcs u rest → HasNoNodeTwice (u ∷ rest)
+  follows_once : (u : ℕ) (rest : List ℕ) → FollowsArcs arcs u rest → HasNoNodeTwice (u ∷ rest)
   follows_once u [] f = λ i j d below within. absurd (omega (arith, below, within))
   follows_once u (v ∷ rest) f = apart_cons u (v ∷ rest) (not_again u (v ∷ rest) f) (follows_once v rest f.1)
 
@@ -74,20 +74,20 @@ steps_bounded : (arcs : List Arc) (u : ℕ) (rest : List ℕ) → HasNoNodeTwice
 steps_bounded [] u rest once = omega (arith, steps_bare u rest)
 steps_bounded (a ∷ arcs) u rest once = omega (arith, sum_by-cons (λ (arc : Arc). arc.length) a arcs, steps_with a arcs u rest once, steps_bounded arcs u rest once)
 
-pub walks_bounded : (lowers : List ℕ) (arcs : List Arc) (most : ℕ) → All (λ lower. lower ≤ most) lowers → (HasCycle arcs → ⊥)
+pub walks_bounded : (lowers : List ℕ) (arcs : List Arc) (most : ℕ) → All (λ lower. lower ≤ most) lowers → (ArcsHaveCycle arcs → ⊥)
     → (v : ℕ) (nodes : List ℕ) → IsWalkTo lowers arcs v nodes → walk_length lowers arcs nodes ≤ most + sum_by (λ arc. arc.length) arcs
 walks_bounded lowers arcs most low none v [] walk = absurd walk
 walks_bounded lowers arcs most low none v (u ∷ rest) walk =
     omega (arith, All-get_or (λ lower. lower ≤ most) lowers u 0 walk.0 low, steps_bounded arcs u rest (follows_once arcs none u rest walk.1))
 
 -- walks over few arcs of small lengths, from small lowers on, are short
-pub few_short : (lowers : List ℕ) (arcs : List Arc) → All (λ lower. lower < 2 ^ 32) lowers → All (λ arc. arc.length < 2 ^ 32) arcs → length arcs ≤ 1000 → (HasCycle arcs → ⊥) → WalksAreShort lowers arcs
+pub few_short : (lowers : List ℕ) (arcs : List Arc) → All (λ lower. lower < 2 ^ 32) lowers → All (λ arc. arc.length < 2 ^ 32) arcs → length arcs ≤ 1000 → (ArcsHaveCycle arcs → ⊥) → WalksAreShort lowers arcs
 few_short lowers arcs low short few none v nodes walk =
     let sum : sum_by (λ arc. arc.length) arcs ≤ length arcs * 2 ^ 32 = sum_by-le (λ arc. arc.length) (2 ^ 32) arcs (All-weaker (λ arc. arc.length < 2 ^ 32) (λ arc. arc.length ≤ 2 ^ 32) (λ arc h. omega (arith, h)) arcs short) in
     omega (arith, sum, few, walks_bounded lowers arcs (2 ^ 32) (All-weaker (λ lower. lower < 2 ^ 32) (λ lower. lower ≤ 2 ^ 32) (λ lower h. omega (arith, h)) lowers low) none v nodes walk)
 
 -- a walk has no more nodes than there are, where none stands in it twice
-pub nodes_within : (lowers : List ℕ) (arcs : List Arc) → All (λ arc. arc.to < length lowers) arcs → (u : ℕ) (rest : List ℕ) → u < length lowers → Follows arcs u rest → All (λ w. w < length lowers) (u ∷ rest)
+pub nodes_within : (lowers : List ℕ) (arcs : List Arc) → All (λ arc. arc.to < length lowers) arcs → (u : ℕ) (rest : List ℕ) → u < length lowers → FollowsArcs arcs u rest → All (λ w. w < length lowers) (u ∷ rest)
 nodes_within lowers arcs ends u [] lt f = All-cons (λ w. w < length lowers) u [] lt (All-nil (λ w. w < length lowers))
 nodes_within lowers arcs ends u (v ∷ rest) lt f =
     let a = joining arcs u v f.0 in

@@ -8,7 +8,7 @@ use Rattle.std.proofs.lemmas.List.Elements.{All-contains, All-take, All-push, Al
 use Rattle.incremental_paths.specs.declared.arc.Arc.{Arc}
 use Rattle.incremental_paths.specs.declared.changes.Change.{Change}
 use Rattle.incremental_paths.specs.Threaded.{Threaded, threaded_with}
-use Rattle.incremental_paths.specs.Walks.{IsWalkTo, walk_length, HasNoNodeTwice, IsLongest, HasCycle, WalksAreShort, Leads}
+use Rattle.incremental_paths.specs.Walks.{IsWalkTo, walk_length, HasNoNodeTwice, IsLongestLength, ArcsHaveCycle, WalksAreShort, Leads}
 use Rattle.incremental_paths.specs.Marked.{begins, ends, AreWithin, AreRising}
 use Rattle.incremental_paths.specs.Spread.{AreLengths, AreReached, AreSpread, WalksFit, Told, TellsMore, nothing_told, restored}
 use Rattle.incremental_paths.specs.Kept.{AreKept, AreUndone}
@@ -63,13 +63,13 @@ module _ (lowers : List ℕ) (arcs : List Arc) (begun ended : Threaded) (places 
   pub kept_room : (new_room : ℕ) → new_room ≡ room → AreKept lowers arcs begun ended places marks lengths trail starts stale new_room
   kept_room new_room same = rw same kept
 
-  pub kept_no_cycle : HasCycle arcs → ⊥
+  pub kept_no_cycle : ArcsHaveCycle arcs → ⊥
   kept_no_cycle = rising_free arcs places kept.rising
 
   pub kept_no_node_twice : (v : ℕ) (nodes : List ℕ) → IsWalkTo lowers arcs v nodes → HasNoNodeTwice nodes
   kept_no_node_twice v nodes walk = walk_no_node_twice lowers arcs (λ u. get_or places u 0) (λ a c. All-contains (λ (z : Arc). get_or places z.from 0 < get_or places z.to 0) arcs a kept.rising c) v nodes walk
 
-  pub kept_longest : (v : ℕ) → v < length lowers → IsLongest lowers arcs v (get_or lengths v 0)
+  pub kept_longest : (v : ℕ) → v < length lowers → IsLongestLength lowers arcs v (get_or lengths v 0)
   kept_longest v lt =
       let h = kept.longest.reached v lt in
       record {
@@ -78,7 +78,7 @@ module _ (lowers : List ℕ) (arcs : List Arc) (begun ended : Threaded) (places 
       }
 
   pub kept_no_cycle_back : (u v : ℕ) (found : Option (Vec ℕ Global)) → IfNone found ((way : List ℕ) → Leads arcs u v way → ⊥)
-      → IfNone found ((by : ℕ) → HasCycle (arcs ++ record { from = v; to = u; length = by } ∷ []) → ⊥)
+      → IfNone found ((by : ℕ) → ArcsHaveCycle (arcs ++ record { from = v; to = u; length = by } ∷ []) → ⊥)
   kept_no_cycle_back u v None none = λ by c. way_back arcs (record { from = v; to = u; length = by }) kept_no_cycle c none
   kept_no_cycle_back u v (Some x) none = tt
 

@@ -2,7 +2,7 @@
 use Rattle.std.proofs.Common.{◌≡◌, ℕ, ◌+◌, ◌<◌, ◌⊎◌, inl, inr, Bool, true, false, List, [], ◌∷◌, ◌++◌, length, get_or, set, sym, ap, ◌∙◌, arith, get_or-set_other, get_or-set_same}
 use Rattle.std.proofs.lemmas.Bool.{cases_eq, cases_lt, false≢true}
 use Rattle.incremental_paths.specs.declared.arc.Arc.{Arc}
-use Rattle.incremental_paths.specs.Walks.{Follows, last_from, IsJoined}
+use Rattle.incremental_paths.specs.Walks.{FollowsArcs, last_node_from, JoinsPair}
 use Rattle.incremental_paths.specs.Ordered.{is_marked}
 use Rattle.incremental_paths.specs.Marked.{AreWithin, AreRising, AreMarks}
 use Rattle.incremental_paths.proofs.Members.{joined}
@@ -56,13 +56,13 @@ module _ (arcs : List Arc) (places : List ℕ) (rising : AreRising arcs places) 
       | inr le ↦ ends k d lt (only_here (get_or arcs k d).from (within k d lt).0 (omega (arith, low, le)))
     ]
 
-    sound_new : (d : Arc) (v : ℕ) → is_marked new v ≡ true → (rest : List ℕ) × Follows arcs start rest × (last_from start rest ≡ v)
+    sound_new : (d : Arc) (v : ℕ) → is_marked new v ≡ true → (rest : List ℕ) × FollowsArcs arcs start rest × (last_node_from start rest ≡ v)
     sound_new d v m = elim (only v m) [
       | inl old ↦ marks.sound v old
       | inr h ↦
           let way = marks.sound node marked in
           let e = h.2 d in
-          let j : IsJoined arcs (last_from start way.0) v = joined arcs (get_or arcs h.0 d) (last_from start way.0) v (contains_at arcs h.0 d h.1) (e.0 ∙ sym way.2) e.1 in
+          let j : JoinsPair arcs (last_node_from start way.0) v = joined arcs (get_or arcs h.0 d) (last_node_from start way.0) v (contains_at arcs h.0 d h.1) (e.0 ∙ sym way.2) e.1 in
           (way.0 ++ v ∷ [], Follows_push arcs v start way.0 way.1 j, last_push v start way.0)
     ]
 

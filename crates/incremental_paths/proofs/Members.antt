@@ -2,7 +2,7 @@
 use Rattle.std.proofs.Common.{◌≡◌, ℕ, zero, suc, ◌<◌, ◌≤◌, Bool, true, List, [], ◌∷◌, ◌⊎◌, inl, inr, length, get_or, map, refl, sym, ap, ◌∙◌, subst, arith, Contains, filter, cond}
 use Rattle.std.proofs.lemmas.Bool.Decides.{nat_tests}
 use Rattle.incremental_paths.specs.declared.arc.Arc.{Arc}
-use Rattle.incremental_paths.specs.Walks.{IsJoined, longest_arc}
+use Rattle.incremental_paths.specs.Walks.{JoinsPair, longest_arc}
 
 pub Contains-here : {X : Type 0} (x : X) (xs : List X) → Contains (x ∷ xs) x
 Contains-here x xs = (0, omega arith, refl)
@@ -51,13 +51,13 @@ Contains-filter p (y ∷ ys) x c e =
 abbrev pub IsPart : List Arc → List Arc → Type 0
 IsPart xs ys = (a : Arc) → Contains xs a → Contains ys a
 
-pub joined : (arcs : List Arc) (a : Arc) (u v : ℕ) → Contains arcs a → a.from ≡ u → a.to ≡ v → IsJoined arcs u v
+pub joined : (arcs : List Arc) (a : Arc) (u v : ℕ) → Contains arcs a → a.from ≡ u → a.to ≡ v → JoinsPair arcs u v
 joined arcs a u v c f t = (c.0, a, c.1, c.2, (f, t))
 
-pub joining : (arcs : List Arc) (u v : ℕ) → IsJoined arcs u v → (a : Arc) × Contains arcs a × (a.from ≡ u) × (a.to ≡ v)
+pub joining : (arcs : List Arc) (u v : ℕ) → JoinsPair arcs u v → (a : Arc) × Contains arcs a × (a.from ≡ u) × (a.to ≡ v)
 joining arcs u v j = (j.1, (j.0, j.2, j.3), j.4.0, j.4.1)
 
-pub joined_part : (xs ys : List Arc) → IsPart xs ys → (u v : ℕ) → IsJoined xs u v → IsJoined ys u v
+pub joined_part : (xs ys : List Arc) → IsPart xs ys → (u v : ℕ) → JoinsPair xs u v → JoinsPair ys u v
 joined_part xs ys part u v j = let a = joining xs u v j in joined ys a.0 u v (part a.0 a.1) a.2 a.3
 
 longest_head : (a : Arc) (arcs : List Arc) (u v : ℕ) → a.from ≡ u → a.to ≡ v → a.length ≤ longest_arc (a ∷ arcs) u v

@@ -1,7 +1,7 @@
 -- Arcs that rise in an order, and marks on the nodes that they lead to.
 use Rattle.std.specs.Prelude.{◌≡◌, ℕ, ◌<◌, Bool, true, List, length, map, slice_index, slice_index_or, All}
 use Rattle.incremental_paths.specs.declared.arc.Arc.{Arc}
-use Rattle.incremental_paths.specs.Walks.{Follows, last_from}
+use Rattle.incremental_paths.specs.Walks.{FollowsArcs, last_node_from}
 use Rattle.incremental_paths.specs.Ordered.{is_marked}
 
 -- where each arc begins, and where it ends
@@ -23,4 +23,4 @@ AreRising arcs places = All (λ a. slice_index places a.from < slice_index place
 pub record AreMarks (arcs : List Arc) (places : List ℕ) (start end : ℕ) (marks : List Bool) : Type 0 where
   pub started : is_marked marks start ≡ true
   pub closed : (k : ℕ) (d : Arc) → k < length arcs → is_marked marks (slice_index_or arcs k d).from ≡ true → slice_index places (slice_index_or arcs k d).from < end → is_marked marks (slice_index_or arcs k d).to ≡ true
-  pub sound : (v : ℕ) → is_marked marks v ≡ true → (rest : List ℕ) × Follows arcs start rest × (last_from start rest ≡ v)
+  pub sound : (v : ℕ) → is_marked marks v ≡ true → (rest : List ℕ) × FollowsArcs arcs start rest × (last_node_from start rest ≡ v)

@@ -1,7 +1,7 @@
 -- What a caller sees of `Paths`: each node's lower, the arcs that are kept, and the nodes whose lengths grew last.
 use Rattle.std.specs.Prelude.{ℕ, ◌-◌, ◌<◌, ◌↔◌, max, List, [], ◌∷◌, ◌++◌, length, take, slice_index, slice_set, All, Contains}
 use Rattle.incremental_paths.specs.declared.arc.Arc.{Arc}
-use Rattle.incremental_paths.specs.Walks.{HasCycle, WalksAreShort, IsLongest}
+use Rattle.incremental_paths.specs.Walks.{ArcsHaveCycle, WalksAreShort, IsLongestLength}
 
 pub record Network : Type 0 where
   pub lowers : List ℕ
@@ -23,7 +23,7 @@ with_arc network from to length = record { lowers = network.lowers; arcs = netwo
 
 -- if the arcs have no cycle, no walk is longer than 2 ^ 63 - 1
 abbrev pub IsShort : Network → Type 0
-IsShort network = ¬ HasCycle network.arcs → WalksAreShort network.lowers network.arcs
+IsShort network = ¬ ArcsHaveCycle network.arcs → WalksAreShort network.lowers network.arcs
 
 -- the last k arcs are taken away, and no node is told as changed
 abbrev pub without_last : Network → ℕ → Network
@@ -39,7 +39,7 @@ unchanged network = record { lowers = network.lowers; arcs = network.arcs; chang
 
 -- the node's length, over the lowers and the arcs
 abbrev pub HasLength : Network → ℕ → ℕ → Type 0
-HasLength network node longest = IsLongest network.lowers network.arcs node longest
+HasLength network node longest = IsLongestLength network.lowers network.arcs node longest
 
 -- from the old to the new, the nodes that are listed as changed are exactly those whose lengths grew, and all others have kept theirs
 pub record TellsChanged (old new : Network) : Type 0 where

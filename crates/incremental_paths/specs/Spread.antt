@@ -73,13 +73,13 @@ SpreadsOne arc before after = ((slice_index before arc.from + arc.length ≤ sli
     ⊎ ((slice_index before arc.to < slice_index before arc.from + arc.length) × (after ≡ slice_set before arc.to (slice_index before arc.from + arc.length)))
 
 -- some arc leads from the node to v
-abbrev pub IsEnd : List Arc → ℕ → ℕ → Type 0
-IsEnd arcs node v = (k : ℕ) × (k < length arcs) × ((d : Arc) → ((slice_index_or arcs k d).from ≡ node) × ((slice_index_or arcs k d).to ≡ v))
+abbrev pub IsArcEnd : List Arc → ℕ → ℕ → Type 0
+IsArcEnd arcs node v = (k : ℕ) × (k < length arcs) × ((d : Arc) → ((slice_index_or arcs k d).from ≡ node) × ((slice_index_or arcs k d).to ≡ v))
 
 -- lengths grew at ends of arcs of the node alone, and along each of these, or each that was spread along, they are spread, where its beginning has not grown
 pub record Spreads (arcs : List Arc) (node : ℕ) (before after : List ℕ) : Type 0 where
   pub sized : length after ≡ length before
   pub grows : (v : ℕ) → slice_index before v ≤ slice_index after v
-  pub only : (v : ℕ) → slice_index before v ≢ slice_index after v → IsEnd arcs node v
+  pub only : (v : ℕ) → slice_index before v ≢ slice_index after v → IsArcEnd arcs node v
   pub spread : (k : ℕ) (d : Arc) → k < length arcs → ((slice_index_or arcs k d).from ≡ node) ⊎ IsSpread before (slice_index_or arcs k d)
       → slice_index before (slice_index_or arcs k d).from ≡ slice_index after (slice_index_or arcs k d).from → IsSpread after (slice_index_or arcs k d)

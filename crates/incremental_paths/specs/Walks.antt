@@ -3,8 +3,8 @@ use Rattle.std.specs.Prelude.{◌≡◌, ◌≢◌, ℕ, ◌+◌, ◌<◌, ◌�
 use Rattle.incremental_paths.specs.declared.arc.Arc.{Arc}
 
 -- some arc leads from u to v
-abbrev pub IsJoined : List Arc → ℕ → ℕ → Type 0
-IsJoined arcs u v = Any (λ arc. (arc.from ≡ u) × (arc.to ≡ v)) arcs
+abbrev pub JoinsPair : List Arc → ℕ → ℕ → Type 0
+JoinsPair arcs u v = Any (λ arc. (arc.from ≡ u) × (arc.to ≡ v)) arcs
 
 -- the length of the longest arc from u to v, and 0 where there is none
 abbrev pub longest_arc : List Arc → ℕ → ℕ → ℕ
@@ -12,24 +12,24 @@ longest_arc [] u v = 0
 longest_arc (arc ∷ arcs) u v = max (if (arc.from == u) && (arc.to == v) then arc.length else 0) (longest_arc arcs u v)
 
 -- from u on, each next node is reached by an arc
-abbrev pub Follows : List Arc → ℕ → List ℕ → Type 0
-Follows arcs u [] = Unit {0}
-Follows arcs u (v ∷ rest) = IsJoined arcs u v × Follows arcs v rest
+abbrev pub FollowsArcs : List Arc → ℕ → List ℕ → Type 0
+FollowsArcs arcs u [] = Unit {0}
+FollowsArcs arcs u (v ∷ rest) = JoinsPair arcs u v × FollowsArcs arcs v rest
 
 -- the last of u and the nodes after it
-abbrev pub last_from : ℕ → List ℕ → ℕ
-last_from u [] = u
-last_from u (v ∷ rest) = last_from v rest
+abbrev pub last_node_from : ℕ → List ℕ → ℕ
+last_node_from u [] = u
+last_node_from u (v ∷ rest) = last_node_from v rest
 
 -- at least one node, the last of which is v, and consecutive ones are joined by an arc
 abbrev pub IsWalkTo : List ℕ → List Arc → ℕ → List ℕ → Type 0
 IsWalkTo lowers arcs v [] = ⊥
-IsWalkTo lowers arcs v (u ∷ rest) = (u < length lowers) × Follows arcs u rest × (last_from u rest ≡ v)
+IsWalkTo lowers arcs v (u ∷ rest) = (u < length lowers) × FollowsArcs arcs u rest × (last_node_from u rest ≡ v)
 
 -- the nodes of a way from u to v: u first, v last, each next one reached by an arc
 abbrev pub Leads : List Arc → ℕ → ℕ → List ℕ → Type 0
 Leads arcs u v [] = ⊥
-Leads arcs u v (w ∷ rest) = (w ≡ u) × Follows arcs w rest × (last_from w rest ≡ v)
+Leads arcs u v (w ∷ rest) = (w ≡ u) × FollowsArcs arcs w rest × (last_node_from w rest ≡ v)
 
 -- the longest arc of each step from u on, added up
 abbrev pub steps_length : List Arc → ℕ → List ℕ → ℕ
@@ -46,17 +46,17 @@ abbrev pub HasNoNodeTwice : List ℕ → Type 0
 HasNoNodeTwice nodes = AllPairs (λ u v. u ≢ v) nodes
 
 -- the greatest length of a walk that ends in v and has no node twice
-pub record IsLongest (lowers : List ℕ) (arcs : List Arc) (v longest : ℕ) : Type 0 where
+pub record IsLongestLength (lowers : List ℕ) (arcs : List Arc) (v longest : ℕ) : Type 0 where
   pub reached : (nodes : List ℕ) × IsWalkTo lowers arcs v nodes × HasNoNodeTwice nodes × (walk_length lowers arcs nodes ≡ longest)
   pub greatest : (nodes : List ℕ) → IsWalkTo lowers arcs v nodes → HasNoNodeTwice nodes → walk_length lowers arcs nodes ≤ longest
 
 -- an arc leads from each node to the next, and from the last to the first
-abbrev pub IsCycle : List Arc → List ℕ → Type 0
-IsCycle arcs [] = ⊥
-IsCycle arcs (u ∷ rest) = Follows arcs u rest × IsJoined arcs (last_from u rest) u
+abbrev pub IsArcCycle : List Arc → List ℕ → Type 0
+IsArcCycle arcs [] = ⊥
+IsArcCycle arcs (u ∷ rest) = FollowsArcs arcs u rest × JoinsPair arcs (last_node_from u rest) u
 
-abbrev pub HasCycle : List Arc → Type 0
-HasCycle arcs = (nodes : List ℕ) × IsCycle arcs nodes
+abbrev pub ArcsHaveCycle : List Arc → Type 0
+ArcsHaveCycle arcs = (nodes : List ℕ) × IsArcCycle arcs nodes
 
 -- no walk is longer than 2 ^ 63 - 1
 abbrev pub WalksAreShort : List ℕ → List Arc → Type 0

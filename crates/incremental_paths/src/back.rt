@@ -1,10 +1,10 @@
 ghost use Rattle.std.specs.Prelude.{ℕ, ◌≡◌, ◌≢◌, ◌<◌, ◌≤◌, ◌+◌, List, true, false, length, slice_index, slice_index_or, IfOk, IfSome, IfNone, IsTrue};
 ghost use Rattle.incremental_paths.specs.declared.arc.Arc.{Arc};
-ghost use Rattle.incremental_paths.specs.Walks.{IsWalkTo, IsJoined, walk_length, Leads};
+ghost use Rattle.incremental_paths.specs.Walks.{IsWalkTo, JoinsPair, walk_length, Leads};
 ghost use Rattle.incremental_paths.specs.Ordered.{is_marked};
 ghost use Rattle.incremental_paths.specs.Marked.{begins, ends, AreWithin, AreRising, AreMarks};
 ghost use Rattle.incremental_paths.specs.Spread.{AreLengths, WalksFit};
-ghost use Rattle.incremental_paths.specs.Back.{Gives, ComesFromMarked};
+ghost use Rattle.incremental_paths.specs.Back.{GivesNode, ComesFromMarked};
 
 use crate::arc::Arc;
 use crate::marks::Marks;
@@ -57,7 +57,7 @@ fn giver(arcs: &[Arc], ended: &Threads, lowers: &[u64], lengths: &[u64], node: u
     requires lengths { AreLengths lowers.now arcs.now lengths.now }
     requires fit { WalksFit lowers.now arcs.now }
     requires node { node < length lowers.now }
-    ensures some { IfSome result (λ before. Gives arcs.now lengths.now before node) }
+    ensures some { IfSome result (λ before. GivesNode arcs.now lengths.now before node) }
     ensures within { IfSome result (λ before. before < length lowers.now) }
     ensures none { IfNone result (slice_index lengths.now node ≡ slice_index lowers.now node) }
 {
@@ -131,9 +131,9 @@ pub fn comes_from_marked(arcs: &[Arc], ended: &Threads, marks: &[bool], node: u3
     requires ended { ended.now ≡ record { size = length marks.now; keys = ends arcs.now } }
     requires within { AreWithin (length marks.now) arcs.now }
     requires node { node < length marks.now }
-    ensures yes { IsTrue result → (u : ℕ) × IsJoined arcs.now u node
+    ensures yes { IsTrue result → (u : ℕ) × JoinsPair arcs.now u node
         × (is_marked marks.now u ≡ true) }
-    ensures no { result ≡ false → (u : ℕ) → IsJoined arcs.now u node
+    ensures no { result ≡ false → (u : ℕ) → JoinsPair arcs.now u node
         → is_marked marks.now u ≡ false }
 {
     let mut front = ended.last(node);

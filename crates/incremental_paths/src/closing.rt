@@ -1,6 +1,6 @@
 ghost use Rattle.std.specs.Prelude.{ℕ, ◌≡◌, ◌<◌, ◌∷◌, ◌++◌, List, [], All, length, IfOk, IfSome, IfNone, OnErr};
 ghost use Rattle.incremental_paths.specs.declared.arc.Arc.{Arc};
-ghost use Rattle.incremental_paths.specs.Walks.{IsCycle, HasCycle};
+ghost use Rattle.incremental_paths.specs.Walks.{IsArcCycle, ArcsHaveCycle};
 ghost use Rattle.incremental_paths.specs.Arranged.{AreArranged};
 
 use crate::arc::Arc;
@@ -37,8 +37,8 @@ pub fn find_cycle<L: Ledger>(
     ensures arranged { AreArranged (length order.old)
         arcs.new.items begun.new ended.new order.new marks.new }
     ensures cycle { IfOk result
-        (λ found. IfSome found (λ nodes. IsCycle (arcs.old.items ++ more.now) nodes.items)) }
-    ensures none { IfOk result (λ found. IfNone found (¬ HasCycle (arcs.old.items ++ more.now))) }
+        (λ found. IfSome found (λ nodes. IsArcCycle (arcs.old.items ++ more.now) nodes.items)) }
+    ensures none { IfOk result (λ found. IfNone found (¬ ArcsHaveCycle (arcs.old.items ++ more.now))) }
 {
     let mut steps = Steps::<L>::new(blank);
     let kept = arcs.len();
@@ -68,8 +68,8 @@ fn link_all<L: Ledger>(
     ensures arranged { AreArranged (length order.old)
         arcs.new.items begun.new ended.new order.new marks.new }
     ensures cycle { IfOk result
-        (λ found. IfSome found (λ nodes. IsCycle (arcs.old.items ++ more.now) nodes.items)) }
-    ensures none { IfOk result (λ found. IfNone found (¬ HasCycle (arcs.old.items ++ more.now))) }
+        (λ found. IfSome found (λ nodes. IsArcCycle (arcs.old.items ++ more.now) nodes.items)) }
+    ensures none { IfOk result (λ found. IfNone found (¬ ArcsHaveCycle (arcs.old.items ++ more.now))) }
 {
     for arc in more {
         if let Some(nodes) = link_or_close(arcs, begun, ended, order, marks, *arc, steps)? {
@@ -99,7 +99,7 @@ fn link_or_close<L: Ledger>(
         (λ found. IfNone found (arcs.new.items ≡ arcs.old.items ++ arc ∷ [])) }
     ensures unlinked { IfOk result (λ found. IfSome found (λ _. arcs.new.items ≡ arcs.old.items)) }
     ensures cycle { IfOk result
-        (λ found. IfSome found (λ nodes. IsCycle (arcs.old.items ++ arc ∷ []) nodes.items)) }
+        (λ found. IfSome found (λ nodes. IsArcCycle (arcs.old.items ++ arc ∷ []) nodes.items)) }
     ensures err { OnErr result (arcs.new.items ≡ arcs.old.items) }
 {
     let alloc = *arcs.allocator();

@@ -1,5 +1,5 @@
 ghost use Rattle.std.specs.Prelude.{ℕ, ◌≡◌, ◌<◌, ◌≤◌, ◌+◌, ◌↔◌, ◌^◌, ◌++◌, List, [], true, false, length, All, IfOk, IfErr, IfSome, IfNone, IsSome, IsNone, IsTrue, OnOk, OnErr, IsErrOf, ◌≢◌, slice_index};
-ghost use Rattle.incremental_paths.specs.Walks.{IsWalkTo, IsJoined, walk_length, HasNoNodeTwice, Leads, IsLongest, IsCycle, HasCycle};
+ghost use Rattle.incremental_paths.specs.Walks.{IsWalkTo, JoinsPair, walk_length, HasNoNodeTwice, Leads, IsLongestLength, IsArcCycle, ArcsHaveCycle};
 ghost use Rattle.incremental_paths.specs.Marked.{AreRising};
 ghost use Rattle.incremental_paths.specs.Ordered.{is_marked};
 ghost use Rattle.incremental_paths.specs.Network.{IsNode, IsShort, with_arc, without_last, raised, unchanged, HasLength, TellsChanged};
@@ -125,7 +125,7 @@ impl OrderedPaths {
             (self.new.network.arcs ≡ (with_arc self.old.network from to length).arcs) }
         ensures changed { OnOk result (TellsChanged self.old.network self.new.network) }
         ensures closes { IsErrOf result (AddNo.Closes from to)
-            ↔ HasCycle (with_arc self.old.network from to length).arcs }
+            ↔ ArcsHaveCycle (with_arc self.old.network from to length).arcs }
         ensures faults { IfErr result (λ no. no ≢ AddNo.Memory → no ≡ AddNo.Closes from to) }
         ensures err { OnErr result (self.new.network ≡ unchanged self.old.network) }
     {
@@ -152,7 +152,7 @@ impl OrderedPaths {
             (self.new.network.arcs ≡ (with_arc self.old.network from to length).arcs) }
         ensures changed { OnOk result (TellsChanged self.old.network self.new.network) }
         ensures closes { IsErrOf result (AddNo.Closes from to)
-            ↔ HasCycle (with_arc self.old.network from to length).arcs }
+            ↔ ArcsHaveCycle (with_arc self.old.network from to length).arcs }
         ensures faults { IfErr result (λ no. no ≢ AddNo.Memory → no ≡ AddNo.Closes from to) }
         ensures err { OnErr result (self.new.network ≡ unchanged self.old.network) }
     {
@@ -177,7 +177,7 @@ impl OrderedPaths {
             (self.new.network.arcs ≡ (with_arc self.old.network from to length).arcs) }
         ensures changed { OnOk result (TellsChanged self.old.network self.new.network) }
         ensures closes { IsErrOf result (AddNo.Closes from to)
-            ↔ HasCycle (with_arc self.old.network from to length).arcs }
+            ↔ ArcsHaveCycle (with_arc self.old.network from to length).arcs }
         ensures faults { IfErr result (λ no. no ≢ AddNo.Memory → no ≡ AddNo.Closes from to) }
         ensures err { OnErr result (self.new.network ≡ unchanged self.old.network) }
 
@@ -237,9 +237,9 @@ impl OrderedPaths {
             (λ arc. IsNode self.old.network arc.from × IsNode self.old.network arc.to) more.now }
         ensures same { self.new.network ≡ unchanged self.old.network }
         ensures cycle { IfOk result (λ found. IfSome found
-            (λ nodes. IsCycle (self.old.network.arcs ++ more.now) nodes.items)) }
+            (λ nodes. IsArcCycle (self.old.network.arcs ++ more.now) nodes.items)) }
         ensures none { IfOk result
-            (λ found. IfNone found (¬ HasCycle (self.old.network.arcs ++ more.now))) }
+            (λ found. IfNone found (¬ ArcsHaveCycle (self.old.network.arcs ++ more.now))) }
     {
         self.changes.clear();
         self.refused = None;
@@ -321,7 +321,7 @@ impl OrderedPaths {
     /// The greatest length of a walk that ends in the node.
     pub fn length(&self, node: u32) -> u64
         requires { IsNode self.now.network node }
-        ensures longest { IsLongest self.now.network.lowers self.now.network.arcs node result }
+        ensures longest { IsLongestLength self.now.network.lowers self.now.network.arcs node result }
         ensures of_all_walks { (nodes : List ℕ)
             → IsWalkTo self.now.network.lowers self.now.network.arcs node nodes
             → walk_length self.now.network.lowers self.now.network.arcs nodes ≤ result }
@@ -367,7 +367,7 @@ impl OrderedPaths {
         ensures nodes { All
             (λ arc. IsNode self.now.network arc.from × IsNode self.now.network arc.to)
             self.now.network.arcs }
-        ensures no_cycle { ¬ HasCycle self.now.network.arcs }
+        ensures no_cycle { ¬ ArcsHaveCycle self.now.network.arcs }
     {
         &self.arcs
     }
@@ -376,9 +376,9 @@ impl OrderedPaths {
     pub fn is_entered_from(&self, node: u32, marks: &[bool]) -> bool
         requires node { IsNode self.now.network node }
         requires marks { length marks.now ≡ length self.now.network.lowers }
-        ensures yes { IsTrue result → (u : ℕ) × IsJoined self.now.network.arcs u node
+        ensures yes { IsTrue result → (u : ℕ) × JoinsPair self.now.network.arcs u node
             × (is_marked marks.now u ≡ true) }
-        ensures no { result ≡ false → (u : ℕ) → IsJoined self.now.network.arcs u node
+        ensures no { result ≡ false → (u : ℕ) → JoinsPair self.now.network.arcs u node
             → is_marked marks.now u ≡ false }
 
         // Of the marked nodes the one at the lowest place is entered from none.
@@ -394,7 +394,7 @@ impl OrderedPaths {
             (λ nodes. IsWalkTo self.now.network.lowers self.now.network.arcs node nodes.items) }
         ensures once { IfOk result (λ nodes. HasNoNodeTwice nodes.items) }
         ensures longest { IfOk result (λ nodes.
-            IsLongest self.now.network.lowers self.now.network.arcs node
+            IsLongestLength self.now.network.lowers self.now.network.arcs node
             (walk_length self.now.network.lowers self.now.network.arcs nodes.items)) }
     {
         let alloc = *self.arcs.allocator();
@@ -423,7 +423,7 @@ impl OrderedPaths {
 
         // Without a way, an arc back would close no cycle.
         ensures no_cycle { IfOk result (λ found. IfNone found ((length : ℕ)
-            → ¬ HasCycle (with_arc self.now.network to from length).arcs)) }
+            → ¬ ArcsHaveCycle (with_arc self.now.network to from length).arcs)) }
     {
         let alloc = *self.arcs.allocator();
         if is_arc(self.refused, to, from) {

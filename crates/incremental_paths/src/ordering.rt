@@ -1,5 +1,5 @@
 ghost use Rattle.std.specs.Prelude.{ℕ, ◌≡◌, ◌≢◌, ◌<◌, ◌≤◌, ◌+◌, ◌↔◌, ◌∷◌, ◌++◌, [], true, length, slice_index, OnOk, IfErr, IsErrOf};
-ghost use Rattle.incremental_paths.specs.Walks.{HasCycle};
+ghost use Rattle.incremental_paths.specs.Walks.{ArcsHaveCycle};
 ghost use Rattle.incremental_paths.specs.Marked.{begins, AreWithin, AreRising, AreMarks};
 ghost use Rattle.incremental_paths.specs.Ordered.{is_marked};
 
@@ -36,7 +36,7 @@ pub fn order_with<L: Ledger>(
     ensures ok { (by : ℕ) → OnOk result
         (AreRising (arcs.now ++ record { from = from; to = to; length = by } ∷ []) order.new) }
     ensures closes { (by : ℕ) → IsErrOf result (AddNo.Closes from to)
-        ↔ HasCycle (arcs.now ++ record { from = from; to = to; length = by } ∷ []) }
+        ↔ ArcsHaveCycle (arcs.now ++ record { from = from; to = to; length = by } ∷ []) }
     ensures faults { IfErr result (λ no. no ≢ AddNo.Memory → no ≡ AddNo.Closes from to) }
     ensures searched { IsErrOf result (AddNo.Closes from to)
         → AreMarks arcs.now order.new to (slice_index order.new from) marks.new

@@ -1,5 +1,5 @@
 ghost use Rattle.std.specs.Prelude.{ℕ, ◌≡◌, ◌<◌, ◌≤◌, ◌+◌, ◌↔◌, ◌^◌, ◌++◌, List, [], true, false, length, All, IfOk, IfErr, IfSome, IfNone, IsTrue, OnOk, OnErr, IsErrOf, ◌≢◌, slice_index};
-ghost use Rattle.incremental_paths.specs.Walks.{IsWalkTo, IsJoined, walk_length, HasNoNodeTwice, Leads, IsLongest, IsCycle, HasCycle};
+ghost use Rattle.incremental_paths.specs.Walks.{IsWalkTo, JoinsPair, walk_length, HasNoNodeTwice, Leads, IsLongestLength, IsArcCycle, ArcsHaveCycle};
 ghost use Rattle.incremental_paths.specs.Marked.{AreRising};
 ghost use Rattle.incremental_paths.specs.Ordered.{is_marked};
 ghost use Rattle.incremental_paths.specs.Network.{IsNode, IsShort, with_arc, without_last, raised, unchanged, HasLength, TellsChanged};
@@ -73,7 +73,7 @@ impl Paths {
         ensures ok { OnOk result (self.new.arcs ≡ (with_arc self.old from to length).arcs) }
         ensures changed { OnOk result (TellsChanged self.old self.new) }
         ensures closes { IsErrOf result (AddNo.Closes from to)
-            ↔ HasCycle (with_arc self.old from to length).arcs }
+            ↔ ArcsHaveCycle (with_arc self.old from to length).arcs }
         ensures faults { IfErr result (λ no. no ≢ AddNo.Memory → no ≡ AddNo.Closes from to) }
         ensures err { OnErr result (self.new ≡ unchanged self.old) }
     {
@@ -96,7 +96,7 @@ impl Paths {
         ensures ok { OnOk result (self.new.arcs ≡ (with_arc self.old from to length).arcs) }
         ensures changed { OnOk result (TellsChanged self.old self.new) }
         ensures closes { IsErrOf result (AddNo.Closes from to)
-            ↔ HasCycle (with_arc self.old from to length).arcs }
+            ↔ ArcsHaveCycle (with_arc self.old from to length).arcs }
         ensures faults { IfErr result (λ no. no ≢ AddNo.Memory → no ≡ AddNo.Closes from to) }
         ensures err { OnErr result (self.new ≡ unchanged self.old) }
 
@@ -116,9 +116,9 @@ impl Paths {
         requires nodes { All (λ arc. IsNode self.old arc.from × IsNode self.old arc.to) more.now }
         ensures same { self.new ≡ unchanged self.old }
         ensures cycle { IfOk result
-            (λ found. IfSome found (λ nodes. IsCycle (self.old.arcs ++ more.now) nodes.items)) }
+            (λ found. IfSome found (λ nodes. IsArcCycle (self.old.arcs ++ more.now) nodes.items)) }
         ensures none { IfOk result
-            (λ found. IfNone found (¬ HasCycle (self.old.arcs ++ more.now))) }
+            (λ found. IfNone found (¬ ArcsHaveCycle (self.old.arcs ++ more.now))) }
     {
         self.ordered.cycle_with(more)
     }
@@ -145,7 +145,7 @@ impl Paths {
     /// The greatest length of a walk that ends in the node.
     pub fn length(&self, node: u32) -> u64
         requires { IsNode self.now node }
-        ensures longest { IsLongest self.now.lowers self.now.arcs node result }
+        ensures longest { IsLongestLength self.now.lowers self.now.arcs node result }
         ensures of_all_walks { (nodes : List ℕ) → IsWalkTo self.now.lowers self.now.arcs node nodes
             → walk_length self.now.lowers self.now.arcs nodes ≤ result }
     {
@@ -188,7 +188,7 @@ impl Paths {
         ensures all { result.now ≡ self.now.arcs }
         ensures nodes { All (λ arc. IsNode self.now arc.from × IsNode self.now arc.to)
             self.now.arcs }
-        ensures no_cycle { ¬ HasCycle self.now.arcs }
+        ensures no_cycle { ¬ ArcsHaveCycle self.now.arcs }
     {
         self.ordered.arcs()
     }
@@ -197,9 +197,9 @@ impl Paths {
     pub fn is_entered_from(&self, node: u32, marks: &[bool]) -> bool
         requires node { IsNode self.now node }
         requires marks { length marks.now ≡ length self.now.lowers }
-        ensures yes { IsTrue result → (u : ℕ) × IsJoined self.now.arcs u node
+        ensures yes { IsTrue result → (u : ℕ) × JoinsPair self.now.arcs u node
             × (is_marked marks.now u ≡ true) }
-        ensures no { result ≡ false → (u : ℕ) → IsJoined self.now.arcs u node
+        ensures no { result ≡ false → (u : ℕ) → JoinsPair self.now.arcs u node
             → is_marked marks.now u ≡ false }
 
         // Of the marked nodes the one at the lowest place is entered from none.
@@ -215,7 +215,7 @@ impl Paths {
             (λ nodes. IsWalkTo self.now.lowers self.now.arcs node nodes.items) }
         ensures once { IfOk result (λ nodes. HasNoNodeTwice nodes.items) }
         ensures longest { IfOk result (λ nodes.
-            IsLongest self.now.lowers self.now.arcs node
+            IsLongestLength self.now.lowers self.now.arcs node
             (walk_length self.now.lowers self.now.arcs nodes.items)) }
     {
         self.ordered.walk(node)
@@ -234,7 +234,7 @@ impl Paths {
 
         // Without a way, an arc back would close no cycle.
         ensures no_cycle { IfOk result (λ found. IfNone found ((length : ℕ)
-            → ¬ HasCycle (with_arc self.now to from length).arcs)) }
+            → ¬ ArcsHaveCycle (with_arc self.now to from length).arcs)) }
     {
         self.ordered.between(from, to)
     }

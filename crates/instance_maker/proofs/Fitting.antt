@@ -13,7 +13,7 @@ use Rattle.disp_model.specs.declared.train.Operation.{Operation}
 use Rattle.disp_model.specs.declared.train.Component.{Component}
 use Rattle.disp_model.specs.WellFormed.{IsAcyclic, HasFitNumbers, RefersInside, IsComponent, span_of, horizon, operation_count, most_of, IsWellFormed}
 use Rattle.instance_maker.specs.Draws.{pair_at}
-use Rattle.instance_maker.specs.Made.{train_from, late_from, train_at, late_at, trains_of, components_of, names_of, pair_count, grace}
+use Rattle.instance_maker.specs.Made.{train_from, late_from, made_train, made_late, made_trains, made_components, names_of, pair_count, grace}
 use Rattle.instance_maker.proofs.Block.{block_is_acyclic, block_fits, block_refers}
 
 -- ---- one train
@@ -54,7 +54,7 @@ block_train false number k small = record {
   short = second_small number k;
 }
 
-train_is : (number t : ℕ) → t < 2000 → IsBlockTrain (t / 2) (train_at number t)
+train_is : (number t : ℕ) → t < 2000 → IsBlockTrain (t / 2) (made_train number t)
 train_is number t small = block_train (t % 2 == 0) number (t / 2) (omega arith)
 
 -- ---- one component
@@ -100,21 +100,21 @@ halves_even t is = grind arith
 halves_odd : (t : ℕ) → (t % 2 == 0) ≡ false → 2 * (t / 2) + 1 ≡ t
 halves_odd t is = grind arith
 
-late_is : (number t : ℕ) → t < 2000 → IsLate t (late_at number t)
+late_is : (number t : ℕ) → t < 2000 → IsLate t (made_late number t)
 late_is number t small =
     late_train (t % 2 == 0) number t (t / 2) (halves_even t) (halves_odd t) (omega arith)
 
 -- ---- lists
 
-trains_count : (number n : ℕ) → length (trains_of number n) ≡ n
+trains_count : (number n : ℕ) → length (made_trains number n) ≡ n
 trains_count number zero = refl
 trains_count number (suc n) =
-    length-append (trains_of number n) (train_at number n ∷ []) ∙ omega (arith, trains_count number n)
+    length-append (made_trains number n) (made_train number n ∷ []) ∙ omega (arith, trains_count number n)
 
-components_count : (number n : ℕ) → length (components_of number n) ≡ n
+components_count : (number n : ℕ) → length (made_components number n) ≡ n
 components_count number zero = refl
 components_count number (suc n) =
-    length-append (components_of number n) (late_at number n ∷ [])
+    length-append (made_components number n) (made_late number n ∷ [])
     ∙ omega (arith, components_count number n)
 
 names_count : (n : ℕ) → length (names_of n) ≡ n
@@ -123,18 +123,18 @@ names_count (suc n) =
     length-append (names_of n) ((codes "p" ++ decimal n) ∷ []) ∙ omega (arith, names_count n)
 
 all_trains : (P : List Operation → Type 0) (number n : ℕ)
-    → ((t : ℕ) → t < n → P (train_at number t)) → All P (trains_of number n)
+    → ((t : ℕ) → t < n → P (made_train number t)) → All P (made_trains number n)
 all_trains P number zero each = All-from_recursion P [] tt
-all_trains P number (suc n) each = All-append P (trains_of number n) (train_at number n ∷ [])
+all_trains P number (suc n) each = All-append P (made_trains number n) (made_train number n ∷ [])
     (all_trains P number n (λ t lt. each t (omega (arith, lt))))
-    (All-from_recursion P (train_at number n ∷ []) (each n (omega arith), tt))
+    (All-from_recursion P (made_train number n ∷ []) (each n (omega arith), tt))
 
 all_components : (P : Component → Type 0) (number n : ℕ)
-    → ((t : ℕ) → t < n → P (late_at number t)) → All P (components_of number n)
+    → ((t : ℕ) → t < n → P (made_late number t)) → All P (made_components number n)
 all_components P number zero each = All-from_recursion P [] tt
-all_components P number (suc n) each = All-append P (components_of number n) (late_at number n ∷ [])
+all_components P number (suc n) each = All-append P (made_components number n) (made_late number n ∷ [])
     (all_components P number n (λ t lt. each t (omega (arith, lt))))
-    (All-from_recursion P (late_at number n ∷ []) (each n (omega arith), tt))
+    (All-from_recursion P (made_late number n ∷ []) (each n (omega arith), tt))
 
 name_at : (n i : ℕ) → i < n → get_or (names_of n) i [] ≡ codes "p" ++ decimal i
 name_at zero i lt = absurd (omega (arith, lt))
@@ -184,37 +184,37 @@ three_operations : (resource : ℕ) (train : List Operation) → IsBlockTrain re
 three_operations resource train is = rw is.is refl
 
 spans : (number n : ℕ) → n ≤ 2000
-    → sum_by (λ train. sum_by span_of train) (trains_of number n) ≤ 34 * n
+    → sum_by (λ train. sum_by span_of train) (made_trains number n) ≤ 34 * n
 spans number zero few = omega arith
 spans number (suc n) few =
-    rw (sum_by-append (λ train. sum_by span_of train) (trains_of number n) (train_at number n ∷ []))
+    rw (sum_by-append (λ train. sum_by span_of train) (made_trains number n) (made_train number n ∷ []))
     (omega (
       arith,
       spans number n (omega (arith, few)),
-      train_spans (n / 2) (train_at number n) (train_is number n (omega (arith, few))),
+      train_spans (n / 2) (made_train number n) (train_is number n (omega (arith, few))),
     ))
 
-operations : (number n : ℕ) → n ≤ 2000 → operation_count (trains_of number n) ≡ 3 * n
+operations : (number n : ℕ) → n ≤ 2000 → operation_count (made_trains number n) ≡ 3 * n
 operations number zero few = refl
 operations number (suc n) few =
-    sum_by-append (λ train. length train) (trains_of number n) (train_at number n ∷ [])
+    sum_by-append (λ train. length train) (made_trains number n) (made_train number n ∷ [])
     ∙ omega (
       arith,
       operations number n (omega (arith, few)),
-      three_operations (n / 2) (train_at number n) (train_is number n (omega (arith, few))),
+      three_operations (n / 2) (made_train number n) (train_is number n (omega (arith, few))),
     )
 
 late_costs : (train last : ℕ) (c : Component) → IsLate train c → most_of last c ≡ last
 late_costs train last c is = rw (is.coeff, is.increment) (omega arith)
 
-costs : (number n last : ℕ) → n ≤ 2000 → sum_by (most_of last) (components_of number n) ≡ n * last
+costs : (number n last : ℕ) → n ≤ 2000 → sum_by (most_of last) (made_components number n) ≡ n * last
 costs number zero last few = omega arith
 costs number (suc n) last few =
-    sum_by-append (most_of last) (components_of number n) (late_at number n ∷ [])
+    sum_by-append (most_of last) (made_components number n) (made_late number n ∷ [])
     ∙ omega (
       arith,
       costs number n last (omega (arith, few)),
-      late_costs n last (late_at number n) (late_is number n (omega (arith, few))),
+      late_costs n last (made_late number n) (late_is number n (omega (arith, few))),
     )
 
 most : (n last : ℕ) → n ≤ 2000 → last ≤ 3000000000 → n * last ≤ 2000 * 3000000000
@@ -224,59 +224,59 @@ most n last few small = grind arith
 
 -- a component names the exit of its train
 late_component : (number n t : ℕ) → n ≤ 2000 → t < n → (c : Component) → IsLate t c
-    → IsComponent (trains_of number n) c
+    → IsComponent (made_trains number n) c
 late_component number n t few lt c is = record {
   threshold = omega (arith, is.threshold);
   increment = rw is.increment (omega arith);
   coeff = rw is.coeff (omega arith);
   train = omega (arith, is.train_is, trains_count number n, lt);
   operation = λ train at.
-      let within = slice_get_within (trains_of number n) c.train train at in
-      let here = get_or_from_slice_get (trains_of number n) c.train train [] at in
-      let three : length (get_or (trains_of number n) c.train []) ≡ 3 =
-      All-get_or (λ (x : List Operation). length x ≡ 3) (trains_of number n) c.train [] within
+      let within = slice_get_within (made_trains number n) c.train train at in
+      let here = get_or_from_slice_get (made_trains number n) c.train train [] at in
+      let three : length (get_or (made_trains number n) c.train []) ≡ 3 =
+      All-get_or (λ (x : List Operation). length x ≡ 3) (made_trains number n) c.train [] within
       (all_trains (λ (x : List Operation). length x ≡ 3) number n
-      (λ u below. three_operations (u / 2) (train_at number u)
+      (λ u below. three_operations (u / 2) (made_train number u)
       (train_is number u (omega (arith, below, few))))) in
       omega (arith, is.operation, three, ap (λ (x : List Operation). length x) here);
 }
 
 module _ (number n : ℕ) (few : n ≤ 2000) where
-  is_block : (t : ℕ) → t < n → IsBlockTrain (t / 2) (train_at number t)
+  is_block : (t : ℕ) → t < n → IsBlockTrain (t / 2) (made_train number t)
   is_block t lt = train_is number t (omega (arith, lt, few))
 
-  numbers : (t : ℕ) → t < n → All HasFitNumbers (train_at number t)
+  numbers : (t : ℕ) → t < n → All HasFitNumbers (made_train number t)
   numbers t lt =
       let block = is_block t lt in
       rw block.is (block_fits block.lower (t / 2) block.min (omega (arith, block.early))
       (omega (arith, block.short)))
 
   refers : (t : ℕ) → t < n
-      → All (RefersInside (length (train_at number t)) (length (names_of (pair_count n))))
-      (train_at number t)
+      → All (RefersInside (length (made_train number t)) (length (names_of (pair_count n))))
+      (made_train number t)
   refers t lt =
       let block = is_block t lt in
       let there : t / 2 < length (names_of (pair_count n)) =
       omega (arith, names_count (pair_count n), lt) in
       rw block.is (block_refers block.lower (t / 2) block.min (length (names_of (pair_count n))) there)
 
-  acyclic : (t : ℕ) → t < n → IsAcyclic (train_at number t)
+  acyclic : (t : ℕ) → t < n → IsAcyclic (made_train number t)
   acyclic t lt =
       let block = is_block t lt in
       rw block.is (block_is_acyclic block.lower (t / 2) block.min)
 
-  last_small : horizon (trains_of number n) ≤ 3000000000
+  last_small : horizon (made_trains number n) ≤ 3000000000
   last_small = omega (arith, spans number n few, few)
 
   pub made_is_well_formed :
-      IsWellFormed (trains_of number n) (components_of number n) (names_of (pair_count n))
+      IsWellFormed (made_trains number n) (made_components number n) (names_of (pair_count n))
   made_is_well_formed = record {
     numbers = all_trains (λ train. All HasFitNumbers train) number n numbers;
     references = all_trains (λ train. All (RefersInside (length train)
         (length (names_of (pair_count n)))) train) number n refers;
     acyclic = all_trains IsAcyclic number n acyclic;
-    named = all_components (IsComponent (trains_of number n)) number n
-        (λ t lt. late_component number n t few lt (late_at number t)
+    named = all_components (IsComponent (made_trains number n)) number n
+        (λ t lt. late_component number n t few lt (made_late number t)
         (late_is number t (omega (arith, lt, few))));
     distinct = names_distinct (pair_count n) (omega (arith, few));
     trains_fit = omega (arith, trains_count number n, few);
@@ -284,7 +284,7 @@ module _ (number n : ℕ) (few : n ≤ 2000) where
     components_fit = omega (arith, components_count number n, few);
     costs_fit = omega (
       arith,
-      costs number n (horizon (trains_of number n)) few,
-      most n (horizon (trains_of number n)) few last_small,
+      costs number n (horizon (made_trains number n)) few,
+      most n (horizon (made_trains number n)) few last_small,
     );
   }

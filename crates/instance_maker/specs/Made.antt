@@ -10,16 +10,16 @@ use Rattle.instance_maker.specs.declared.draws.Pair.{Pair}
 use Rattle.instance_maker.specs.Draws.{pair_at}
 
 -- an operation from a time on, of a duration, with listings and successors
-abbrev pub lasting : ℕ → ℕ → List Listing → List ℕ → Operation
-lasting lower min listings next =
+abbrev pub made_lasting : ℕ → ℕ → List Listing → List ℕ → Operation
+made_lasting lower min listings next =
     record { lower = lower; upper = None; min = min; listings = listings; next = next }
 
 -- a train from a time on: a way of 5 to the resource, which it holds for so long, and the exit
 abbrev pub train_from : ℕ → ℕ → ℕ → List Operation
 train_from lower resource min =
-    lasting lower 5 [] (1 ∷ [])
-    ∷ lasting 0 min (record { resource = resource; release = 0 } ∷ []) (2 ∷ [])
-    ∷ lasting 0 0 [] [] ∷ []
+    made_lasting lower 5 [] (1 ∷ [])
+    ∷ made_lasting 0 min (record { resource = resource; release = 0 } ∷ []) (2 ∷ [])
+    ∷ made_lasting 0 0 [] [] ∷ []
 
 -- each unit of time that the train is late at its exit costs 1
 abbrev pub late_from : ℕ → ℕ → Component
@@ -49,26 +49,26 @@ second_late k pair =
     late_from (2 * k + 1) (pair_start k + pair.gap + 5 + pair.second + grace k pair)
 
 -- the train of this place
-abbrev pub train_at : ℕ → ℕ → List Operation
-train_at number t =
+abbrev pub made_train : ℕ → ℕ → List Operation
+made_train number t =
     if t % 2 == 0 then first_train (t / 2) (pair_at number (t / 2))
     else second_train (t / 2) (pair_at number (t / 2))
 
 -- its component
-abbrev pub late_at : ℕ → ℕ → Component
-late_at number t =
+abbrev pub made_late : ℕ → ℕ → Component
+made_late number t =
     if t % 2 == 0 then first_late (t / 2) (pair_at number (t / 2))
     else second_late (t / 2) (pair_at number (t / 2))
 
 -- the first so many trains
-abbrev pub trains_of : ℕ → ℕ → List (List Operation)
-trains_of number zero = []
-trains_of number (suc t) = trains_of number t ++ train_at number t ∷ []
+abbrev pub made_trains : ℕ → ℕ → List (List Operation)
+made_trains number zero = []
+made_trains number (suc t) = made_trains number t ++ made_train number t ∷ []
 
 -- their components
-abbrev pub components_of : ℕ → ℕ → List Component
-components_of number zero = []
-components_of number (suc t) = components_of number t ++ late_at number t ∷ []
+abbrev pub made_components : ℕ → ℕ → List Component
+made_components number zero = []
+made_components number (suc t) = made_components number t ++ made_late number t ∷ []
 
 -- the names of the first so many resources: p and the number
 abbrev pub names_of : ℕ → List (List ℕ)
@@ -81,6 +81,6 @@ pair_count trains = (trains + 1) / 2
 
 -- the problem is the one that is made
 pub record IsMade (number trains : ℕ) (problem : Problem) : Type 0 where
-  pub trains_are : problem.trains ≡ trains_of number trains
-  pub components_are : problem.components ≡ components_of number trains
+  pub trains_are : problem.trains ≡ made_trains number trains
+  pub components_are : problem.components ≡ made_components number trains
   pub names_are : problem.names ≡ names_of (pair_count trains)

@@ -1,7 +1,7 @@
 // The parts of a problem that is made.
 ghost use Rattle.std.specs.Prelude.{◌≡◌, ◌≤◌, ◌<◌, ◌-◌, ◌++◌, [], ◌∷◌, IfOk, codes};
 ghost use Rattle.std.specs.Fmt.{decimal};
-ghost use Rattle.instance_maker.specs.Made.{lasting, train_from, late_from, grace, first_train, second_train, first_late, second_late};
+ghost use Rattle.instance_maker.specs.Made.{made_lasting, train_from, late_from, grace, first_train, second_train, first_late, second_late};
 
 use crate::draws::Pair;
 use disp_model::{Component, List, Listing, Memory, Operation, Text, Train};
@@ -15,7 +15,7 @@ fn lasting(
     listings: &[Listing],
     next: &[u32],
 ) -> Result<Operation, Memory>
-    ensures { IfOk result (λ o. o ≡ lasting lower min listings.now next.now) }
+    ensures { IfOk result (λ o. o ≡ made_lasting lower min listings.now next.now) }
 {
     Ok(Operation {
         lower,

@@ -1,7 +1,7 @@
 // The problem of a number.
 ghost use Rattle.std.specs.Prelude.{◌≡◌, ◌≤◌, ◌<◌, ◌/◌, ◌^◌, ℕ, length, IfOk};
 ghost use Rattle.instance_maker.specs.Draws.{pair_at, pairs_of};
-ghost use Rattle.instance_maker.specs.Made.{train_at, late_at, trains_of, components_of, names_of, pair_count, IsMade};
+ghost use Rattle.instance_maker.specs.Made.{made_train, made_late, made_trains, made_components, names_of, pair_count, IsMade};
 
 use crate::draws::{Pair, pair_of, pairs_of};
 use crate::parts::{first_late, first_train, name_of, second_late, second_train};
@@ -12,7 +12,7 @@ use std::alloc::Global;
 fn train_at(alloc: Global, pair: &Pair, t: u32) -> Result<Train, Memory>
     requires { t < 2000 }
     ensures { (number : ℕ) → pair.now ≡ pair_at number (t / 2)
-        → IfOk result (λ train. train ≡ train_at number t) }
+        → IfOk result (λ train. train ≡ made_train number t) }
 {
     if t % 2 == 0 {
         first_train(alloc, t / 2, pair)
@@ -24,7 +24,7 @@ fn train_at(alloc: Global, pair: &Pair, t: u32) -> Result<Train, Memory>
 /// The component of a place, by its pair.
 fn late_at(pair: &Pair, t: u32) -> Component
     requires { t < 2000 }
-    ensures { (number : ℕ) → pair.now ≡ pair_at number (t / 2) → result ≡ late_at number t }
+    ensures { (number : ℕ) → pair.now ≡ pair_at number (t / 2) → result ≡ made_late number t }
 {
     if t % 2 == 0 {
         first_late(t / 2, pair)
@@ -38,7 +38,7 @@ fn trains_of(alloc: Global, pairs: &[Pair], count: u32) -> Result<List<Train>, M
     requires few { count ≤ 2000 }
     requires enough { pair_count count ≤ length pairs.now }
     ensures { (number : ℕ) → pairs.now ≡ pairs_of number (pair_count count)
-        → IfOk result (λ trains. trains ≡ trains_of number count) }
+        → IfOk result (λ trains. trains ≡ made_trains number count) }
 {
     let mut trains = List::new(alloc);
     for t in 0..count {
@@ -53,7 +53,7 @@ fn components_of(alloc: Global, pairs: &[Pair], count: u32) -> Result<List<Compo
     requires few { count ≤ 2000 }
     requires enough { pair_count count ≤ length pairs.now }
     ensures { (number : ℕ) → pairs.now ≡ pairs_of number (pair_count count)
-        → IfOk result (λ components. components ≡ components_of number count) }
+        → IfOk result (λ components. components ≡ made_components number count) }
 {
     let mut components = List::new(alloc);
     for t in 0..count {

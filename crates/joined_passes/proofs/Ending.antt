@@ -7,7 +7,7 @@ use Rattle.disp_model.specs.declared.entry.Mark.TheVariants.{Working}
 use Rattle.disp_model.specs.History.{mark_of, newest}
 use Rattle.dispatch_core.specs.declared.event.CoreEvent.TheVariants as event
 use Rattle.dispatch_core.specs.declared.event.CoreReply.{CoreReply}
-use Rattle.dispatch_core.specs.Replies.{IsNext}
+use Rattle.dispatch_core.specs.Replies.{IsNextReply}
 use Rattle.dispatch_core.specs.States.{Core}
 use Rattle.turn_lock.specs.Known.{Known, IsLast}
 use Rattle.turn_lock.specs.Section.{OwnsPlaces}
@@ -38,7 +38,7 @@ module _ (v w : Known Entry Terms) (told : CoreReply) (enters : Enters v event.N
   pub terms_then : (core : Core) → w.terms ≡ Some (terms_of core) → v.terms ≡ Some (terms_of core)
   terms_then core are = sym (role_entered v event.Next told w enters).terms ∙ are
 
-  pub over_then : (over : Bool) → ((core : Core) → IsNext core told → IsTrue over ↔ IsOverIn core.history) → (history : List Entry) → history ≡ w.seen → IsTrue over ↔ IsOverIn history
+  pub over_then : (over : Bool) → ((core : Core) → IsNextReply core told → IsTrue over ↔ IsOverIn core.history) → (history : List Entry) → history ≡ w.seen → IsTrue over ↔ IsOverIn history
   over_then over said history is = subst (λ (h : List Entry). IsTrue over ↔ IsOverIn h) (sym (is ∙ seen_is)) (said enters.before enters.steps.0)
 
   module _ (history : List Entry) (is : history ≡ w.seen) (places : (place : ℕ) → place < length history → Contains w.mine place) where

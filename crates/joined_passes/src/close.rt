@@ -2,7 +2,7 @@
 ghost use Rattle.std.specs.Prelude.{◌≡◌, ◌≢◌, ◌↔◌, ◌<◌, ℕ, IsTrue, Some, Contains, length};
 ghost use Rattle.disp_model.specs.declared.entry.Mark.TheVariants.{Working};
 ghost use Rattle.disp_model.specs.History.{mark_of, newest};
-ghost use Rattle.dispatch_core.specs.Replies.{IsNext};
+ghost use Rattle.dispatch_core.specs.Replies.{IsNextReply};
 ghost use Rattle.dispatch_core.specs.States.{Core as State, IsSound};
 ghost use Rattle.turn_lock.specs.Known.{IsLast};
 ghost use Rattle.turn_lock.specs.Section.{OwnsPlaces};
@@ -24,7 +24,7 @@ pub struct Closed {
 
 /// Whether a reply to the question what is there to do says that no edition is worked on.
 fn is_over(told: CoreReply) -> bool
-    ensures { (core : State) → IsNext core told
+    ensures { (core : State) → IsNextReply core told
         → (IsTrue result ↔ (mark_of (newest core.history) core.history ≢ Working)) }
 {
     !matches!(told, CoreReply::Work(_))

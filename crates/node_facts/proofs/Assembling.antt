@@ -21,7 +21,8 @@ use Rattle.train_orders.proofs.Places.{at_contains}
 use Rattle.train_orders.proofs.Ordered.{one_place, has_last, last_is_entry}
 use Rattle.node_facts.specs.declared.train.TrainKnowledge.{TrainKnowledge}
 use Rattle.node_facts.specs.Demands.{AreDemands}
-use Rattle.node_facts.specs.Ways.{AreSums, last_of}
+use Rattle.node_facts.specs.Ways.{AreSums}
+use Rattle.route_marks.specs.Ways.{last_of}
 use Rattle.route_marks.specs.Marks.{ArePlaces}
 use Rattle.node_facts.specs.Holders.{AreHolders}
 use Rattle.node_facts.specs.Known.{AreOnEach, IsKnown}

@@ -19,8 +19,8 @@ use Rattle.disp_laws.proofs.LongestArcs.{one_train_arc}
 use Rattle.train_orders.proofs.Places.{contains_none, same_number}
 use Rattle.node_facts.specs.declared.demands.Demand.{Demand}
 use Rattle.node_facts.specs.declared.train.TrainKnowledge.{TrainKnowledge}
-use Rattle.node_facts.specs.Ways.{IsWay, way_sum, IsLeast, IsLeastOf, HasSum, sum_at}
-use Rattle.node_facts.specs.Known.{op_of, IsKnown, IsNearer}
+use Rattle.node_facts.specs.Ways.{IsWay, way_sum, IsLeastSuch, IsLeastOf, HasSum, sum_at}
+use Rattle.node_facts.specs.Known.{op_numbered, IsKnown, IsNearer}
 use Rattle.node_facts.proofs.Placing.{falls}
 use Rattle.node_facts.proofs.Allowing.{IsLaidOut, exit_first, falls_along, way_goes, allowed_is_way}
 use Rattle.node_facts.proofs.Knowing.{laid_out, asked}
@@ -47,7 +47,7 @@ below_along node t known o w (s ∷ rest) is goes there =
     )
 
 -- a train arc leads to a lower place
-pub arc_falls : (node : Node) (t a b n : ℕ) (known : TrainKnowledge) → IsKnown node t known → IsTrainArc node (op_of t a) (op_of t b) n → get_or known.places.items b 0 < get_or known.places.items a 0
+pub arc_falls : (node : Node) (t a b n : ℕ) (known : TrainKnowledge) → IsKnown node t known → IsTrainArc node (op_numbered t a) (op_numbered t b) n → get_or known.places.items b 0 < get_or known.places.items a 0
 arc_falls node t a b n known is arc =
     let route = arc.reached in
     let passes = route.2 in
@@ -55,7 +55,7 @@ arc_falls node t a b n known is arc =
     below_along node t known a b (passes.between ++ b ∷ passes.behind) is goes (in_middle b passes.between passes.behind)
 
 -- of two forced operations the one at the higher place leads to the other
-leads_down : (node : Node) (t a b : ℕ) (known : TrainKnowledge) → IsKnown node t known → IsForced node (op_of t a) → IsForced node (op_of t b) → get_or known.places.items b 0 < get_or known.places.items a 0
+leads_down : (node : Node) (t a b : ℕ) (known : TrainKnowledge) → IsKnown node t known → IsForced node (op_numbered t a) → IsForced node (op_numbered t b) → get_or known.places.items b 0 < get_or known.places.items a 0
     → (n : ℕ) × LeadsTo (train_at node.problem t) n a b
 leads_down node t a b known is one other less = by (in_front_or_back b at.front (a ∷ at.back) (subst (IsIn b) at.split (is_in b route.0 (other.each_has route.0 route.1))))
   where
@@ -123,8 +123,8 @@ way_onward train places demands o x [] behind way = way.2
 way_onward train places demands o x (s ∷ between) behind way = way_onward train places demands s x between behind way.2
 
 -- from a forced operation that is not the exit an arc leads to the exit, as long as the least sum
-pub arc_to_exit : (node : Node) (t o x n : ℕ) (known : TrainKnowledge) → IsKnown node t known → IsForced node (op_of t o) → IsExit (train_at node.problem t) x → (o ≡ x → ⊥)
-    → IsLeast (HasSum (train_at node.problem t) known.places.items known.demands.items o) n → IsTrainArc node (op_of t o) (op_of t x) n
+pub arc_to_exit : (node : Node) (t o x n : ℕ) (known : TrainKnowledge) → IsKnown node t known → IsForced node (op_numbered t o) → IsExit (train_at node.problem t) x → (o ≡ x → ⊥)
+    → IsLeastSuch (HasSum (train_at node.problem t) known.places.items known.demands.items o) n → IsTrainArc node (op_numbered t o) (op_numbered t x) n
 arc_to_exit node t o x n known is forced exit apart least = record { same_train = refl; reached = reached least.reached.rest least.reached.way least.reached.sum_is; least = λ route total allowed passes. at_most route total allowed passes }
   where
     train : List Operation
@@ -170,9 +170,9 @@ arc_to_exit node t o x n known is forced exit apart least = record { same_train 
 -- ---- between two
 
 -- the least sum between two forced operations is the difference of those to the exit
-pub arc_between : (node : Node) (t a b m n : ℕ) (known : TrainKnowledge) → IsKnown node t known → IsForced node (op_of t a) → IsForced node (op_of t b) → get_or known.places.items b 0 < get_or known.places.items a 0
-    → IsLeast (HasSum (train_at node.problem t) known.places.items known.demands.items a) m → IsLeast (HasSum (train_at node.problem t) known.places.items known.demands.items b) n
-    → IsTrainArc node (op_of t a) (op_of t b) (m - n)
+pub arc_between : (node : Node) (t a b m n : ℕ) (known : TrainKnowledge) → IsKnown node t known → IsForced node (op_numbered t a) → IsForced node (op_numbered t b) → get_or known.places.items b 0 < get_or known.places.items a 0
+    → IsLeastSuch (HasSum (train_at node.problem t) known.places.items known.demands.items a) m → IsLeastSuch (HasSum (train_at node.problem t) known.places.items known.demands.items b) n
+    → IsTrainArc node (op_numbered t a) (op_numbered t b) (m - n)
 arc_between node t a b m n known is one other less first second = by (same_number b x)
   where
     train : List Operation
@@ -195,49 +195,49 @@ arc_between node t a b m n known is one other less first second = by (same_numbe
         let alone = ends_at_exit train known.places.items known.demands.items b second.reached.rest (subst (IsExit train) (sym same) end.1) second.reached.way in
         sym second.reached.sum_is ∙ ap (λ (l : List ℕ). way_sum train b l) alone
 
-    by : (b ≡ x) ⊎ (b ≡ x → ⊥) → IsTrainArc node (op_of t a) (op_of t b) (m - n)
+    by : (b ≡ x) ⊎ (b ≡ x → ⊥) → IsTrainArc node (op_numbered t a) (op_numbered t b) (m - n)
     by (inl same) =
         let whole : m ≡ m - n = omega (arith, none_behind same) in
-        subst (λ (y : ℕ). IsTrainArc node (op_of t a) (op_of t y) (m - n)) (sym same) (subst (IsTrainArc node (op_of t a) (op_of t x)) whole (arc_to_exit node t a x m known is one end.1 not_exit first))
+        subst (λ (y : ℕ). IsTrainArc node (op_numbered t a) (op_numbered t y) (m - n)) (sym same) (subst (IsTrainArc node (op_numbered t a) (op_numbered t x)) whole (arc_to_exit node t a x m known is one end.1 not_exit first))
     by (inr not) =
         let leads = leads_down node t a b known is one other less in
-        let arc = train_arc_exists node (op_of t a) (op_of t b) leads.0 refl leads.1 one other in
-        let whole = arcs_compose node (op_of t a) (op_of t b) (op_of t x) arc.0 n other arc.1 (arc_to_exit node t b x n known is other end.1 not second) in
-        let same : m ≡ arc.0 + n = one_train_arc node (op_of t a) (op_of t x) m (arc.0 + n) (arc_to_exit node t a x m known is one end.1 not_exit first) whole in
+        let arc = train_arc_exists node (op_numbered t a) (op_numbered t b) leads.0 refl leads.1 one other in
+        let whole = arcs_compose node (op_numbered t a) (op_numbered t b) (op_numbered t x) arc.0 n other arc.1 (arc_to_exit node t b x n known is other end.1 not second) in
+        let same : m ≡ arc.0 + n = one_train_arc node (op_numbered t a) (op_numbered t x) m (arc.0 + n) (arc_to_exit node t a x m known is one end.1 not_exit first) whole in
         let gap : arc.0 ≡ m - n = omega (arith, same) in
-        subst (IsTrainArc node (op_of t a) (op_of t b)) gap arc.1
+        subst (IsTrainArc node (op_numbered t a) (op_numbered t b)) gap arc.1
 
 -- ---- what the difference answers
 
-sum_known : (node : Node) (t o : ℕ) (known : TrainKnowledge) → IsKnown node t known → IsForced node (op_of t o) → (found : Option ℕ) → found ≡ sum_at known.sums.items o
-    → (m : ℕ) × (unwrap_or found 0 ≡ m) × IsLeast (HasSum (train_at node.problem t) known.places.items known.demands.items o) m
+sum_known : (node : Node) (t o : ℕ) (known : TrainKnowledge) → IsKnown node t known → IsForced node (op_numbered t o) → (found : Option ℕ) → found ≡ sum_at known.sums.items o
+    → (m : ℕ) × (unwrap_or found 0 ≡ m) × IsLeastSuch (HasSum (train_at node.problem t) known.places.items known.demands.items o) m
 sum_known node t o known is forced found e = by found e (subst (IsLeastOf (HasSum (train_at node.problem t) known.places.items known.demands.items o)) (sym e) (is.sums_are o))
   where
     at : Passing node t o known forced.allowed.0
     at = passing node t o known forced.allowed.0 is forced.allowed.1 (forced.each_has forced.allowed.0 forced.allowed.1)
 
     by : (found : Option ℕ) → found ≡ sum_at known.sums.items o → IsLeastOf (HasSum (train_at node.problem t) known.places.items known.demands.items o) found
-        → (m : ℕ) × (unwrap_or found 0 ≡ m) × IsLeast (HasSum (train_at node.problem t) known.places.items known.demands.items o) m
+        → (m : ℕ) × (unwrap_or found 0 ≡ m) × IsLeastSuch (HasSum (train_at node.problem t) known.places.items known.demands.items o) m
     by None e none = absurd (none (way_sum (train_at node.problem t) o at.back) (record { rest = at.back; way = at.way; sum_is = refl }))
     by (Some m) e least = (m, refl, least)
 
-pub between_is : (node : Node) (t a b sum : ℕ) (known : TrainKnowledge) → IsKnown node t known → IsForced node (op_of t a) × IsForced node (op_of t b) × IsNearer known.places.items a b
+pub between_is : (node : Node) (t a b sum : ℕ) (known : TrainKnowledge) → IsKnown node t known → IsForced node (op_numbered t a) × IsForced node (op_numbered t b) × IsNearer known.places.items a b
     → sum ≡ unwrap_or (sum_at known.sums.items a) 0 - unwrap_or (sum_at known.sums.items b) 0
-    → (n : ℕ) → (Some sum ≡ Some n) ↔ (IsForced node (op_of t a) × IsForced node (op_of t b) × IsTrainArc node (op_of t a) (op_of t b) n)
+    → (n : ℕ) → (Some sum ≡ Some n) ↔ (IsForced node (op_numbered t a) × IsForced node (op_numbered t b) × IsTrainArc node (op_numbered t a) (op_numbered t b) n)
 between_is node t a b sum known is leads sum_is n = (
-  λ e. (leads.0, leads.1, subst (IsTrainArc node (op_of t a) (op_of t b)) (same_Some sum n e) arc),
-  λ h. ap (λ (k : ℕ). Some k) (one_train_arc node (op_of t a) (op_of t b) sum n arc h.2),
+  λ e. (leads.0, leads.1, subst (IsTrainArc node (op_numbered t a) (op_numbered t b)) (same_Some sum n e) arc),
+  λ h. ap (λ (k : ℕ). Some k) (one_train_arc node (op_numbered t a) (op_numbered t b) sum n arc h.2),
 )
   where
-    arc : IsTrainArc node (op_of t a) (op_of t b) sum
+    arc : IsTrainArc node (op_numbered t a) (op_numbered t b) sum
     arc =
         let m = sum_known node t a known is leads.0 (sum_at known.sums.items a) refl in
         let k = sum_known node t b known is leads.1 (sum_at known.sums.items b) refl in
         let gap : m.0 - k.0 ≡ sum = omega (arith, sum_is, m.1, k.1) in
-        subst (IsTrainArc node (op_of t a) (op_of t b)) gap (arc_between node t a b m.0 k.0 known is leads.0 leads.1 leads.2 m.2 k.2)
+        subst (IsTrainArc node (op_numbered t a) (op_numbered t b)) gap (arc_between node t a b m.0 k.0 known is leads.0 leads.1 leads.2 m.2 k.2)
 
-pub between_none : (node : Node) (t a b : ℕ) (known : TrainKnowledge) → IsKnown node t known → (IsForced node (op_of t a) × IsForced node (op_of t b) × IsNearer known.places.items a b → ⊥)
-    → (n : ℕ) → (◌≡◌ {A = Option ℕ} None (Some n)) ↔ (IsForced node (op_of t a) × IsForced node (op_of t b) × IsTrainArc node (op_of t a) (op_of t b) n)
+pub between_none : (node : Node) (t a b : ℕ) (known : TrainKnowledge) → IsKnown node t known → (IsForced node (op_numbered t a) × IsForced node (op_numbered t b) × IsNearer known.places.items a b → ⊥)
+    → (n : ℕ) → (◌≡◌ {A = Option ℕ} None (Some n)) ↔ (IsForced node (op_numbered t a) × IsForced node (op_numbered t b) × IsTrainArc node (op_numbered t a) (op_numbered t b) n)
 between_none node t a b known is not n = (λ e. absurd (none-some n e), λ h. absurd (not (h.0, h.1, arc_falls node t a b n known is h.2)))
 
 pub nearer_is : (places read again : List ℕ) (a b x y : ℕ) → x ≡ slice_index read b → read ≡ places → y ≡ slice_index again a → again ≡ places → IsTrue (nat_lt x y) ↔ IsNearer places a b

@@ -13,24 +13,24 @@ use Rattle.disp_model.specs.Routes.{AgreesWithFixing, AgreesWithDecision}
 use Rattle.node_facts.specs.declared.demands.Demand.{Demand}
 use Rattle.node_facts.specs.declared.demands.Demand.TheVariants.{Has, Lacks, Goes, Follows}
 use Rattle.decision_paths.specs.Kept.{speaks_of}
-use Rattle.node_facts.specs.Demands.{AreDemands, Meets, demand_of_fixing, demand_of_decision, listed, Asks}
+use Rattle.node_facts.specs.Demands.{AreDemands, Meets, fixing_demand, decision_demand, as_demands, AreDemandsFor}
 
 meets_one : (route : List ℕ) (demand : Demand) → All (Meets route) (demand ∷ []) ↔ Meets route demand
 meets_one route demand = (λ h. All-head (Meets route) demand [] h, λ h. All-cons (Meets route) demand [] h (All-nil (Meets route)))
 
 -- a demand of another train asks nothing
-of_train : (u t : ℕ) (route : List ℕ) (demand : Demand) (P : Type 0) → (Meets route demand ↔ P) → All (Meets route) (listed (cond (nat_eq u t) (Some demand) None)) ↔ (u ≡ t → P)
+of_train : (u t : ℕ) (route : List ℕ) (demand : Demand) (P : Type 0) → (Meets route demand ↔ P) → All (Meets route) (as_demands (cond (nat_eq u t) (Some demand) None)) ↔ (u ≡ t → P)
 of_train u t route demand P says = elim (cases_Bool (nat_eq u t)) [
   | inl is ↦ rw is (λ h same. says.0 ((meets_one route demand).0 h), λ h. (meets_one route demand).1 (says.1 (h (eqb-true u t is))))
   | inr not ↦ rw not (λ h same. absurd (eqb-false u t not same), λ h. All-nil (Meets route))
 ]
 
-pub fixing_asks : (t : ℕ) (route : List ℕ) (fixing : Fixing) → All (Meets route) (listed (demand_of_fixing t fixing)) ↔ AgreesWithFixing t route fixing
+pub fixing_asks : (t : ℕ) (route : List ℕ) (fixing : Fixing) → All (Meets route) (as_demands (fixing_demand t fixing)) ↔ AgreesWithFixing t route fixing
 fixing_asks t route (Started u o time) = of_train u t route (Has o) (Contains route o) (λ h. h, λ h. h)
 fixing_asks t route (Chosen u o next) = of_train u t route (Goes o next) _ (λ h. h, λ h. h)
 fixing_asks t route (NotBefore u o time) = (λ h. tt, λ h. All-nil (Meets route))
 
-pub decision_asks : (t : ℕ) (route : List ℕ) (decision : Decision) → All (Meets route) (listed (demand_of_decision t decision)) ↔ AgreesWithDecision t route decision
+pub decision_asks : (t : ℕ) (route : List ℕ) (decision : Decision) → All (Meets route) (as_demands (decision_demand t decision)) ↔ AgreesWithDecision t route decision
 decision_asks t route (Go o next) = of_train o.train t route (Follows o.op next) _ (λ h. h, λ h. h)
 decision_asks t route (First a b) = (λ h. tt, λ h. All-nil (Meets route))
 decision_asks t route (Run o) = of_train o.train t route (Has o.op) (Contains route o.op) (λ h. h, λ h. h)
@@ -48,31 +48,31 @@ all_more P xs i d lt = rw (take_more xs i d lt) (
 
 -- one more fixing or decision is asked, beside what is asked already
 pub asks_more : {X : Type 0} (Before : List ℕ → Type 0) (Agrees : List ℕ → X → Type 0) (demand_of : X → Option Demand) (xs : List X) (i : ℕ) (d : X) (demand : Option Demand) (demands : List Demand) → i < length xs
-    → ((route : List ℕ) (x : X) → All (Meets route) (listed (demand_of x)) ↔ Agrees route x) → demand ≡ demand_of (get_or xs i d)
-    → Asks (λ route. Before route × All (Agrees route) (take i xs)) demands → Asks (λ route. Before route × All (Agrees route) (take (i + 1) xs)) (demands ++ listed demand)
+    → ((route : List ℕ) (x : X) → All (Meets route) (as_demands (demand_of x)) ↔ Agrees route x) → demand ≡ demand_of (get_or xs i d)
+    → AreDemandsFor (λ route. Before route × All (Agrees route) (take i xs)) demands → AreDemandsFor (λ route. Before route × All (Agrees route) (take (i + 1) xs)) (demands ++ as_demands demand)
 asks_more Before Agrees demand_of xs i d demand demands lt asks is before route = (
   λ h.
-      let parts = all_parts (Meets route) demands (listed demand) h in
+      let parts = all_parts (Meets route) demands (as_demands demand) h in
       let early = (before route).0 parts.0 in
       (early.0, (all_more (Agrees route) xs i d lt).0 (early.1, says.0 parts.1)),
   λ h.
       let parts = (all_more (Agrees route) xs i d lt).1 h.1 in
-      All-append (Meets route) demands (listed demand) ((before route).1 (h.0, parts.0)) (says.1 parts.1),
+      All-append (Meets route) demands (as_demands demand) ((before route).1 (h.0, parts.0)) (says.1 parts.1),
 )
   where
-    says : All (Meets route) (listed demand) ↔ Agrees route (get_or xs i d)
+    says : All (Meets route) (as_demands demand) ↔ Agrees route (get_or xs i d)
     says = rw is (asks route (get_or xs i d))
 
 -- no decision is asked yet
-pub asks_first : {X : Type 0} (Before : List ℕ → Type 0) (Agrees : List ℕ → X → Type 0) (demands : List Demand) → Asks Before demands → Asks (λ route. Before route × All (Agrees route) []) demands
+pub asks_first : {X : Type 0} (Before : List ℕ → Type 0) (Agrees : List ℕ → X → Type 0) (demands : List Demand) → AreDemandsFor Before demands → AreDemandsFor (λ route. Before route × All (Agrees route) []) demands
 asks_first Before Agrees demands before route = (λ h. ((before route).0 h, All-nil (Agrees route)), λ h. (before route).1 h.0)
 
 -- all are asked
 pub asks_whole : {X : Type 0} (Before : List ℕ → Type 0) (Agrees : List ℕ → X → Type 0) (xs : List X) (i : ℕ) (demands : List Demand) → length xs ≤ i
-    → Asks (λ route. Before route × All (Agrees route) (take i xs)) demands → Asks (λ route. Before route × All (Agrees route) xs) demands
-asks_whole {X} Before Agrees xs i demands past asks = subst (λ (l : List X). Asks (λ route. Before route × All (Agrees route) l) demands) (take_all i xs past) asks
+    → AreDemandsFor (λ route. Before route × All (Agrees route) (take i xs)) demands → AreDemandsFor (λ route. Before route × All (Agrees route) xs) demands
+asks_whole {X} Before Agrees xs i demands past asks = subst (λ (l : List X). AreDemandsFor (λ route. Before route × All (Agrees route) l) demands) (take_all i xs past) asks
 
-pub asks_alone : (P : List ℕ → Type 0) (demands : List Demand) → Asks (λ route. Unit {0} × P route) demands → Asks P demands
+pub asks_alone : (P : List ℕ → Type 0) (demands : List Demand) → AreDemandsFor (λ route. Unit {0} × P route) demands → AreDemandsFor P demands
 asks_alone P demands asks route = (λ h. ((asks route).0 h).1, λ h. (asks route).1 (tt, h))
 
 -- what does not speak of a train's routes asks nothing of them

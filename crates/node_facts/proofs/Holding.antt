@@ -17,7 +17,7 @@ use Rattle.node_facts.specs.declared.demands.Demand.{Demand}
 use Rattle.node_facts.specs.declared.train.TrainKnowledge.{TrainKnowledge}
 use Rattle.node_facts.specs.Ways.{sum_at}
 use Rattle.node_facts.specs.Holders.{Holds, noted, AreHolders}
-use Rattle.node_facts.specs.Known.{op_of, IsKnown, IsHolder}
+use Rattle.node_facts.specs.Known.{op_numbered, IsKnown, IsHolder}
 use Rattle.node_facts.proofs.Knowing.{forced_is}
 use Rattle.node_facts.proofs.Stepping.{goes_step, step_goes}
 
@@ -93,7 +93,7 @@ holder_is node t o known found is left same = subst (λ (x : Option ℕ). MatchO
     H : ℕ → Type 0
     H h = Holds (train_at node.problem t) known.places.items known.demands.items known.sums.items known.needed.items h o
 
-    marks : (h : ℕ) → IsTrue (slice_index_or known.needed.items h false) ↔ IsForced node (op_of t h)
+    marks : (h : ℕ) → IsTrue (slice_index_or known.needed.items h false) ↔ IsForced node (op_numbered t h)
     marks h = forced_is node t h known true (slice_index_or known.needed.items h false) is (λ yes. left, λ has. refl) refl
 
     by : (x : Option ℕ) → MatchOption x ((h : ℕ) → H h → ⊥) H → MatchOption x ((h : ℕ) → IsHolder node t o h → ⊥) (IsHolder node t o)

@@ -9,7 +9,7 @@ use Rattle.disp_laws.proofs.Paths.{is_in}
 use Rattle.disp_laws.proofs.RouteSearch.{each_within}
 use Rattle.node_facts.specs.declared.train.TrainKnowledge.{TrainKnowledge}
 use Rattle.node_facts.specs.Ways.{way_sum, IsLeastOf, HasSum, sum_at}
-use Rattle.node_facts.specs.Known.{op_of, IsKnown}
+use Rattle.node_facts.specs.Known.{op_numbered, IsKnown}
 use Rattle.node_facts.proofs.Allowing.{IsLaidOut, way_goes, IsAsked, allowed_is_way, way_is_allowed}
 
 -- ---- what has a least number
@@ -41,13 +41,13 @@ left_is node t known has is says = (
 
 -- ---- forced operations
 
-pub forced_within : (node : Node) (t o : ℕ) (known : TrainKnowledge) → IsKnown node t known → IsForced node (op_of t o) → o < length (train_at node.problem t)
+pub forced_within : (node : Node) (t o : ℕ) (known : TrainKnowledge) → IsKnown node t known → IsForced node (op_numbered t o) → o < length (train_at node.problem t)
 forced_within node t o known is forced =
     let way = allowed_is_way node t known.order.items known.places.items known.demands.items known.entry forced.allowed.0 (asked node t known is) forced.allowed.1 in
     each_within (train_at node.problem t) known.entry way.0 (way_goes (train_at node.problem t) known.places.items known.demands.items known.entry way.0 way.2) o
     (is_in o (known.entry ∷ way.0) (subst (λ (l : List ℕ). Contains l o) way.1 (forced.each_has forced.allowed.0 forced.allowed.1)))
 
-pub forced_is : (node : Node) (t o : ℕ) (known : TrainKnowledge) (left marked : Bool) → IsKnown node t known → (IsTrue left ↔ HasRoute node t) → marked ≡ slice_index_or known.needed.items o false → IsTrue (left && marked) ↔ IsForced node (op_of t o)
+pub forced_is : (node : Node) (t o : ℕ) (known : TrainKnowledge) (left marked : Bool) → IsKnown node t known → (IsTrue left ↔ HasRoute node t) → marked ≡ slice_index_or known.needed.items o false → IsTrue (left && marked) ↔ IsForced node (op_numbered t o)
 forced_is node t o known left marked is says mark = (
   λ true.
       let both = parts left marked true in
@@ -76,5 +76,5 @@ forced_is node t o known left marked is says mark = (
 
 -- with the first test decided
 pub forced_when : (node : Node) (t o : ℕ) (known : TrainKnowledge) (left value marked : Bool) → IsKnown node t known → (IsTrue left ↔ HasRoute node t) → left ≡ value → marked ≡ slice_index_or known.needed.items o false
-    → IsTrue (value && marked) ↔ IsForced node (op_of t o)
+    → IsTrue (value && marked) ↔ IsForced node (op_numbered t o)
 forced_when node t o known left value marked is says e mark = forced_is node t o known value marked is (subst (λ (b : Bool). IsTrue b ↔ HasRoute node t) e says) mark

@@ -12,7 +12,7 @@ use Rattle.disp_model.specs.Trees.{IsLateWalk}
 use Rattle.train_orders.proofs.Places.{get_push_cases}
 use Rattle.node_facts.specs.declared.train.TrainKnowledge.{TrainKnowledge}
 use Rattle.node_facts.specs.Known.{IsKnown}
-use Rattle.node_facts.specs.Windows.{IsAbove}
+use Rattle.node_facts.specs.Windows.{IsAboveBound}
 
 -- ---- what is known, one train after another
 
@@ -68,17 +68,17 @@ iff_back says = (says.1, says.0)
 -- ---- late walks
 
 pub late_is : (node : Node) (walk : List Op) (end_found : Option Op) (end : Op) (found : Option ℕ) (total : ℕ) (upper : Option ℕ) (above : Bool) → ((o : Op) → (end_found ≡ Some o) ↔ EndsIn walk o) → end_found ≡ Some end
-    → ((n : ℕ) → (found ≡ Some n) ↔ IsWalk node walk n) → found ≡ Some total → upper ≡ upper_of node.problem node.fixings end → (IsTrue above ↔ IsAbove total upper) → IsTrue above ↔ IsLateWalk node walk
+    → ((n : ℕ) → (found ≡ Some n) ↔ IsWalk node walk n) → found ≡ Some total → upper ≡ upper_of node.problem node.fixings end → (IsTrue above ↔ IsAboveBound total upper) → IsTrue above ↔ IsLateWalk node walk
 late_is node walk end_found end found total upper above ends is_end lengths is_total upper_is says = (
   λ true. by upper upper_is (says.0 true),
   λ late.
       let same_end : end ≡ late.end = same_Some end late.end (sym is_end ∙ (ends late.end).1 late.ends) in
       let same_total : total ≡ late.total = same_Some total late.total (sym is_total ∙ (lengths late.total).1 late.is_walk) in
       let known : upper ≡ Some late.upper = upper_is ∙ ap (upper_of node.problem node.fixings) same_end ∙ late.upper_is in
-      says.1 (subst (IsAbove total) (sym known) (omega (arith, late.late, same_total))),
+      says.1 (subst (IsAboveBound total) (sym known) (omega (arith, late.late, same_total))),
 )
   where
-    by : (upper : Option ℕ) → upper ≡ upper_of node.problem node.fixings end → IsAbove total upper → IsLateWalk node walk
+    by : (upper : Option ℕ) → upper ≡ upper_of node.problem node.fixings end → IsAboveBound total upper → IsLateWalk node walk
     by None is above = absurd above
     by (Some limit) is above = record { end = end; ends = (ends end).0 is_end; total = total; is_walk = (lengths total).0 is_total; upper = limit; upper_is = sym is; late = above }
 

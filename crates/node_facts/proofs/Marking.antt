@@ -12,14 +12,15 @@ use Rattle.train_orders.specs.Orders.{IsOrder}
 use Rattle.train_orders.proofs.Ordered.{one_place, has_last}
 use Rattle.train_orders.proofs.Places.{at_contains, contains_at, contains_none, get_push_cases}
 use Rattle.route_marks.specs.declared.marks.Mark.{Mark}
-use Rattle.route_marks.specs.Ways.{Steps, Goes, IsWalk, Chain}
+use Rattle.route_marks.specs.Ways.{StepsAlong, Goes, IsRowWalk, Chain}
 use Rattle.route_marks.specs.Ways as walks
 use Rattle.route_marks.specs.Marks.{IsLaid, IsMark, mark_at, HasMarks}
 use Rattle.route_marks.proofs.Keeping.{earlier}
 use Rattle.node_facts.specs.declared.demands.Demand.{Demand}
-use Rattle.node_facts.specs.Known.{IsOnEach, AreOnEach}
-use Rattle.node_facts.specs.Live.{AreRowsTo, AreLiveRows, IsLive}
-use Rattle.node_facts.specs.Ways.{IsWay, way_sum, HasSum, AreSums, sum_at, last_of}
+use Rattle.node_facts.specs.Known.{IsOnEachRoute, AreOnEach}
+use Rattle.node_facts.specs.Live.{AreRowsTo, AreLiveRows, IsLiveStep}
+use Rattle.node_facts.specs.Ways.{IsWay, way_sum, HasSum, AreSums, sum_at}
+use Rattle.route_marks.specs.Ways.{last_of}
 use Rattle.node_facts.proofs.Knowing.{some_has}
 
 module _ (train : List Operation) (order places : List ℕ) (demands : List Demand) (sums : List (Option ℕ)) where
@@ -29,15 +30,15 @@ module _ (train : List Operation) (order places : List ℕ) (demands : List Dema
   rows_none rows none = subst (λ (l : List (List ℕ)). AreRowsTo 0 train order places demands sums l) (sym none) (record { long = refl; each = λ k o row here row_is. absurd (none-some row row_is) })
 
   pub rows_more : (i o : ℕ) (rows : List (List ℕ)) (row : List ℕ) → slice_get order i ≡ Some o
-      → ((s : ℕ) → Contains row s ↔ (IsSuccessor train o s × IsLive places demands sums o s)) → AreRowsTo i train order places demands sums rows → AreRowsTo (i + 1) train order places demands sums (rows ++ row ∷ [])
+      → ((s : ℕ) → Contains row s ↔ (IsSuccessor train o s × IsLiveStep places demands sums o s)) → AreRowsTo i train order places demands sums rows → AreRowsTo (i + 1) train order places demands sums (rows ++ row ∷ [])
   rows_more i o rows row here says before = record {
     long = length_push rows row ∙ ap (λ (n : ℕ). n + 1) before.long;
     each = λ k p other at other_is. elim (get_push_cases rows row other k other_is) [
       | inl early ↦ before.each k p other at early
       | inr last ↦
           let same : o ≡ p = same_Some o p (sym here ∙ subst (λ (n : ℕ). slice_get order n ≡ Some p) (last.0 ∙ before.long) at) in
-          subst (λ (l : List ℕ). (s : ℕ) → Contains l s ↔ (IsSuccessor train p s × IsLive places demands sums p s)) last.1
-          (subst (λ (x : ℕ). (s : ℕ) → Contains row s ↔ (IsSuccessor train x s × IsLive places demands sums x s)) same says)
+          subst (λ (l : List ℕ). (s : ℕ) → Contains l s ↔ (IsSuccessor train p s × IsLiveStep places demands sums p s)) last.1
+          (subst (λ (x : ℕ). (s : ℕ) → Contains row s ↔ (IsSuccessor train x s × IsLiveStep places demands sums x s)) same says)
     ];
   }
 
@@ -51,10 +52,10 @@ module _ (train : List Operation) (order places : List ℕ) (demands : List Dema
     leads_way : (o : ℕ) → IsSome (sum_at sums o) → (rest : List ℕ) × IsWay train places demands o rest
     leads_way o some = let found = (some_has (HasSum train places demands o) (sum_at sums o) (summed o)).0 some in (found.1.rest, found.1.way)
 
-    step_says : (o s : ℕ) → Steps order rows o s → IsSuccessor train o s × IsLive places demands sums o s
+    step_says : (o s : ℕ) → StepsAlong order rows o s → IsSuccessor train o s × IsLiveStep places demands sums o s
     step_says o s step = (live.each step.place o step.row step.here step.row_is s).0 step.has
 
-    steps : (k o s : ℕ) → slice_get order k ≡ Some o → IsSuccessor train o s → IsLive places demands sums o s → Steps order rows o s
+    steps : (k o s : ℕ) → slice_get order k ≡ Some o → IsSuccessor train o s → IsLiveStep places demands sums o s → StepsAlong order rows o s
     steps k o s here next is = record { place = k; row = get_or rows k []; here = here; row_is = row_is; has = (live.each k o (get_or rows k []) here row_is s).1 (next, is) }
       where
         row_is : slice_get rows k ≡ Some (get_or rows k [])
@@ -85,7 +86,7 @@ module _ (train : List Operation) (order places : List ℕ) (demands : List Dema
     chained : (k o z : ℕ) (front : List ℕ) → slice_get order k ≡ Some o → IsSome (sum_at sums o) → Chain order rows o front z → ((j : ℕ) × (slice_get order j ≡ Some z)) × IsSome (sum_at sums z)
     chained k o z [] here some same = subst (λ (x : ℕ). ((j : ℕ) × (slice_get order j ≡ Some x)) × IsSome (sum_at sums x)) same ((k, here), some)
     chained k o z (p ∷ front) here some (same, (s, step, rest)) =
-        let says = step_says o s (subst (λ (x : ℕ). Steps order rows x s) (sym same) step) in
+        let says = step_says o s (subst (λ (x : ℕ). StepsAlong order rows x s) (sym same) step) in
         let place = earlier train order k o s ordered here says.0 in
         chained place.0 s z front place.2 says.1.leads rest
 
@@ -112,23 +113,23 @@ module _ (train : List Operation) (order places : List ℕ) (demands : List Dema
         one_end = λ o z front other first second stops_here ends_here. acyclic.one_exit o z (ends front o first stops_here) (ends other z second ends_here);
       }
 
-      each_way : (o : ℕ) → walks.IsOnEach order rows (last_of order) o → IsOnEach train places demands (last_of order) o
+      each_way : (o : ℕ) → walks.IsOnEach order rows (last_of order) o → IsOnEachRoute train places demands (last_of order) o
       each_way o on_each rest way = on_each (last_of order ∷ rest) (refl, way_goes (length order - 1) (last_of order) rest last_here way)
 
-      each_walk : (o : ℕ) → IsOnEach train places demands (last_of order) o → walks.IsOnEach order rows (last_of order) o
+      each_walk : (o : ℕ) → IsOnEachRoute train places demands (last_of order) o → walks.IsOnEach order rows (last_of order) o
       each_walk o on_each [] walk = absurd walk
       each_walk o on_each (p ∷ rest) (same, goes) =
           subst (λ (x : ℕ). Contains (x ∷ rest) o) same (on_each rest (goes_way (length order - 1) (last_of order) rest last_here some (subst (λ (x : ℕ). Goes order rows x rest) (sym same) goes)))
 
       -- the marks tell which operations are on each way
       marked_each : (marks : List (Option Mark)) → HasMarks train order rows marks → (o : ℕ) (mark : Option Mark) → o < length train → mark ≡ mark_at marks o
-          → IsTrue (is_some mark) ↔ ((o < length train) × IsOnEach train places demands (last_of order) o)
+          → IsTrue (is_some mark) ↔ ((o < length train) × IsOnEachRoute train places demands (last_of order) o)
       marked_each marks has o mark there is =
           let place = at_contains order o (ordered.has o there) in
           by mark (subst (λ (m : Option Mark). MatchOption m (walks.IsOnEach order rows (last_of order) o → ⊥) (IsMark train order rows o)) (sym is) (has.are_marks place.0 o place.1 (omega arith)))
         where
           by : (mark : Option Mark) → MatchOption mark (walks.IsOnEach order rows (last_of order) o → ⊥) (IsMark train order rows o)
-              → IsTrue (is_some mark) ↔ ((o < length train) × IsOnEach train places demands (last_of order) o)
+              → IsTrue (is_some mark) ↔ ((o < length train) × IsOnEachRoute train places demands (last_of order) o)
           by None not = (λ h. absurd (false≢true h), λ h. absurd (not (each_walk o h.1)))
           by (Some mark) mark_is = (λ h. (there, each_way o mark_is.each), λ h. refl)
 
@@ -147,7 +148,7 @@ module _ (train : List Operation) (order places : List ℕ) (demands : List Dema
 
   -- where there is no way each operation is on each
   pub needed_all : (e : ℕ) (marks : List Bool) → AreSums train places demands sums → (IsSome (sum_at sums e) → ⊥) → marks ≡ replicate (length train) true → AreOnEach train places demands e marks
-  needed_all e marks summed none all o = subst (λ (l : List Bool). IsTrue (slice_index_or l o false) ↔ ((o < length train) × IsOnEach train places demands e o)) (sym all) (elim (cases_lt o (length train)) [
+  needed_all e marks summed none all o = subst (λ (l : List Bool). IsTrue (slice_index_or l o false) ↔ ((o < length train) × IsOnEachRoute train places demands e o)) (sym all) (elim (cases_lt o (length train)) [
     | inl there ↦ rw (get_or_replicate (length train) o there) (λ h. (there, λ rest way. absurd (no_way rest way)), λ h. refl)
     | inr past ↦ rw (get_or_past (replicate (length train) true) o false (omega (arith, past, length-replicate (length train) true))) (λ h. absurd (false≢true h), λ h. absurd (omega (arith, past, h.0)))
   ])

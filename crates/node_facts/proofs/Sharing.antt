@@ -19,7 +19,7 @@ use Rattle.disp_model.specs.Arcs.{listings_of, shared_listings, Conflicts, relea
 use Rattle.disp_laws.proofs.Composed.{own_arc}
 use Rattle.disp_laws.proofs.LongestArcs.{one_train_arc}
 use Rattle.node_facts.specs.declared.train.TrainKnowledge.{TrainKnowledge}
-use Rattle.node_facts.specs.Known.{op_of, IsKnown, IsHolder}
+use Rattle.node_facts.specs.Known.{op_numbered, IsKnown, IsHolder}
 use Rattle.node_facts.specs.Orders.{IsShared, IsConflict, greater, AreKnown}
 use Rattle.node_facts.proofs.Stepping.{one_holder}
 
@@ -66,17 +66,17 @@ order_is problem decisions a b release sum decided conflict sum_is n = (
 
 -- ---- the arc from what follows the holder
 
-holder_same : (node : Node) (n b : Op) (m h : ℕ) → n.train < length node.problem.trains → IsHolder node n.train n.op h → (arc : IsReleaseArc node n b m) → arc.holder ≡ op_of n.train h
+holder_same : (node : Node) (n b : Op) (m h : ℕ) → n.train < length node.problem.trains → IsHolder node n.train n.op h → (arc : IsReleaseArc node n b m) → arc.holder ≡ op_numbered n.train h
 holder_same node n b m h there holder arc = by arc.holder arc.forced arc.goes_to.0 arc.goes_to.1
   where
-    by : (a : Op) → IsForced node a → n.train ≡ a.train → ((route : List ℕ) → IsAllowed node a.train route → after a.op route ≡ Some n.op) → a ≡ op_of n.train h
+    by : (a : Op) → IsForced node a → n.train ≡ a.train → ((route : List ℕ) → IsAllowed node a.train route → after a.op route ≡ Some n.op) → a ≡ op_numbered n.train h
     by a forced same goes =
-        let moved : op_of n.train a.op ≡ a = ap (λ (t : ℕ). op_of t a.op) same in
+        let moved : op_numbered n.train a.op ≡ a = ap (λ (t : ℕ). op_numbered t a.op) same in
         let own : IsHolder node n.train n.op a.op = record {
           forced = subst (IsForced node) (sym moved) forced;
           goes = (refl, subst (λ (t : ℕ). (route : List ℕ) → IsAllowed node t route → after a.op route ≡ Some n.op) (sym same) goes);
         } in
-        sym moved ∙ ap (op_of n.train) (one_holder node n.train n.op a.op h there own holder)
+        sym moved ∙ ap (op_numbered n.train) (one_holder node n.train n.op a.op h there own holder)
 
 pub release_none : (node : Node) (n b : Op) → ((h : ℕ) → IsHolder node n.train n.op h → ⊥) → (m : ℕ) → (◌≡◌ {A = Option ℕ} None (Some m)) ↔ IsReleaseArc node n b m
 release_none node n b none m = (λ e. absurd (none-some m e), λ arc. absurd (by arc.holder arc.forced arc.goes_to.0 arc.goes_to.1))
@@ -84,20 +84,20 @@ release_none node n b none m = (λ e. absurd (none-some m e), λ arc. absurd (by
     by : (a : Op) → IsForced node a → n.train ≡ a.train → ((route : List ℕ) → IsAllowed node a.train route → after a.op route ≡ Some n.op) → ⊥
     by a forced same goes =
         none a.op (record {
-          forced = subst (IsForced node) (sym (ap (λ (t : ℕ). op_of t a.op) same)) forced;
+          forced = subst (IsForced node) (sym (ap (λ (t : ℕ). op_numbered t a.op) same)) forced;
           goes = (refl, subst (λ (t : ℕ). (route : List ℕ) → IsAllowed node t route → after a.op route ≡ Some n.op) (sym same) goes);
         })
 
-pub release_undecided : (node : Node) (n b : Op) (h : ℕ) → n.train < length node.problem.trains → IsHolder node n.train n.op h → (Contains node.decisions (First (op_of n.train h) b) → ⊥) → (m : ℕ) → (◌≡◌ {A = Option ℕ} None (Some m)) ↔ IsReleaseArc node n b m
+pub release_undecided : (node : Node) (n b : Op) (h : ℕ) → n.train < length node.problem.trains → IsHolder node n.train n.op h → (Contains node.decisions (First (op_numbered n.train h) b) → ⊥) → (m : ℕ) → (◌≡◌ {A = Option ℕ} None (Some m)) ↔ IsReleaseArc node n b m
 release_undecided node n b h there holder not m = (λ e. absurd (none-some m e), λ arc. absurd (not (subst (λ (a : Op). Contains node.decisions (First a b)) (holder_same node n b m h there holder arc) arc.decided)))
 
-pub release_apart : (node : Node) (n b : Op) (h : ℕ) → n.train < length node.problem.trains → IsHolder node n.train n.op h → (Conflicts node.problem (op_of n.train h) b → ⊥) → (m : ℕ) → (◌≡◌ {A = Option ℕ} None (Some m)) ↔ IsReleaseArc node n b m
+pub release_apart : (node : Node) (n b : Op) (h : ℕ) → n.train < length node.problem.trains → IsHolder node n.train n.op h → (Conflicts node.problem (op_numbered n.train h) b → ⊥) → (m : ℕ) → (◌≡◌ {A = Option ℕ} None (Some m)) ↔ IsReleaseArc node n b m
 release_apart node n b h there holder not m = (λ e. absurd (none-some m e), λ arc. absurd (not (subst (λ (a : Op). Conflicts node.problem a b) (holder_same node n b m h there holder arc) arc.conflicts)))
 
-pub release_is : (node : Node) (n b : Op) (h release : ℕ) → n.train < length node.problem.trains → IsHolder node n.train n.op h → Contains node.decisions (First (op_of n.train h) b) → IsConflict node.problem (op_of n.train h) b release
+pub release_is : (node : Node) (n b : Op) (h release : ℕ) → n.train < length node.problem.trains → IsHolder node n.train n.op h → Contains node.decisions (First (op_numbered n.train h) b) → IsConflict node.problem (op_numbered n.train h) b release
     → (m : ℕ) → (Some release ≡ Some m) ↔ IsReleaseArc node n b m
 release_is node n b h release there holder decided conflict m = (
-  λ e. record { holder = op_of n.train h; decided = decided; forced = holder.forced; conflicts = conflict.conflicts; goes_to = holder.goes; length_is = sym (same_Some release m e) ∙ conflict.release_is },
+  λ e. record { holder = op_numbered n.train h; decided = decided; forced = holder.forced; conflicts = conflict.conflicts; goes_to = holder.goes; length_is = sym (same_Some release m e) ∙ conflict.release_is },
   λ arc. ap (λ (k : ℕ). Some k) (conflict.release_is ∙ ap (λ (a : Op). release_of node.problem a b) (sym (holder_same node n b m h there holder arc)) ∙ sym arc.length_is),
 )
 
@@ -168,6 +168,6 @@ known_at node trains t known are lt is = are.each t known (slice_get-get_or trai
 
 -- the second operation is of the first one's train
 pub own_train : (node : Node) (u v : Op) (found : Option ℕ) → u.train ≡ v.train
-    → ((n : ℕ) → (found ≡ Some n) ↔ (IsForced node (op_of u.train u.op) × IsForced node (op_of u.train v.op) × IsTrainArc node (op_of u.train u.op) (op_of u.train v.op) n))
+    → ((n : ℕ) → (found ≡ Some n) ↔ (IsForced node (op_numbered u.train u.op) × IsForced node (op_numbered u.train v.op) × IsTrainArc node (op_numbered u.train u.op) (op_numbered u.train v.op) n))
     → (n : ℕ) → (found ≡ Some n) ↔ (IsForced node u × IsForced node v × IsTrainArc node u v n)
-own_train node u v found same says n = subst (λ (w : Op). (found ≡ Some n) ↔ (IsForced node u × IsForced node w × IsTrainArc node u w n)) (ap (λ (t : ℕ). op_of t v.op) same) (says n)
+own_train node u v found same says n = subst (λ (w : Op). (found ≡ Some n) ↔ (IsForced node u × IsForced node w × IsTrainArc node u w n)) (ap (λ (t : ℕ). op_numbered t v.op) same) (says n)

@@ -18,8 +18,8 @@ use Rattle.train_orders.proofs.Places.{contains_none}
 use Rattle.node_facts.specs.declared.demands.Demand.{Demand}
 use Rattle.node_facts.specs.declared.train.TrainKnowledge.{TrainKnowledge}
 use Rattle.node_facts.specs.Ways.{IsWay, way_sum, HasSum, sum_at}
-use Rattle.node_facts.specs.Live.{IsLive, IsOnlyStep}
-use Rattle.node_facts.specs.Known.{op_of, IsKnown, IsHolder}
+use Rattle.node_facts.specs.Live.{IsLiveStep, IsOnlyStep}
+use Rattle.node_facts.specs.Known.{op_numbered, IsKnown, IsHolder}
 use Rattle.node_facts.proofs.Allowing.{allowed_is_way, way_is_allowed}
 use Rattle.node_facts.proofs.Knowing.{some_has, asked}
 
@@ -95,7 +95,7 @@ leads_on : (node : Node) (t s : ℕ) (known : TrainKnowledge) → IsKnown node t
 leads_on node t s known is = some_has (HasSum (train_at node.problem t) known.places.items known.demands.items s) (sum_at known.sums.items s) (is.sums_are s)
 
 -- what each allowed route goes on to is the only step
-pub goes_step : (node : Node) (t a n : ℕ) (known : TrainKnowledge) → IsKnown node t known → IsForced node (op_of t a) → GoesTo node (op_of t a) (op_of t n) → IsOnlyStep known.places.items known.demands.items known.sums.items a (next_of (train_at node.problem t) a) n
+pub goes_step : (node : Node) (t a n : ℕ) (known : TrainKnowledge) → IsKnown node t known → IsForced node (op_numbered t a) → GoesTo node (op_numbered t a) (op_numbered t n) → IsOnlyStep known.places.items known.demands.items known.sums.items a (next_of (train_at node.problem t) a) n
 goes_step node t a n known is forced goes = by at.back at.way (goes.1 route.0 route.1) (ap (λ (l : List ℕ). after a l) at.split ∙ after_at node t a at.front at.back is.there (subst (IsAllowed node t) at.split route.1))
   where
     train : List Operation
@@ -107,7 +107,7 @@ goes_step node t a n known is forced goes = by at.back at.way (goes.1 route.0 ro
     at : Passing node t a known route.0
     at = passing node t a known route.0 is route.1 (forced.each_has route.0 route.1)
 
-    alone : (q : ℕ) → Contains (next_of train a) q → IsLive known.places.items known.demands.items known.sums.items a q → q ≡ n
+    alone : (q : ℕ) → Contains (next_of train a) q → IsLiveStep known.places.items known.demands.items known.sums.items a q → q ≡ n
     alone q next step =
         let onward = (leads_on node t q known is).0 step.leads in
         let joined = at.join (q ∷ onward.1.rest) (next, step.may, onward.1.way) in
@@ -124,7 +124,7 @@ goes_step node t a n known is forced goes = by at.back at.way (goes.1 route.0 ro
         })
 
 -- the only step is what each allowed route goes on to
-pub step_goes : (node : Node) (t a n : ℕ) (known : TrainKnowledge) → IsKnown node t known → IsForced node (op_of t a) → IsOnlyStep known.places.items known.demands.items known.sums.items a (next_of (train_at node.problem t) a) n → GoesTo node (op_of t a) (op_of t n)
+pub step_goes : (node : Node) (t a n : ℕ) (known : TrainKnowledge) → IsKnown node t known → IsForced node (op_numbered t a) → IsOnlyStep known.places.items known.demands.items known.sums.items a (next_of (train_at node.problem t) a) n → GoesTo node (op_numbered t a) (op_numbered t n)
 step_goes node t a n known is forced only = (refl, λ route allowed. on route allowed (passing node t a known route is allowed (forced.each_has route allowed)))
   where
     train : List Operation

@@ -13,7 +13,7 @@ use Rattle.train_orders.specs.Orders.{IsBehind, IsOrder}
 use Rattle.train_orders.proofs.Searching.{next_at}
 use Rattle.train_orders.proofs.Places.{contains_at, contains_none, same_number}
 use Rattle.node_facts.specs.declared.demands.Demand.{Demand}
-use Rattle.node_facts.specs.Ways.{MayGo, IsWay, way_sum, IsLeast, IsLeastOf, lesser, HasSum, sum_at, AreSums, IsOnward, GoesOnward, IsSumBy}
+use Rattle.node_facts.specs.Ways.{MayGo, IsWay, way_sum, IsLeastSuch, IsLeastOf, lesser, HasSum, sum_at, AreSums, IsOnward, GoesOnward, IsSumBy}
 
 -- ---- the least of numbers
 
@@ -85,14 +85,14 @@ pub by_none : (operation : Operation) (places : List ℕ) (demands : List Demand
 by_none operation places demands sums o some is n (inl end) = some end.last
 by_none operation places demands sums o some is n (inr over) = is over.behind over.onward
 
-pub by_some : (operation : Operation) (places : List ℕ) (demands : List Demand) (sums : List (Option ℕ)) (o least : ℕ) → (operation.next ≡ [] → ⊥) → IsLeast (GoesOnward places demands sums o operation.next) least
-    → IsLeast (IsSumBy operation places demands sums o) (operation.min + least)
+pub by_some : (operation : Operation) (places : List ℕ) (demands : List Demand) (sums : List (Option ℕ)) (o least : ℕ) → (operation.next ≡ [] → ⊥) → IsLeastSuch (GoesOnward places demands sums o operation.next) least
+    → IsLeastSuch (IsSumBy operation places demands sums o) (operation.min + least)
 by_some operation places demands sums o least some is = record {
   reached = inr (record { behind = least; onward = is.reached; sum_is = refl });
   at_most = λ n h. elim h [ inl end ↦ absurd (some end.last) | inr over ↦ omega (arith, is.at_most over.behind over.onward, over.sum_is) ];
 }
 
-pub by_some_small : (places : List ℕ) (demands : List Demand) (sums : List (Option ℕ)) (o least most : ℕ) (nexts : List ℕ) → IsLeast (GoesOnward places demands sums o nexts) least → ((s n : ℕ) → sum_at sums s ≡ Some n → n ≤ most) → least ≤ most
+pub by_some_small : (places : List ℕ) (demands : List Demand) (sums : List (Option ℕ)) (o least most : ℕ) (nexts : List ℕ) → IsLeastSuch (GoesOnward places demands sums o nexts) least → ((s n : ℕ) → sum_at sums s ≡ Some n → n ≤ most) → least ≤ most
 by_some_small places demands sums o least most nexts is small = small is.reached.next least is.reached.onward.known
 
 -- ---- the sums so far

@@ -17,28 +17,28 @@ Meets route (Goes o n) = after o route ≡ Some n
 Meets route (Follows o n) = Contains route o → after o route ≡ Some n
 
 -- what a fixing and a decision ask of the routes of a train
-abbrev pub demand_of_fixing : ℕ → Fixing → Option Demand
-demand_of_fixing t (Started u o time) = if u == t then Some (Has o) else None
-demand_of_fixing t (Chosen u o next) = if u == t then Some (Goes o next) else None
-demand_of_fixing t (NotBefore u o time) = None
+abbrev pub fixing_demand : ℕ → Fixing → Option Demand
+fixing_demand t (Started u o time) = if u == t then Some (Has o) else None
+fixing_demand t (Chosen u o next) = if u == t then Some (Goes o next) else None
+fixing_demand t (NotBefore u o time) = None
 
-abbrev pub demand_of_decision : ℕ → Decision → Option Demand
-demand_of_decision t (Go o next) = if o.train == t then Some (Follows o.op next) else None
-demand_of_decision t (First a b) = None
-demand_of_decision t (Run o) = if o.train == t then Some (Has o.op) else None
-demand_of_decision t (SkipIt o) = if o.train == t then Some (Lacks o.op) else None
+abbrev pub decision_demand : ℕ → Decision → Option Demand
+decision_demand t (Go o next) = if o.train == t then Some (Follows o.op next) else None
+decision_demand t (First a b) = None
+decision_demand t (Run o) = if o.train == t then Some (Has o.op) else None
+decision_demand t (SkipIt o) = if o.train == t then Some (Lacks o.op) else None
 
-abbrev pub listed : Option Demand → List Demand
-listed None = []
-listed (Some demand) = demand ∷ []
+abbrev pub as_demands : Option Demand → List Demand
+as_demands None = []
+as_demands (Some demand) = demand ∷ []
 
 -- a route meets the demands exactly where something holds of it
-abbrev pub Asks : (List ℕ → Type 0) → List Demand → Type 0
-Asks P demands = (route : List ℕ) → All (Meets route) demands ↔ P route
+abbrev pub AreDemandsFor : (List ℕ → Type 0) → List Demand → Type 0
+AreDemandsFor P demands = (route : List ℕ) → All (Meets route) demands ↔ P route
 
 -- the routes of a train that agree with fixings and decisions meet the demands, and no others
 abbrev pub AreDemands : ℕ → List Fixing → List Decision → List Demand → Type 0
-AreDemands t fixings decisions = Asks (λ route. All (AgreesWithFixing t route) fixings × All (AgreesWithDecision t route) decisions)
+AreDemands t fixings decisions = AreDemandsFor (λ route. All (AgreesWithFixing t route) fixings × All (AgreesWithDecision t route) decisions)
 
 -- ---- steps
 

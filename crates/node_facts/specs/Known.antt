@@ -16,16 +16,16 @@ use Rattle.node_facts.specs.Holders.{AreHolders}
 use Rattle.route_marks.specs.Marks.{ArePlaces}
 
 -- an operation of a train
-abbrev pub op_of : ℕ → ℕ → Op
-op_of t o = record { train = t; op = o }
+abbrev pub op_numbered : ℕ → ℕ → Op
+op_numbered t o = record { train = t; op = o }
 
 -- each way from the entry has the operation
-abbrev pub IsOnEach : List Operation → List ℕ → List Demand → ℕ → ℕ → Type 0
-IsOnEach train places demands e o = (rest : List ℕ) → IsWay train places demands e rest → Contains (e ∷ rest) o
+abbrev pub IsOnEachRoute : List Operation → List ℕ → List Demand → ℕ → ℕ → Type 0
+IsOnEachRoute train places demands e o = (rest : List ℕ) → IsWay train places demands e rest → Contains (e ∷ rest) o
 
 -- which operations are on each way from the entry
 abbrev pub AreOnEach : List Operation → List ℕ → List Demand → ℕ → List Bool → Type 0
-AreOnEach train places demands e marks = (o : ℕ) → IsTrue (slice_index_or marks o false) ↔ ((o < length train) × IsOnEach train places demands e o)
+AreOnEach train places demands e marks = (o : ℕ) → IsTrue (slice_index_or marks o false) ↔ ((o < length train) × IsOnEachRoute train places demands e o)
 
 -- what is kept of a train is so of its allowed routes at the node
 pub record IsKnown (node : Node) (t : ℕ) (known : TrainKnowledge) : Type 0 where
@@ -41,8 +41,8 @@ pub record IsKnown (node : Node) (t : ℕ) (known : TrainKnowledge) : Type 0 whe
 
 -- the forced operation from which each allowed route goes on to another
 pub record IsHolder (node : Node) (t o h : ℕ) : Type 0 where
-  pub forced : IsForced node (op_of t h)
-  pub goes : GoesTo node (op_of t h) (op_of t o)
+  pub forced : IsForced node (op_numbered t h)
+  pub goes : GoesTo node (op_numbered t h) (op_numbered t o)
 
 -- the second operation stands nearer to the exit
 abbrev pub IsNearer : List ℕ → ℕ → ℕ → Type 0

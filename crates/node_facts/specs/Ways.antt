@@ -20,12 +20,12 @@ way_sum train o [] = 0
 way_sum train o (s ∷ rest) = duration_of train o + way_sum train s rest
 
 -- the least number of which something holds, or none where it holds of none
-pub record IsLeast (P : ℕ → Type 0) (least : ℕ) : Type 0 where
+pub record IsLeastSuch (P : ℕ → Type 0) (least : ℕ) : Type 0 where
   pub reached : P least
   pub at_most : (n : ℕ) → P n → least ≤ n
 
 abbrev pub IsLeastOf : (ℕ → Type 0) → Option ℕ → Type 0
-IsLeastOf P least = MatchOption least ((n : ℕ) → P n → ⊥) (IsLeast P)
+IsLeastOf P least = MatchOption least ((n : ℕ) → P n → ⊥) (IsLeastSuch P)
 
 abbrev pub lesser : Option ℕ → Option ℕ → Option ℕ
 lesser None other = other
@@ -56,7 +56,7 @@ pub record GoesOnward (places : List ℕ) (demands : List Demand) (sums : List (
   pub onward : IsOnward places demands sums o next sum
 
 -- the way ends at the operation, which goes on to none
-pub record EndsThere (operation : Operation) (places : List ℕ) (demands : List Demand) (o sum : ℕ) : Type 0 where
+pub record EndsRouteThere (operation : Operation) (places : List ℕ) (demands : List Demand) (o sum : ℕ) : Type 0 where
   pub last : operation.next ≡ []
   pub may : MayGo places demands o None
   pub sum_is : sum ≡ 0
@@ -68,8 +68,4 @@ pub record GoesOver (operation : Operation) (places : List ℕ) (demands : List 
 
 -- a sum by those that are known of the operation's successors
 abbrev pub IsSumBy : Operation → List ℕ → List Demand → List (Option ℕ) → ℕ → ℕ → Type 0
-IsSumBy operation places demands sums o sum = EndsThere operation places demands o sum ⊎ GoesOver operation places demands sums o sum
-
--- the last operation of an order
-abbrev pub last_of : List ℕ → ℕ
-last_of order = slice_index order (length order - 1)
+IsSumBy operation places demands sums o sum = EndsRouteThere operation places demands o sum ⊎ GoesOver operation places demands sums o sum

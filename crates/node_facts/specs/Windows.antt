@@ -5,10 +5,10 @@ use Rattle.disp_model.specs.declared.fixing.Fixing.{Fixing}
 use Rattle.disp_model.specs.declared.fixing.Fixing.TheVariants.{Started, Chosen, NotBefore}
 
 -- the time to which a fixing fixes an operation
-abbrev pub start_by : Fixing → Op → Option ℕ
-start_by (Started t p time) o = if (t == o.train) && (p == o.op) then Some time else None
-start_by (Chosen t p next) o = None
-start_by (NotBefore t p time) o = None
+abbrev pub start_fixed_by : Fixing → Op → Option ℕ
+start_fixed_by (Started t p time) o = if (t == o.train) && (p == o.op) then Some time else None
+start_fixed_by (Chosen t p next) o = None
+start_fixed_by (NotBefore t p time) o = None
 
 -- the time before which a fixing lets an operation not start, or 0
 abbrev pub bar_by : Fixing → Op → ℕ
@@ -17,6 +17,6 @@ bar_by (Chosen t p next) o = 0
 bar_by (NotBefore t p time) o = if (t == o.train) && (p == o.op) then time else 0
 
 -- a length is above an upper, if there is one
-abbrev pub IsAbove : ℕ → Option ℕ → Type 0
-IsAbove total None = ⊥
-IsAbove total (Some upper) = upper < total
+abbrev pub IsAboveBound : ℕ → Option ℕ → Type 0
+IsAboveBound total None = ⊥
+IsAboveBound total (Some upper) = upper < total

@@ -1,6 +1,6 @@
 ghost use Rattle.std.specs.Prelude.{◌≡◌, ◌↔◌, ◌++◌, All, IfOk, OnOk, IsTrue, slice_index};
 ghost use Rattle.disp_model.specs.Routes.{AgreesWithFixing, AgreesWithDecision};
-ghost use Rattle.node_facts.specs.Demands.{demand_of_fixing, demand_of_decision, listed, Asks, AreDemands, IsNotPast, IsFollowed, Allows};
+ghost use Rattle.node_facts.specs.Demands.{fixing_demand, decision_demand, as_demands, AreDemandsFor, AreDemands, IsNotPast, IsFollowed, Allows};
 
 use disp_model::{Decision, Fixing, List, Memory};
 use std::alloc::Global;
@@ -20,7 +20,7 @@ pub(crate) enum Demand {
 
 /// What a fixing asks of the routes of a train.
 fn demand_of_fixing(train: u32, fixing: &Fixing) -> Option<Demand>
-    ensures { result ≡ demand_of_fixing train fixing.now }
+    ensures { result ≡ fixing_demand train fixing.now }
 {
     let (at_train, demand) = match *fixing {
         Fixing::Started {
@@ -44,7 +44,7 @@ fn demand_of_fixing(train: u32, fixing: &Fixing) -> Option<Demand>
 
 /// What a decision asks of the routes of a train.
 fn demand_of_decision(train: u32, decision: &Decision) -> Option<Demand>
-    ensures { result ≡ demand_of_decision train decision.now }
+    ensures { result ≡ decision_demand train decision.now }
 {
     let (op, demand) = match *decision {
         Decision::Go { op, next } => (
@@ -67,7 +67,7 @@ fn demand_of_decision(train: u32, decision: &Decision) -> Option<Demand>
 
 /// Adds a demand, if there is one.
 fn add(demands: &mut Vec<Demand>, demand: Option<Demand>) -> Result<(), Memory>
-    ensures { OnOk result (demands.new.items ≡ demands.old.items ++ listed demand) }
+    ensures { OnOk result (demands.new.items ≡ demands.old.items ++ as_demands demand) }
 {
     if let Some(demand) = demand {
         demands.push(demand)?;
@@ -78,7 +78,7 @@ fn add(demands: &mut Vec<Demand>, demand: Option<Demand>) -> Result<(), Memory>
 /// What fixings ask of the routes of a train.
 fn demands_of_fixings(alloc: Global, train: u32, fixings: &[Fixing]) -> Result<Vec<Demand>, Memory>
     ensures { IfOk result (λ demands.
-        Asks (λ route. All (AgreesWithFixing train route) fixings.now) demands.items) }
+        AreDemandsFor (λ route. All (AgreesWithFixing train route) fixings.now) demands.items) }
 {
     let mut demands = Vec::new(alloc);
     for fixing in fixings {

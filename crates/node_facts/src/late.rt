@@ -3,7 +3,7 @@ ghost use Rattle.disp_model.specs.Node.{node_at};
 ghost use Rattle.disp_model.specs.Walks.{EndsIn};
 ghost use Rattle.disp_model.specs.Trees.{IsLateWalk};
 ghost use Rattle.node_facts.specs.Orders.{AreKnown};
-ghost use Rattle.node_facts.specs.Windows.{IsAbove};
+ghost use Rattle.node_facts.specs.Windows.{IsAboveBound};
 ghost use Rattle.disp_model.specs.declared.train.Op.{Op};
 
 use crate::train::TrainKnowledge;
@@ -24,7 +24,7 @@ pub fn end_of(walk: &[Op]) -> Option<Op>
 
 /// Whether a length is above an upper.
 fn is_above(total: u128, upper: Option<u64>) -> bool
-    ensures { IsTrue result ↔ IsAbove total upper }
+    ensures { IsTrue result ↔ IsAboveBound total upper }
 {
     match upper {
         Some(upper) => u128::from(upper) < total,

@@ -3,8 +3,9 @@ ghost use Rattle.std.specs.Option.{is_some};
 ghost use Rattle.disp_model.specs.WellFormed.{IsAcyclic};
 ghost use Rattle.train_orders.specs.Orders.{IsOrder};
 ghost use Rattle.route_marks.specs.Marks.{ArePlaces};
-ghost use Rattle.node_facts.specs.Live.{AreLiveRows, IsLive};
-ghost use Rattle.node_facts.specs.Ways.{AreSums, last_of};
+ghost use Rattle.node_facts.specs.Live.{AreLiveRows, IsLiveStep};
+ghost use Rattle.node_facts.specs.Ways.{AreSums};
+ghost use Rattle.route_marks.specs.Ways.{last_of};
 ghost use Rattle.node_facts.specs.Known.{AreOnEach};
 
 use crate::demands::{Demand, may_go};
@@ -31,7 +32,7 @@ pub(crate) fn is_live(
     op: u32,
     next: u32,
 ) -> bool
-    ensures { IsTrue result ↔ IsLive places.now demands.now sums.now op next }
+    ensures { IsTrue result ↔ IsLiveStep places.now demands.now sums.now op next }
 {
     may_go(places, demands, op, Some(next)) && has_way(sums, next)
 }
@@ -46,7 +47,7 @@ fn row_of(
     op: u32,
 ) -> Result<Row, Memory>
     ensures { IfOk result (λ row. (s : ℕ) → Contains row s
-        ↔ (Contains operation.now.next s × IsLive places.now demands.now sums.now op s)) }
+        ↔ (Contains operation.now.next s × IsLiveStep places.now demands.now sums.now op s)) }
 {
     let mut row = Row::new(alloc);
     for next in operation.next.as_slice() {

@@ -1,5 +1,5 @@
 ghost use Rattle.std.specs.Prelude.{◌≡◌, ◌↔◌, ℕ, Some, Contains, MatchOption};
-ghost use Rattle.node_facts.specs.Live.{IsLive, IsOnlyStep};
+ghost use Rattle.node_facts.specs.Live.{IsLiveStep, IsOnlyStep};
 
 use crate::demands::Demand;
 use crate::needed::is_live;
@@ -13,8 +13,8 @@ fn first_step(
     nexts: &[u32],
 ) -> Option<u32>
     ensures { MatchOption result
-        ((s : ℕ) → Contains nexts.now s → IsLive places.now demands.now sums.now op s → ⊥)
-        (λ s. Contains nexts.now s × IsLive places.now demands.now sums.now op s) }
+        ((s : ℕ) → Contains nexts.now s → IsLiveStep places.now demands.now sums.now op s → ⊥)
+        (λ s. Contains nexts.now s × IsLiveStep places.now demands.now sums.now op s) }
 {
     for next in nexts {
         if is_live(places, demands, sums, op, *next) {

@@ -2,7 +2,8 @@ ghost use Rattle.std.specs.Prelude.{◌≡◌, ◌↔◌, ◌<◌, ◌^◌, ℕ,
 ghost use Rattle.disp_model.specs.Node.{Node, node_at};
 ghost use Rattle.disp_model.specs.Routes.{HasRoute, IsForced};
 ghost use Rattle.disp_model.specs.Arcs.{IsTrainArc};
-ghost use Rattle.node_facts.specs.Ways.{last_of, sum_at, MayGo};
+ghost use Rattle.node_facts.specs.Ways.{sum_at, MayGo};
+ghost use Rattle.route_marks.specs.Ways.{last_of};
 
 use crate::demands::{Demand, demands_of, may_go, place_at};
 use crate::holders::{holder_at, holders_of};
@@ -44,7 +45,7 @@ fn last_of(order: &[u32]) -> u32
 }
 
 impl TrainKnowledge {
-    ghost use Rattle.node_facts.specs.Known.{op_of, IsKnown, IsHolder, IsNearer};
+    ghost use Rattle.node_facts.specs.Known.{op_numbered, IsKnown, IsHolder, IsNearer};
 
     /// What is known of the routes of a train that the fixings and the decisions allow.
     pub fn of(
@@ -109,7 +110,7 @@ impl TrainKnowledge {
     /// Whether some route is allowed, and each allowed route has the operation.
     pub fn is_forced(&self, op: u32) -> bool
         ensures { (node : Node) (t : ℕ) → IsKnown node t self.now
-            → IsTrue result ↔ IsForced node (op_of t op) }
+            → IsTrue result ↔ IsForced node (op_numbered t op) }
     {
         self.is_left() && is_marked(&self.needed, op)
     }
@@ -129,7 +130,7 @@ impl TrainKnowledge {
     /// Whether two operations are forced, the second nearer to the exit.
     fn leads_to(&self, a: u32, b: u32) -> bool
         ensures { (node : Node) (t : ℕ) → IsKnown node t self.now → IsTrue result
-            ↔ (IsForced node (op_of t a) × IsForced node (op_of t b)
+            ↔ (IsForced node (op_numbered t a) × IsForced node (op_numbered t b)
             × IsNearer self.now.places.items a b) }
     {
         if !self.is_forced(a) {
@@ -153,8 +154,8 @@ impl TrainKnowledge {
     pub fn least_between(&self, a: u32, b: u32) -> Option<u64>
         ensures { (node : Node) (t : ℕ) → IsKnown node t self.now → (sum : ℕ)
             → (result ≡ Some sum)
-            ↔ (IsForced node (op_of t a) × IsForced node (op_of t b)
-            × IsTrainArc node (op_of t a) (op_of t b) sum) }
+            ↔ (IsForced node (op_numbered t a) × IsForced node (op_numbered t b)
+            × IsTrainArc node (op_numbered t a) (op_numbered t b) sum) }
     {
         if self.leads_to(a, b) {
             Some(self.sum(a).saturating_sub(self.sum(b)))

@@ -1,7 +1,7 @@
 ghost use Rattle.std.specs.Prelude.{◌≡◌, ◌==◌, ◌&&◌, Some, None, slice_get};
 ghost use Rattle.std.specs.Option.{option_map_or};
 ghost use Rattle.disp_model.specs.Walks.{fixed_start, not_before, lower_of, upper_of};
-ghost use Rattle.node_facts.specs.Windows.{start_by, bar_by};
+ghost use Rattle.node_facts.specs.Windows.{start_fixed_by, bar_by};
 
 use crate::reading::train_of;
 use disp_model::{Fixing, Op, Operation, Problem};
@@ -15,7 +15,7 @@ fn names(at_train: u64, at_op: u64, op: Op) -> bool
 
 /// The time to which a fixing fixes an operation.
 fn start_by(fixing: &Fixing, op: Op) -> Option<u64>
-    ensures { result ≡ start_by fixing.now op }
+    ensures { result ≡ start_fixed_by fixing.now op }
 {
     let Fixing::Started {
         at_train,

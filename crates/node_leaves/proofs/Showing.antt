@@ -9,7 +9,7 @@ use Rattle.disp_model.specs.Routes.{IsForced}
 use Rattle.disp_model.specs.Walks.{upper_of, IsLongest, IsCycle}
 use Rattle.event_arcs.specs.Placed.{IsFirstWithout}
 use Rattle.event_graph.specs.Late.{IsLateAt}
-use Rattle.event_graph.specs.Graphs.{without_last}
+use Rattle.event_graph.specs.Graphs.{without_last_decision}
 use Rattle.event_graph.proofs.Naming.{cycle_there}
 use Rattle.event_graph.proofs.Lateness.{longest_forced}
 use Rattle.cost_bound.specs.Bounds.{IsLongWalk}
@@ -51,7 +51,7 @@ pub cycle_leaf : (node : Node) (nodes : List Op) → IsCycle node nodes → IsDe
 cycle_leaf node nodes cycle = record { dead = inr (inl (nodes, cycle)); holds = λ verdict. inr cycle; fits = ops_fit node.problem nodes (cycle_there node nodes cycle) }
 
 -- without the last decision the node is as before it
-pub taken_back : (node : Node) (d : Decision) → without_last (with_decision node d) ≡ node
+pub taken_back : (node : Node) (d : Decision) → without_last_decision (with_decision node d) ≡ node
 taken_back node d =
     ap (λ (ds : List Decision). node_at node.problem node.fixings ds)
     (ap (λ (n : ℕ). take n (node.decisions ++ d ∷ [])) (count node.decisions) ∙ take-append-le (length node.decisions) node.decisions (d ∷ []) (omega arith) ∙ take_all (length node.decisions) node.decisions (omega arith))

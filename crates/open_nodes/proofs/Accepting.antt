@@ -19,11 +19,11 @@ use Rattle.open_nodes.specs.States.{State, above_at, above_of, decisions_of, Hav
 use Rattle.open_nodes.specs.Preorder.{next_at, order}
 use Rattle.open_nodes.specs.Shown.{shown_at, shown_by, all_shown, tree_of}
 use Rattle.open_nodes.specs.Grafts.{kind_of}
-use Rattle.open_nodes.specs.Filled.{Leads, Spot, spots_for, AreFilled, IsTree, AllHold, verdict_for}
+use Rattle.open_nodes.specs.Filled.{LinksLead, Spot, spots_for, AreFilled, IsTree, AllHold, verdict_for}
 use Rattle.open_nodes.proofs.Paths.{decisions_up, up_is, up_more}
 
 -- the links give the numbers in preorder
-pub order_is : (places : List Place) (at : Option ℕ) (numbers : List ℕ) (fuel : ℕ) → Leads (slice_get places) at numbers None → length numbers ≤ fuel → order at fuel places ≡ numbers
+pub order_is : (places : List Place) (at : Option ℕ) (numbers : List ℕ) (fuel : ℕ) → LinksLead (slice_get places) at numbers None → length numbers ≤ fuel → order at fuel places ≡ numbers
 order_is places at [] fuel leads le = ap (λ (a : Option ℕ). order a fuel places) leads
 order_is places at (n ∷ numbers) zero leads le = absurd (omega (arith, le))
 order_is places at (n ∷ numbers) (suc fuel) leads le =

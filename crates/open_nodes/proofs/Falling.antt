@@ -6,7 +6,7 @@ use Rattle.open_nodes.specs.declared.place.Place.{Place}
 use Rattle.open_nodes.specs.declared.place.Errand.{Errand}
 use Rattle.open_nodes.specs.declared.place.Kind.{Kind}
 use Rattle.open_nodes.specs.declared.place.Kind.TheVariants.{Open, Dead, Branch}
-use Rattle.open_nodes.specs.States.{allowance_for, AreKept}
+use Rattle.open_nodes.specs.States.{allowance_for, ArePlacesKept}
 use Rattle.open_nodes.specs.Shown.{fallen, fallen_by, fallen_in}
 use Rattle.open_nodes.proofs.Keeping.{kept_set}
 
@@ -24,8 +24,8 @@ none_out later (p ∷ places) old =
     let rest : sum_by (λ (q : Place). allowance_for later q.out) places ≡ 0 = none_out later places (λ n. old (suc n)) in
     omega (arith, sum_by-cons (λ (q : Place). allowance_for later q.out) p places, first, rest)
 
-module _ (places : List Place) (edition allowed : ℕ) (k : AreKept places edition allowed) where
-  pub rebased_kept : (later : ℕ) → edition < later → AreKept places later 0
+module _ (places : List Place) (edition allowed : ℕ) (k : ArePlacesKept places edition allowed) where
+  pub rebased_kept : (later : ℕ) → edition < later → ArePlacesKept places later 0
   rebased_kept later less = record {
     parents = k.parents;
     sum = sym (none_out later places (λ n p errand at out. let le : errand.edition ≤ edition = k.older n p errand at out in omega (arith, le, less)));
@@ -33,7 +33,7 @@ module _ (places : List Place) (edition allowed : ℕ) (k : AreKept places editi
     older = λ n p errand at out. let le : errand.edition ≤ edition = k.older n p errand at out in omega (arith, le, less);
   }
 
-  pub fallen_kept : (n : ℕ) (x : Place) → slice_get places n ≡ Some x → AreKept (set places n (fallen x)) edition allowed
+  pub fallen_kept : (n : ℕ) (x : Place) → slice_get places n ≡ Some x → ArePlacesKept (set places n (fallen x)) edition allowed
   fallen_kept n x there = kept_set places edition allowed n x (fallen x) there k refl allowed refl k.limit (λ errand out. k.older n x errand there out)
 
 module _ (places : List Place) (n : ℕ) (x : Place) where

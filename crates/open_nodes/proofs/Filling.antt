@@ -18,7 +18,7 @@ use Rattle.disp_model.specs.Trees.{children_of, IsChoice}
 use Rattle.open_nodes.specs.declared.place.Place.{Place}
 use Rattle.open_nodes.specs.Preorder.{link_of}
 use Rattle.open_nodes.specs.Grafts.{Graft, FillPlaces, children_at, new_place, next_in, branch_at, leaf_at, fills, fills_there, grafted}
-use Rattle.open_nodes.specs.Filled.{Leads, Spot, spots_for, AreFilled, HaveChoices}
+use Rattle.open_nodes.specs.Filled.{LinksLead, Spot, spots_for, AreFilled, HaveChoices}
 use Rattle.open_nodes.proofs.Places.{get_set_same, get_set_other}
 use Rattle.open_nodes.proofs.Growing.{get_more}
 
@@ -173,7 +173,7 @@ module _ (problem : Problem) (last own : ℕ) (kept : List TreeNode) (behind : O
   pub record Fill (grown all : List Place) (spots : List Spot) (numbers : List ℕ) : Type 0 where
     pub others : (j : ℕ) (place : Place) → IsApart last j spots → slice_get grown j ≡ Some place → slice_get all j ≡ Some place
     pub filled : AreFilled problem (λ n. slice_get all (n - last)) kept spots numbers
-    pub leads : Leads (λ n. slice_get all (n - last)) (next_spot behind spots) numbers behind
+    pub leads : LinksLead (λ n. slice_get all (n - last)) (next_spot behind spots) numbers behind
     pub mine : NumbersOwn last own numbers
     pub count : length numbers + length grown ≡ length all + length spots
 
@@ -195,7 +195,7 @@ module _ (problem : Problem) (last own : ℕ) (kept : List TreeNode) (behind : O
         record {
           others = λ j place away at. f.others j place (further j place at away.1) (same j place away.0 at);
           filled = shown there f.filled;
-          leads = (refl, subst (λ (at : Option ℕ). Leads (λ n. slice_get all (n - last)) at numbers behind) (sym (ap link_of there ∙ next)) f.leads);
+          leads = (refl, subst (λ (at : Option ℕ). LinksLead (λ n. slice_get all (n - last)) at numbers behind) (sym (ap link_of there ∙ next)) f.leads);
           mine = (owns, f.mine);
           count = omega (arith, f.count, many);
         }

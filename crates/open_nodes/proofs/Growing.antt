@@ -13,8 +13,8 @@ use Rattle.disp_model.specs.declared.tree.TreeNode.TheVariants.{Branch, Leaf}
 use Rattle.disp_model.specs.Trees.{children_of}
 use Rattle.open_nodes.specs.declared.place.Place.{Place}
 use Rattle.open_nodes.specs.declared.place.Above.{Above}
-use Rattle.open_nodes.specs.States.{above_of, allowance_for, with_out, AreKept}
-use Rattle.open_nodes.specs.Grafts.{Graft, IsBehind, Stands, AllStand, children_at, new_place, next_in, branch_at, leaf_at, first_or_zero, branched, fills, fills_there, grafted, ungrown, placed}
+use Rattle.open_nodes.specs.States.{above_of, allowance_for, with_out, ArePlacesKept}
+use Rattle.open_nodes.specs.Grafts.{Graft, IsPlacedBehind, StandsInPlace, AllStand, children_at, new_place, next_in, branch_at, leaf_at, first_or_zero, branched, fills, fills_there, grafted, ungrown, placed}
 use Rattle.open_nodes.proofs.Places.{get_set_same, get_set_other}
 use Rattle.open_nodes.proofs.Paths.{no_some}
 use Rattle.open_nodes.proofs.Keeping.{kept_set, allowed_of_one}
@@ -43,7 +43,7 @@ child_stands parent behind number (d ∷ cs) zero p at =
 child_stands parent behind number (d ∷ cs) (suc i) p at = child_stands parent behind (number + 1) cs i p at
 
 module _ (last : ℕ) (above : Option Above) where
-  is_behind : (j : ℕ) (up : Option Above) → 0 < j → ((a : Above) → up ≡ Some a → a.parent < last + j) → IsBehind last above j up
+  is_behind : (j : ℕ) (up : Option Above) → 0 < j → ((a : Above) → up ≡ Some a → a.parent < last + j) → IsPlacedBehind last above j up
   is_behind zero up lt small = absurd (omega (arith, lt))
   is_behind (suc j) up lt small = small
 
@@ -51,10 +51,10 @@ module _ (last : ℕ) (above : Option Above) where
   stand_set grown k x q all there inside same j p at = elim (cases_eq j k) [
     | inl e ↦
         let is : q ≡ p = same_Some q p (sym (get_set_same grown k q x there) ∙ ap (λ (i : ℕ). slice_get (set grown k q) i) (sym e) ∙ at) in
-        let old : Stands last above j x = all j x (ap (λ (i : ℕ). slice_get grown i) e ∙ there) in
+        let old : StandsInPlace last above j x = all j x (ap (λ (i : ℕ). slice_get grown i) e ∙ there) in
         record {
           inside = sym (ap (λ (r : Place). r.out) is) ∙ inside;
-          up = subst (λ (o : Option Above). IsBehind last above j o) (same ∙ ap (λ (r : Place). r.above) is) old.up;
+          up = subst (λ (o : Option Above). IsPlacedBehind last above j o) (same ∙ ap (λ (r : Place). r.above) is) old.up;
         }
     | inr other ↦ all j p (sym (get_set_other grown k j q other) ∙ at)
   ]
@@ -131,9 +131,9 @@ none_out edition (p ∷ fresh) inside =
     let rest : sum_by (λ (r : Place). allowance_for edition r.out) fresh ≡ 0 = none_out edition fresh (λ i. inside (suc i)) in
     omega (arith, sum_by-cons (λ (r : Place). allowance_for edition r.out) p fresh, first, rest)
 
-module _ (places : List Place) (edition allowed : ℕ) (k : AreKept places edition allowed) where
+module _ (places : List Place) (edition allowed : ℕ) (k : ArePlacesKept places edition allowed) where
   joined_kept : (fresh : List Place) → ((i : ℕ) (p : Place) → slice_get fresh i ≡ Some p → p.out ≡ None)
-      → ((i : ℕ) (p : Place) (a : Above) → slice_get fresh i ≡ Some p → p.above ≡ Some a → a.parent < length places + i) → AreKept (places ++ fresh) edition allowed
+      → ((i : ℕ) (p : Place) (a : Above) → slice_get fresh i ≡ Some p → p.above ≡ Some a → a.parent < length places + i) → ArePlacesKept (places ++ fresh) edition allowed
   joined_kept fresh inside small = record {
     parents = λ n a is.
         let (p, at, up) = above_there (slice_get (places ++ fresh) n) a is in
@@ -150,12 +150,12 @@ module _ (places : List Place) (edition allowed : ℕ) (k : AreKept places editi
   }
 
   pub grown_kept : (n : ℕ) (x : Place) (grown : List Place) → slice_get places n ≡ Some x → 0 < length grown → AllStand (length places - 1) x.above grown
-      → AreKept (placed places n grown) edition (allowed - allowance_for edition x.out)
+      → ArePlacesKept (placed places n grown) edition (allowed - allowance_for edition x.out)
   grown_kept n x [] there some all = absurd (omega (arith, some))
   grown_kept n x (root ∷ fresh) there some all =
       let within : n < length places = slice_get_within places n x there in
-      let first : Stands (length places - 1) x.above 0 root = all 0 root refl in
-      let joined : AreKept (places ++ fresh) edition allowed = joined_kept fresh (λ i p at. (all (suc i) p at).inside)
+      let first : StandsInPlace (length places - 1) x.above 0 root = all 0 root refl in
+      let joined : ArePlacesKept (places ++ fresh) edition allowed = joined_kept fresh (λ i p at. (all (suc i) p at).inside)
       (λ i p a at up. let less : a.parent < (length places - 1) + suc i = (all (suc i) p at).up a up in omega (arith, less, within)) in
       let here : slice_get (places ++ fresh) n ≡ Some x = get_more places fresh n x there in
       let zero_in : allowance_for edition root.out ≡ 0 = ap (allowance_for edition) first.inside in

@@ -13,7 +13,7 @@ use Rattle.disp_model.specs.declared.decision.Choice.{Choice}
 use Rattle.disp_model.specs.Trees.{children_of}
 use Rattle.open_nodes.specs.declared.place.Place.{Place}
 use Rattle.open_nodes.specs.Preorder.{link_of}
-use Rattle.open_nodes.specs.Filled.{Leads, Spot, spots_for, ShowsLeaf, ShowsBranch, IsAt, AreFilled}
+use Rattle.open_nodes.specs.Filled.{LinksLead, Spot, spots_for, ShowsLeaf, ShowsBranch, IsAtSpot, AreFilled}
 use Rattle.open_nodes.proofs.Paths.{no_some}
 
 -- ---- the numbers along the links
@@ -44,32 +44,32 @@ any_is_in q (x ∷ xs) h = elim (cases_Bool (nat_eq q x)) [ inl is ↦ inl (sym 
     later is = rw is at h
 
 module _ (look : ℕ → Option Place) where
-  same_length : (xs ys : List ℕ) (at : Option ℕ) → Leads look at xs None → Leads look at ys None → length xs ≡ length ys
+  same_length : (xs ys : List ℕ) (at : Option ℕ) → LinksLead look at xs None → LinksLead look at ys None → length xs ≡ length ys
   same_length [] [] at f g = refl
   same_length [] (y ∷ ys) at f g = absurd (no_some y (sym f ∙ g.0))
   same_length (x ∷ xs) [] at f g = absurd (no_some x (sym g ∙ f.0))
   same_length (x ∷ xs) (y ∷ ys) at f g =
       let e : x ≡ y = same_Some x y (sym f.0 ∙ g.0) in
-      omega (arith, same_length xs ys (link_of (look x)) f.1 (subst (λ (n : ℕ). Leads look (link_of (look n)) ys None) (sym e) g.1))
+      omega (arith, same_length xs ys (link_of (look x)) f.1 (subst (λ (n : ℕ). LinksLead look (link_of (look n)) ys None) (sym e) g.1))
 
-  from_in : (xs : List ℕ) (at : Option ℕ) (q : ℕ) → Leads look at xs None → IsIn q xs → (rest : List ℕ) × Leads look (Some q) rest None × (length rest ≤ length xs)
+  from_in : (xs : List ℕ) (at : Option ℕ) (q : ℕ) → LinksLead look at xs None → IsIn q xs → (rest : List ℕ) × LinksLead look (Some q) rest None × (length rest ≤ length xs)
   from_in [] at q f h = absurd h
   from_in (x ∷ xs) at q f (inl e) = (x ∷ xs, (ap Some (sym e), f.1), omega arith)
   from_in (x ∷ xs) at q f (inr h) = let (rest, g, le) = from_in xs (link_of (look x)) q f.1 h in (rest, g, omega (arith, le))
 
   -- the links never lead back
-  pub no_return : (n : ℕ) (xs : List ℕ) → Leads look (link_of (look n)) xs None → IsIn n xs → ⊥
+  pub no_return : (n : ℕ) (xs : List ℕ) → LinksLead look (link_of (look n)) xs None → IsIn n xs → ⊥
   no_return n xs f h =
       let (rest, g, le) = from_in xs (link_of (look n)) n f h in
       omega (arith, le, same_length (n ∷ xs) rest (Some n) (refl, f) g)
 
-  distinct : (xs : List ℕ) (at : Option ℕ) → Leads look at xs None → IsDistinct nat_eq xs
+  distinct : (xs : List ℕ) (at : Option ℕ) → LinksLead look at xs None → IsDistinct nat_eq xs
   unfolding IsDistinct
   distinct [] at f = tt
   distinct (x ∷ xs) at f = (not_among x xs (no_return x xs f.1), distinct xs (link_of (look x)) f.1)
 
-  pub leads_append : (xs ys : List ℕ) (at mid to : Option ℕ) → Leads look at xs mid → Leads look mid ys to → Leads look at (xs ++ ys) to
-  leads_append [] ys at mid to f g = subst (λ (a : Option ℕ). Leads look a ys to) (sym f) g
+  pub leads_append : (xs ys : List ℕ) (at mid to : Option ℕ) → LinksLead look at xs mid → LinksLead look mid ys to → LinksLead look at (xs ++ ys) to
+  leads_append [] ys at mid to f g = subst (λ (a : Option ℕ). LinksLead look a ys to) (sym f) g
   leads_append (x ∷ xs) ys at mid to f g = (f.0, leads_append xs ys (link_of (look x)) mid to f.1 g)
 
   pub filled_append : (problem : Problem) (kept : List TreeNode) (ss ts : List Spot) (xs ys : List ℕ) → AreFilled problem look kept ss xs → AreFilled problem look kept ts ys
@@ -102,7 +102,7 @@ filled_within problem places kept (s ∷ ss) (x ∷ xs) (p, is, inr (choice, fir
     filled_within problem places kept (spots_for x first (children_of problem choice) ++ ss) xs rest q h
 
 -- each place is on the links
-pub every_in : (problem : Problem) (places : List Place) (kept : List TreeNode) (spots : List Spot) (xs : List ℕ) (at : Option ℕ) → Leads (slice_get places) at xs None
+pub every_in : (problem : Problem) (places : List Place) (kept : List TreeNode) (spots : List Spot) (xs : List ℕ) (at : Option ℕ) → LinksLead (slice_get places) at xs None
     → AreFilled problem (slice_get places) kept spots xs → length xs ≡ length places → (q : ℕ) → q < length places → IsIn q xs
 unfolding IsDistinct
 every_in problem places kept spots xs at leads filled count q lt = elim (in_or_not q xs) [
@@ -121,10 +121,10 @@ every_in problem places kept spots xs at leads filled count q lt = elim (in_or_n
 -- ---- another table
 
 module _ (problem : Problem) (look other : ℕ → Option Place) (kept more : List TreeNode) (keeps : (k : ℕ) (node : TreeNode) → slice_get kept k ≡ Some node → slice_get more k ≡ Some node) where
-  pub leads_same : (xs : List ℕ) (at to : Option ℕ) → ((q : ℕ) → IsIn q xs → other q ≡ look q) → Leads look at xs to → Leads other at xs to
+  pub leads_same : (xs : List ℕ) (at to : Option ℕ) → ((q : ℕ) → IsIn q xs → other q ≡ look q) → LinksLead look at xs to → LinksLead other at xs to
   leads_same [] at to same f = f
   leads_same (x ∷ xs) at to same f =
-      (f.0, leads_same xs (link_of (other x)) to (λ q h. same q (inr h)) (subst (λ (a : Option ℕ). Leads look a xs to) (ap link_of (sym (same x (inl refl)))) f.1))
+      (f.0, leads_same xs (link_of (other x)) to (λ q h. same q (inr h)) (subst (λ (a : Option ℕ). LinksLead look a xs to) (ap link_of (sym (same x (inl refl)))) f.1))
 
   pub leaf_same : (p : Place) (leaf : TreeLeaf) → ShowsLeaf kept p leaf → ShowsLeaf more p leaf
   leaf_same p leaf shows = record { shown = keeps p.shows (Leaf leaf) shows.shown; kind_is = shows.kind_is }
@@ -139,7 +139,7 @@ module _ (problem : Problem) (look other : ℕ → Option Place) (kept more : Li
     next_is = shows.next_is;
   }
 
-  pub at_same : (s : Spot) (n : ℕ) (p : Place) → other n ≡ look n → IsAt look s n p → IsAt other s n p
+  pub at_same : (s : Spot) (n : ℕ) (p : Place) → other n ≡ look n → IsAtSpot look s n p → IsAtSpot other s n p
   at_same s n p same is = record { number_is = is.number_is; there = same ∙ is.there; above_is = is.above_is }
 
   pub filled_same : (spots : List Spot) (xs : List ℕ) → ((q : ℕ) → IsIn q xs → other q ≡ look q) → AreFilled problem look kept spots xs → AreFilled problem other more spots xs

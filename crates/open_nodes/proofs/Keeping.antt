@@ -6,7 +6,7 @@ use Rattle.std.proofs.lemmas.Option.{same_Some, slice_get_within, get_or_from_sl
 use Rattle.std.proofs.lemmas.List.Sums.{sum_by-set}
 use Rattle.open_nodes.specs.declared.place.Place.{Place}
 use Rattle.open_nodes.specs.declared.place.Errand.{Errand}
-use Rattle.open_nodes.specs.States.{above_at, above_of, allowance_for, with_out, with_places, marked, decisions_of, State, IsIn, IsOut, Sends, ComesBack, AreKept}
+use Rattle.open_nodes.specs.States.{above_at, above_of, allowance_for, with_out, with_places, marked, decisions_of, State, IsIn, IsOut, Sends, ComesBack, ArePlacesKept}
 use Rattle.open_nodes.specs.declared.work.Work.{Work}
 use Rattle.disp_model.specs.declared.decision.Decision.{Decision}
 use Rattle.open_nodes.proofs.Places.{get_set_same, get_set_other}
@@ -29,9 +29,9 @@ module _ (places : List Place) (edition allowed n : ℕ) (p q : Place) (there : 
       ap (λ (r : Place). allowance_for edition r.out) (get_or_from_slice_get places n p p there) in
       omega (arith, same, here)
 
-  pub kept_set : AreKept places edition allowed → p.above ≡ q.above → (now : ℕ)
+  pub kept_set : ArePlacesKept places edition allowed → p.above ≡ q.above → (now : ℕ)
       → now + allowance_for edition p.out ≡ allowed + allowance_for edition q.out → now ≤ 4294967295
-      → ((errand : Errand) → q.out ≡ Some errand → errand.edition ≤ edition) → AreKept (set places n q) edition now
+      → ((errand : Errand) → q.out ≡ Some errand → errand.edition ≤ edition) → ArePlacesKept (set places n q) edition now
   kept_set k e now sum limit older = record {
     parents = λ m above is. k.parents m above (sym (same_above e m) ∙ is);
     sum = omega (arith, k.sum, sum, allowances);
@@ -44,7 +44,7 @@ module _ (places : List Place) (edition allowed n : ℕ) (p q : Place) (there : 
     ];
   }
 
-  pub allowed_of_one : AreKept places edition allowed → allowance_for edition q.out ≡ 0 → allowance_for edition p.out ≤ allowed
+  pub allowed_of_one : ArePlacesKept places edition allowed → allowance_for edition q.out ≡ 0 → allowance_for edition p.out ≤ allowed
   allowed_of_one k none = omega (arith, k.sum, none, allowances)
 
 pub same_edition : (edition : ℕ) (errand : Errand) → errand.edition ≡ edition → allowance_for edition (Some errand) ≡ errand.allowance
@@ -58,8 +58,8 @@ pub there_read : (places : List Place) (n : ℕ) (p x : Place) → slice_get pla
 there_read places n p x there is = there ∙ ap Some (read places n p x there is)
 
 pub sent_kept : (places : List Place) (edition allowed n : ℕ) (x : Place) (errand : Errand) (now : ℕ) → IsIn places n → x ≡ get_or places n x
-    → AreKept places edition allowed → errand.edition ≡ edition → now ≡ allowed + errand.allowance → now ≤ 4294967295
-    → AreKept (set places n (with_out x (Some errand))) edition now
+    → ArePlacesKept places edition allowed → errand.edition ≡ edition → now ≡ allowed + errand.allowance → now ≤ 4294967295
+    → ArePlacesKept (set places n (with_out x (Some errand))) edition now
 sent_kept places edition allowed n x errand now i is k e sum limit =
     let none : x.out ≡ None = ap (λ (r : Place). r.out) (sym (read places n i.place x i.there is)) ∙ i.inside in
     let zero_out : allowance_for edition x.out ≡ 0 = ap (allowance_for edition) none in
@@ -68,12 +68,12 @@ sent_kept places edition allowed n x errand now i is k e sum limit =
     (λ other out. omega (arith, e, ap (λ (r : Errand). r.edition) (same_Some errand other out)))
 
 pub back_few : (places : List Place) (edition allowed n : ℕ) (p x : Place) → slice_get places n ≡ Some p → x ≡ get_or places n x
-    → AreKept places edition allowed → allowance_for edition x.out ≤ allowed
+    → ArePlacesKept places edition allowed → allowance_for edition x.out ≤ allowed
 back_few places edition allowed n p x there is k = allowed_of_one places edition allowed n x (marked x None) (there_read places n p x there is) k refl
 
 pub back_kept : (places : List Place) (edition allowed n : ℕ) (p x : Place) (mark : Option ℕ) (less : ℕ) → slice_get places n ≡ Some p → x ≡ get_or places n x
-    → AreKept places edition allowed → less ≡ allowance_for edition x.out
-    → AreKept (set places n (marked x mark)) edition (allowed - less)
+    → ArePlacesKept places edition allowed → less ≡ allowance_for edition x.out
+    → ArePlacesKept (set places n (marked x mark)) edition (allowed - less)
 back_kept places edition allowed n p x mark less there is k e =
     let few = back_few places edition allowed n p x there is k in
     kept_set places edition allowed n x (marked x mark) (there_read places n p x there is) k refl (allowed - less)

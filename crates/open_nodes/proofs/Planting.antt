@@ -16,7 +16,7 @@ use Rattle.open_nodes.specs.declared.work.Fragment.{Fragment}
 use Rattle.open_nodes.specs.Preorder.{link_of}
 use Rattle.open_nodes.specs.States.{State, above_at, above_of, HaveSmallerParents, with_out}
 use Rattle.open_nodes.specs.Grafts.{AllStand, FillPlaces, placed, grown_at, Grows}
-use Rattle.open_nodes.specs.Filled.{Leads, Spot, spots_for, IsAt, AreFilled, IsTree, HaveChoices}
+use Rattle.open_nodes.specs.Filled.{LinksLead, Spot, spots_for, IsAtSpot, AreFilled, IsTree, HaveChoices}
 use Rattle.open_nodes.proofs.Places.{get_set_same, get_set_other}
 use Rattle.open_nodes.proofs.Paths.{no_some}
 use Rattle.open_nodes.proofs.Growing.{get_more, get_joined, above_there, made_stand, made_some}
@@ -77,11 +77,11 @@ module _ (problem : Problem) (places : List Place) (kept more : List TreeNode) (
     | inr ne ↦ ap above_of (other_same k ne lt)
   ]
 
-  module _ (not_branch : x.kind ≢ Branched) (sub : List ℕ) (leads_sub : Leads (slice_get after) (Some n) sub x.next)
+  module _ (not_branch : x.kind ≢ Branched) (sub : List ℕ) (leads_sub : LinksLead (slice_get after) (Some n) sub x.next)
       (filled_sub : AreFilled problem (slice_get after) more (record { number = n; above = x.above } ∷ []) sub) where
     pub record Joined (spots : List Spot) (xs : List ℕ) (at : Option ℕ) : Type 0 where
       pub numbers : List ℕ
-      pub leads : Leads (slice_get after) at numbers None
+      pub leads : LinksLead (slice_get after) at numbers None
       pub filled : AreFilled problem (slice_get after) more spots numbers
       pub count : length numbers + 1 ≡ length xs + length sub
 
@@ -91,18 +91,18 @@ module _ (problem : Problem) (places : List Place) (kept more : List TreeNode) (
         ap (λ (k : ℕ). record { number = k; above = x.above }) (sym e) ∙ ap (λ (o : Option Above). record { number = s.number; above = o }) (sym a) in
         subst (λ (t : Spot). AreFilled problem (slice_get after) more (t ∷ []) sub) same filled_sub
 
-    here : (s : Spot) (ss : List Spot) (m : ℕ) (ms : List ℕ) (p : Place) → IsAt (slice_get places) s m p → m ≡ n
-        → Leads (slice_get places) (link_of (slice_get places m)) ms None → AreFilled problem (slice_get places) kept ss ms → Joined (s ∷ ss) (m ∷ ms) (Some m)
+    here : (s : Spot) (ss : List Spot) (m : ℕ) (ms : List ℕ) (p : Place) → IsAtSpot (slice_get places) s m p → m ≡ n
+        → LinksLead (slice_get places) (link_of (slice_get places m)) ms None → AreFilled problem (slice_get places) kept ss ms → Joined (s ∷ ss) (m ∷ ms) (Some m)
     here s ss m ms p is e f r =
         let px : p ≡ x = same_Some p x (sym is.there ∙ ap (λ (k : ℕ). slice_get places k) e ∙ there) in
-        let g : Leads (slice_get places) (link_of (slice_get places n)) ms None = subst (λ (k : ℕ). Leads (slice_get places) (link_of (slice_get places k)) ms None) e f in
+        let g : LinksLead (slice_get places) (link_of (slice_get places n)) ms None = subst (λ (k : ℕ). LinksLead (slice_get places) (link_of (slice_get places k)) ms None) e f in
         let same : (q : ℕ) → IsIn q ms → slice_get after q ≡ slice_get places q = λ q h.
         other_same q (λ eq. no_return (slice_get places) n ms g (subst (λ (k : ℕ). IsIn k ms) eq h)) (filled_within problem places kept ss ms r q h) in
-        let behind : Leads (slice_get after) x.next ms None = subst (λ (a : Option ℕ). Leads (slice_get after) a ms None) (ap link_of there)
+        let behind : LinksLead (slice_get after) x.next ms None = subst (λ (a : Option ℕ). LinksLead (slice_get after) a ms None) (ap link_of there)
         (leads_same problem (slice_get places) (slice_get after) kept more keeps ms (link_of (slice_get places n)) None same g) in
         record {
           numbers = sub ++ ms;
-          leads = subst (λ (k : ℕ). Leads (slice_get after) (Some k) (sub ++ ms) None) (sym e) (leads_append (slice_get after) sub ms (Some n) x.next None leads_sub behind);
+          leads = subst (λ (k : ℕ). LinksLead (slice_get after) (Some k) (sub ++ ms) None) (sym e) (leads_append (slice_get after) sub ms (Some n) x.next None leads_sub behind);
           filled = filled_append (slice_get after) problem more (s ∷ []) ss sub ms
               (as_spot s (sym is.number_is ∙ e) (sym is.above_is ∙ ap (λ (r : Place). r.above) px))
               (filled_same problem (slice_get places) (slice_get after) kept more keeps ss ms same r);
@@ -113,7 +113,7 @@ module _ (problem : Problem) (places : List Place) (kept more : List TreeNode) (
         → (j : Joined ts ms (link_of (slice_get places m))) → AreFilled problem (slice_get after) more (s ∷ ss) (m ∷ j.numbers) → Joined (s ∷ ss) (m ∷ ms) at
     on s ss ts m ms at e same j filled = record {
       numbers = m ∷ j.numbers;
-      leads = (e, subst (λ (o : Option Place). Leads (slice_get after) (link_of o) j.numbers None) (sym same) j.leads);
+      leads = (e, subst (λ (o : Option Place). LinksLead (slice_get after) (link_of o) j.numbers None) (sym same) j.leads);
       filled = filled;
       count = omega (arith, j.count);
     }
@@ -122,7 +122,7 @@ module _ (problem : Problem) (places : List Place) (kept more : List TreeNode) (
     later m ms ne (inl e) = absurd (ne e)
     later m ms ne (inr h) = h
 
-    join : (spots : List Spot) (xs : List ℕ) (at : Option ℕ) → Leads (slice_get places) at xs None → AreFilled problem (slice_get places) kept spots xs → IsIn n xs → Joined spots xs at
+    join : (spots : List Spot) (xs : List ℕ) (at : Option ℕ) → LinksLead (slice_get places) at xs None → AreFilled problem (slice_get places) kept spots xs → IsIn n xs → Joined spots xs at
     join [] [] at f g h = absurd h
     join [] (m ∷ ms) at f g h = absurd g
     join (s ∷ ss) [] at f g h = absurd h

@@ -7,14 +7,14 @@ use Rattle.disp_model.specs.declared.tree.Leaf.TheVariants.{Costs}
 use Rattle.open_nodes.specs.declared.place.Place.{Place}
 use Rattle.open_nodes.specs.declared.place.Errand.{Errand}
 use Rattle.open_nodes.specs.declared.place.Kind.TheVariants.{Branch as Branched}
-use Rattle.open_nodes.specs.States.{State, one_leaf, first_place, HaveSmallerParents, IsWanted, NoneWanted}
+use Rattle.open_nodes.specs.States.{State, one_open_leaf, first_place, HaveSmallerParents, IsWanted, NoneWanted}
 use Rattle.open_nodes.specs.Preorder.{preorder, IsFirstSought, IsNotAt}
 use Rattle.open_nodes.specs.Filled.{IsTree}
 use Rattle.open_nodes.proofs.Paths.{no_some}
 use Rattle.open_nodes.proofs.Accepting.{order_is}
 use Rattle.open_nodes.proofs.Joining.{IsIn, every_in}
 
-pub one_leaf_tree : (problem : Problem) → IsTree problem one_leaf
+pub one_leaf_tree : (problem : Problem) → IsTree problem one_open_leaf
 one_leaf_tree problem = record {
   numbers = 0 ∷ [];
   leads = (refl, refl);
@@ -25,11 +25,11 @@ one_leaf_tree problem = record {
   empty = refl;
 }
   where
-    no_parents : HaveSmallerParents one_leaf.places
+    no_parents : HaveSmallerParents one_open_leaf.places
     no_parents zero above is = absurd (no_some above is)
     no_parents (suc n) above is = absurd (no_some above is)
 
-    none_out : (n : ℕ) (place : Place) (errand : Errand) → slice_get one_leaf.places n ≡ Some place → place.out ≡ Some errand → place.kind ≢ Branched
+    none_out : (n : ℕ) (place : Place) (errand : Errand) → slice_get one_open_leaf.places n ≡ Some place → place.out ≡ Some errand → place.kind ≢ Branched
     none_out zero place errand at out = absurd (no_some errand (ap (λ (p : Place). p.out) (same_Some first_place place at) ∙ out))
     none_out (suc n) place errand at out = absurd (no_some place at)
 

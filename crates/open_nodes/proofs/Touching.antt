@@ -22,7 +22,7 @@ use Rattle.open_nodes.specs.declared.work.GiveBack.TheVariants.{Back, Gone}
 use Rattle.open_nodes.specs.Preorder.{link_of}
 use Rattle.open_nodes.specs.States.{State, with_places, with_out, marked, errand_of, Takes, GivesBack}
 use Rattle.open_nodes.specs.Shown.{fallen, fallen_by, fallen_in, fallen_at, with_edition}
-use Rattle.open_nodes.specs.Filled.{Leads, Spot, spots_for, ShowsLeaf, ShowsBranch, AreFilled, IsTree}
+use Rattle.open_nodes.specs.Filled.{LinksLead, Spot, spots_for, ShowsLeaf, ShowsBranch, AreFilled, IsTree}
 use Rattle.open_nodes.proofs.Places.{get_set_same, get_set_other}
 use Rattle.open_nodes.proofs.Paths.{no_some}
 use Rattle.open_nodes.proofs.Keeping.{same_above}
@@ -50,8 +50,8 @@ module _ (problem : Problem) (state : State) (tree : IsTree problem state) (n : 
     | inr ne ↦ (p, get_set_other state.places n m q ne ∙ at, like_self problem state.kept p)
   ]
 
-  filled_touched : (spots : List Spot) (xs : List ℕ) (at : Option ℕ) → Leads (slice_get state.places) at xs None → AreFilled problem (slice_get state.places) state.kept spots xs
-      → Leads (slice_get touched) at xs None × AreFilled problem (slice_get touched) state.kept spots xs
+  filled_touched : (spots : List Spot) (xs : List ℕ) (at : Option ℕ) → LinksLead (slice_get state.places) at xs None → AreFilled problem (slice_get state.places) state.kept spots xs
+      → LinksLead (slice_get touched) at xs None × AreFilled problem (slice_get touched) state.kept spots xs
   filled_touched [] [] at f g = (f, tt)
   filled_touched [] (m ∷ ms) at f g = absurd g
   filled_touched (s ∷ ss) [] at f g = absurd g
@@ -60,14 +60,14 @@ module _ (problem : Problem) (state : State) (tree : IsTree problem state) (n : 
       let link : link_of (slice_get state.places m) ≡ link_of (slice_get touched m) = ap link_of is.there ∙ alike.next ∙ sym (ap link_of r_there) in
       let more = filled_touched ss ms (link_of (slice_get state.places m)) f.1 rest in
       let leaf_shown = alike.leaf_too shown shows in (
-        (f.0, subst (λ (a : Option ℕ). Leads (slice_get touched) a ms None) link more.0),
+        (f.0, subst (λ (a : Option ℕ). LinksLead (slice_get touched) a ms None) link more.0),
         (r, record { number_is = is.number_is; there = r_there; above_is = sym alike.above ∙ is.above_is }, inl (leaf_shown.0, leaf_shown.1, more.1)),
       )
   filled_touched (s ∷ ss) (m ∷ ms) at f (p, is, inr (choice, first, shows, rest)) =
       let (r, r_there, alike) = touched_at m p is.there in
       let link : link_of (slice_get state.places m) ≡ link_of (slice_get touched m) = ap link_of is.there ∙ alike.next ∙ sym (ap link_of r_there) in
       let more = filled_touched (spots_for m first (children_of problem choice) ++ ss) ms (link_of (slice_get state.places m)) f.1 rest in (
-        (f.0, subst (λ (a : Option ℕ). Leads (slice_get touched) a ms None) link more.0),
+        (f.0, subst (λ (a : Option ℕ). LinksLead (slice_get touched) a ms None) link more.0),
         (r, record { number_is = is.number_is; there = r_there; above_is = sym alike.above ∙ is.above_is }, inr (choice, first, alike.branch_too choice first shows, more.1)),
       )
 

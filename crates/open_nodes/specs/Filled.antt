@@ -21,9 +21,9 @@ use Rattle.open_nodes.specs.Preorder.{link_of}
 use Rattle.open_nodes.specs.Grafts.{kind_of}
 
 -- from a number, or none, the links lead along these numbers to another, or none; each number has its place by a table
-abbrev pub Leads : (ℕ → Option Place) → Option ℕ → List ℕ → Option ℕ → Type 0
-Leads look at [] to = at ≡ to
-Leads look at (n ∷ numbers) to = (at ≡ Some n) × Leads look (link_of (look n)) numbers to
+abbrev pub LinksLead : (ℕ → Option Place) → Option ℕ → List ℕ → Option ℕ → Type 0
+LinksLead look at [] to = at ≡ to
+LinksLead look at (n ∷ numbers) to = (at ≡ Some n) × LinksLead look (link_of (look n)) numbers to
 
 -- a place that is to be filled: its number, and what is above it
 pub record Spot : Type 0 where
@@ -51,7 +51,7 @@ pub record ShowsBranch (problem : Problem) (kept : List TreeNode) (place : Place
   pub next_is : place.next ≡ Some first
 
 -- the place of this number is at its spot
-pub record IsAt (look : ℕ → Option Place) (spot : Spot) (n : ℕ) (place : Place) : Type 0 where
+pub record IsAtSpot (look : ℕ → Option Place) (spot : Spot) (n : ℕ) (place : Place) : Type 0 where
   pub number_is : n ≡ spot.number
   pub there : look n ≡ Some place
   pub above_is : place.above ≡ spot.above
@@ -61,7 +61,7 @@ abbrev pub AreFilled : Problem → (ℕ → Option Place) → List TreeNode → 
 AreFilled problem look kept [] [] = Unit {0}
 AreFilled problem look kept [] (n ∷ numbers) = ⊥
 AreFilled problem look kept (spot ∷ spots) [] = ⊥
-AreFilled problem look kept (spot ∷ spots) (n ∷ numbers) = (place : Place) × IsAt look spot n place
+AreFilled problem look kept (spot ∷ spots) (n ∷ numbers) = (place : Place) × IsAtSpot look spot n place
     × (((leaf : TreeLeaf) × ShowsLeaf kept place leaf × AreFilled problem look kept spots numbers)
     ⊎ ((choice : Choice) × (first : ℕ) × ShowsBranch problem kept place choice first
     × AreFilled problem look kept (spots_for n first (children_of problem choice) ++ spots) numbers))
@@ -70,7 +70,7 @@ AreFilled problem look kept (spot ∷ spots) (n ∷ numbers) = (place : Place) �
 -- leaves are out, and what is kept first is the empty list of walks
 pub record IsTree (problem : Problem) (state : State) : Type 0 where
   pub numbers : List ℕ
-  pub leads : Leads (slice_get state.places) (Some 0) numbers None
+  pub leads : LinksLead (slice_get state.places) (Some 0) numbers None
   pub filled : AreFilled problem (slice_get state.places) state.kept (record { number = 0; above = None } ∷ []) numbers
   pub count : length numbers ≡ length state.places
   pub parents : HaveSmallerParents state.places

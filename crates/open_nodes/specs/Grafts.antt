@@ -151,13 +151,13 @@ pub record IsGrafted (graft : Graft) (grown : List Place) (splits : List Split) 
   pub splits_are : splits ≡ graft.splits
 
 -- what holds of the place of an index among the new ones: it is in, and is below a smaller number; the first stays where it was
-abbrev pub IsBehind : ℕ → Option Above → ℕ → Option Above → Type 0
-IsBehind last above zero up = up ≡ above
-IsBehind last above (suc j) up = (a : Above) → up ≡ Some a → a.parent < last + suc j
+abbrev pub IsPlacedBehind : ℕ → Option Above → ℕ → Option Above → Type 0
+IsPlacedBehind last above zero up = up ≡ above
+IsPlacedBehind last above (suc j) up = (a : Above) → up ≡ Some a → a.parent < last + suc j
 
-pub record Stands (last : ℕ) (above : Option Above) (j : ℕ) (place : Place) : Type 0 where
+pub record StandsInPlace (last : ℕ) (above : Option Above) (j : ℕ) (place : Place) : Type 0 where
   pub inside : place.out ≡ None
-  pub up : IsBehind last above j place.above
+  pub up : IsPlacedBehind last above j place.above
 
 abbrev pub AllStand : ℕ → Option Above → List Place → Type 0
-AllStand last above grown = (j : ℕ) (place : Place) → slice_get grown j ≡ Some place → Stands last above j place
+AllStand last above grown = (j : ℕ) (place : Place) → slice_get grown j ≡ Some place → StandsInPlace last above j place

@@ -27,8 +27,8 @@ with_places state places = record { places = places; kept = state.kept; edition 
 abbrev pub first_place : Place
 first_place = record { above = None; next = None; shows = 0; kind = Open; bound = 0; out = None; examined = None }
 
-abbrev pub one_leaf : State
-one_leaf = record { places = first_place ∷ []; kept = Leaf (Costs []) ∷ []; edition = 0 }
+abbrev pub one_open_leaf : State
+one_open_leaf = record { places = first_place ∷ []; kept = Leaf (Costs []) ∷ []; edition = 0 }
 
 -- ---- decisions
 
@@ -54,13 +54,13 @@ HaveSmallerParents places = (n : ℕ) (above : Above) → above_at places n ≡ 
 
 -- ---- what is wanted
 
-abbrev pub IsBelow : ℕ → Option ℕ → Type 0
-IsBelow bound None = Unit {0}
-IsBelow bound (Some cost) = bound < cost
+abbrev pub IsBoundBelow : ℕ → Option ℕ → Type 0
+IsBoundBelow bound None = Unit {0}
+IsBoundBelow bound (Some cost) = bound < cost
 
 -- a leaf that is not known dead, with a kept bound below the best cost, if there is one
 abbrev pub IsWanted : Option ℕ → Place → Type 0
-IsWanted best place = (place.kind ≡ Open) × IsBelow place.bound best
+IsWanted best place = (place.kind ≡ Open) × IsBoundBelow place.bound best
 
 -- a wanted leaf that is in, and is not marked for the edition unless branches are free
 abbrev pub IsTakeable : ℕ → Option ℕ → ℕ → Place → Type 0
@@ -155,7 +155,7 @@ GivesBack state work examined (Gone node) after = IsGone state work × (node ≡
 
 -- ---- what is kept beside the state
 
-pub record AreKept (places : List Place) (edition allowed : ℕ) : Type 0 where
+pub record ArePlacesKept (places : List Place) (edition allowed : ℕ) : Type 0 where
   pub parents : HaveSmallerParents places
   pub sum : allowed ≡ sum_by (λ p. allowance_for edition p.out) places
   pub limit : allowed ≤ 4294967295

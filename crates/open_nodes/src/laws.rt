@@ -8,7 +8,7 @@ ghost use Rattle.open_nodes.specs.declared.work.Fragment.{Fragment};
 ghost use Rattle.open_nodes.specs.declared.work.GiveBack.{GiveBack};
 ghost use Rattle.open_nodes.specs.declared.work.Take.{Take};
 ghost use Rattle.open_nodes.specs.declared.work.Work.{Work};
-ghost use Rattle.open_nodes.specs.States.{State, one_leaf, NoneWanted, Takes, GivesBack};
+ghost use Rattle.open_nodes.specs.States.{State, one_open_leaf, NoneWanted, Takes, GivesBack};
 ghost use Rattle.open_nodes.specs.Grafts.{FillPlaces, Grows};
 ghost use Rattle.open_nodes.specs.Preorder.{IsFirstSought, preorder};
 ghost use Rattle.open_nodes.specs.Shown.{tree_of, fallen_at, with_edition};
@@ -16,7 +16,7 @@ ghost use Rattle.open_nodes.specs.Filled.{IsTree, HaveChoices, AllHold, NewHold,
 
 /// The first leaf is a tree.
 pub fn one_leaf_is_a_tree()
-    ensures { (problem : Problem) → IsTree problem one_leaf }
+    ensures { (problem : Problem) → IsTree problem one_open_leaf }
 {}
 
 /// Grown trees are trees: where a fragment has grown in the place of its leaf, the links lead

@@ -1,5 +1,5 @@
 ghost use Rattle.std.specs.Prelude.{ℕ, ◌≡◌, ◌+◌, ◌-◌, ◌≤◌, ◌↔◌, ◌<◌, ◌++◌, IfOk, IfErr, OnOk, OnErr, length, slice_get, IsTrue, MatchOption, None, Some, option_map, if◌then◌else◌};
-ghost use Rattle.open_nodes.specs.States.{State, one_leaf, allowed_of, allowance_for, decisions_of, IsIn, ForOut, ComesBack, Takes, Sends, MayBeTaken, NoneTakeable, GivesBack, IsLeastBound};
+ghost use Rattle.open_nodes.specs.States.{State, one_open_leaf, allowed_of, allowance_for, decisions_of, IsIn, ForOut, ComesBack, Takes, Sends, MayBeTaken, NoneTakeable, GivesBack, IsLeastBound};
 ghost use Rattle.open_nodes.specs.Grafts.{FillPlaces, GrowsBy, IsGrafted, grown_at, placed, AllStand};
 ghost use Rattle.open_nodes.specs.declared.place.Place.{Place};
 ghost use Rattle.open_nodes.specs.declared.place.Kind.TheVariants.{Branch};
@@ -30,14 +30,14 @@ pub struct Nodes {
 }
 
 impl Model for Nodes {
-    ghost use Rattle.open_nodes.specs.States.{State, AreKept};
+    ghost use Rattle.open_nodes.specs.States.{State, ArePlacesKept};
 
     ghost Value = { State };
 
     ghost view = { λ n.
         record { places = n.places.items; kept = n.kept.items; edition = n.edition } };
 
-    ghost invariant = { λ n. AreKept n.places.items n.edition n.allowed };
+    ghost invariant = { λ n. ArePlacesKept n.places.items n.edition n.allowed };
 }
 
 impl Nodes {
@@ -47,7 +47,7 @@ impl Nodes {
     ///
     /// `Memory` where memory runs out.
     pub fn new(alloc: Global) -> Result<Nodes, Memory>
-        ensures { IfOk result (λ nodes. nodes ≡ one_leaf) }
+        ensures { IfOk result (λ nodes. nodes ≡ one_open_leaf) }
     {
         let mut places = Vec::new(alloc);
         places.push(Place {

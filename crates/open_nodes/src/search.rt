@@ -1,12 +1,12 @@
 ghost use Rattle.std.specs.Prelude.{◌≡◌, ◌↔◌, ◌∷◌, List, IsTrue, All, MatchOption, slice_get};
 ghost use Rattle.open_nodes.specs.declared.place.Place.{Place};
-ghost use Rattle.open_nodes.specs.States.{IsBelow, IsWanted, IsTakeable, IsLeastBound, IsLess, out_count};
+ghost use Rattle.open_nodes.specs.States.{IsBoundBelow, IsWanted, IsTakeable, IsLeastBound, IsLess, out_count};
 
 use crate::place::{Kind, Place};
 
 /// Whether a bound is below the best cost, if there is one.
 fn is_below(bound: u64, best: Option<u64>) -> bool
-    ensures { IsTrue result ↔ IsBelow bound best }
+    ensures { IsTrue result ↔ IsBoundBelow bound best }
 {
     match best {
         None => true,

@@ -2,7 +2,7 @@
 use Rattle.std.specs.Prelude.{ℕ, Bool, List, string_bytes}
 use Rattle.outside_in_memory.specs.declared.mem_feed.MemFeed.{MemFeed}
 use Rattle.outside_in_memory.specs.MemLines.{lines_left as mem_lines_left}
-use Rattle.disp_outside.specs.FeedState.{is_over, fault_count as state_faults}
+use Rattle.disp_outside.specs.FeedState.{is_over, read_fault_count as state_faults}
 
 -- the feed's name
 abbrev pub feed_name : MemFeed → List ℕ
@@ -13,8 +13,8 @@ abbrev pub lines_left : MemFeed → List (List ℕ)
 lines_left feed = mem_lines_left feed.lines
 
 -- how often a call has failed
-abbrev pub fault_count : MemFeed → ℕ
-fault_count feed = state_faults feed.state
+abbrev pub feed_fault_count : MemFeed → ℕ
+feed_fault_count feed = state_faults feed.state
 
 -- the feed has answered that it ends, or that it failed
 abbrev pub has_ended : MemFeed → Bool

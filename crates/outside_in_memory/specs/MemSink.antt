@@ -9,8 +9,8 @@ abbrev pub written_bytes : MemSink → List ℕ
 written_bytes sink = sink.written.items
 
 -- how many writes have failed
-abbrev pub fault_count : MemSink → ℕ
-fault_count sink = sink.faults
+abbrev pub sink_fault_count : MemSink → ℕ
+sink_fault_count sink = sink.faults
 
 -- how many writes were called, but for those without room
 abbrev pub call_count : MemSink → ℕ

@@ -9,5 +9,5 @@ abbrev pub held_bytes : SteadyShelf → List ℕ → List ℕ
 held_bytes shelf name = option_map_or (λ file. file.items) (get_by_text shelf.files name) []
 
 -- how many of its feeds are open
-abbrev pub open_count : SteadyShelf → ℕ
-open_count shelf = shelf.open_feeds
+abbrev pub steady_open_count : SteadyShelf → ℕ
+steady_open_count shelf = shelf.open_feeds

@@ -20,13 +20,13 @@ pub struct MemFeed {
 }
 
 impl MemFeed {
-    ghost use Rattle.outside_in_memory.specs.MemFeed.{feed_name, lines_left, fault_count, has_ended, broken_calls, call_count};
+    ghost use Rattle.outside_in_memory.specs.MemFeed.{feed_name, lines_left, feed_fault_count, has_ended, broken_calls, call_count};
 
     /// A feed of this name and these bytes. Its calls of these numbers, counted from 1, fail.
     pub fn new(alloc: Global, name: &str, bytes: &[u8], broken: &[u64]) -> Result<Self, AllocError>
         ensures name { IfOk result (λ feed. feed_name feed ≡ name.now) }
         ensures lines { IfOk result (λ feed. lines_left feed ≡ feed_lines bytes.now) }
-        ensures faults { IfOk result (λ feed. fault_count feed ≡ 0) }
+        ensures faults { IfOk result (λ feed. feed_fault_count feed ≡ 0) }
         ensures open { IfOk result (λ feed. has_ended feed ≡ false) }
         ensures broken { IfOk result (λ feed. broken_calls feed ≡ broken.now) }
         ensures calls { IfOk result (λ feed. call_count feed ≡ 0) }
@@ -42,8 +42,8 @@ impl MemFeed {
 
     /// What the feed is closed with, where a call has failed.
     pub(crate) fn into_fault(self) -> Option<Ticket>
-        ensures none { IfNone result (fault_count self ≡ 0) }
-        ensures some { IfSome result (λ ticket. (0 < fault_count self)
+        ensures none { IfNone result (feed_fault_count self ≡ 0) }
+        ensures some { IfSome result (λ ticket. (0 < feed_fault_count self)
             × (string_bytes ticket.name ≡ feed_name self)) }
     {
         match self.state {
@@ -55,13 +55,13 @@ impl MemFeed {
 }
 
 impl Feed for MemFeed {
-    ghost use Rattle.outside_in_memory.specs.MemFeed.{feed_name, lines_left, fault_count, has_ended, broken_calls, call_count};
+    ghost use Rattle.outside_in_memory.specs.MemFeed.{feed_name, lines_left, feed_fault_count, has_ended, broken_calls, call_count};
 
     ghost name = { λ feed. feed_name feed };
 
     ghost lines = { λ feed. Some (lines_left feed) };
 
-    ghost faults = { λ feed. fault_count feed };
+    ghost faults = { λ feed. feed_fault_count feed };
 
     ghost has_ended = { λ feed. has_ended feed };
 
@@ -77,8 +77,8 @@ impl Feed for MemFeed {
         ensures ended { has_ended self.new ≡ is_last result }
         ensures over { has_ended self.old ≡ true → result ≡ FeedLine.End }
         ensures failed { (result ≡ FeedLine.Failed)
-            ↔ (fault_count self.old < fault_count self.new) }
-        ensures counted { fault_count self.old ≤ fault_count self.new }
+            ↔ (feed_fault_count self.old < feed_fault_count self.new) }
+        ensures counted { feed_fault_count self.old ≤ feed_fault_count self.new }
         ensures name { feed_name self.new ≡ feed_name self.old }
 
         // It fails exactly in the calls of the list, while it has not ended.

@@ -1,7 +1,7 @@
 // A file in memory, some of whose readings break.
 ghost use Rattle.std.specs.Prelude.{◌≡◌, ◌≤◌, ◌<◌, ◌+◌, ◌⊎◌, false, length, IfOk, OnOk, IsErrOf, Contains};
 ghost use Rattle.disp_outside.specs.Lines.{feed_lines};
-ghost use Rattle.outside_in_memory.specs.MemFeed.{feed_name, lines_left, fault_count, has_ended, broken_calls, call_count};
+ghost use Rattle.outside_in_memory.specs.MemFeed.{feed_name, lines_left, feed_fault_count, has_ended, broken_calls, call_count};
 ghost use Rattle.outside_in_memory.specs.MemFile.{IsReadingCounted, IsOpeningCounted};
 
 use crate::MemFeed;
@@ -62,7 +62,7 @@ impl MemFile {
     pub fn open(&mut self, alloc: Global, name: &str) -> Result<MemFeed, FeedNo>
         ensures name { IfOk result (λ feed. feed_name feed ≡ name.now) }
         ensures left { IfOk result (λ feed. lines_left feed ≡ feed_lines self.old.bytes.items) }
-        ensures faults { IfOk result (λ feed. fault_count feed ≡ 0) }
+        ensures faults { IfOk result (λ feed. feed_fault_count feed ≡ 0) }
         ensures going { IfOk result (λ feed. has_ended feed ≡ false) }
         ensures calls { IfOk result (λ feed. broken_calls feed ≡ self.old.broken_lines.items) }
         ensures first { IfOk result (λ feed. call_count feed ≡ 0) }

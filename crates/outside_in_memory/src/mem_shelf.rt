@@ -160,7 +160,7 @@ impl MemShelf {
 
 impl Shelf for MemShelf {
     ghost use Rattle.outside_in_memory.specs.MemShelf.{held_file, broken_calls, broken_lines, call_count, broken_puts, put_count, reading_faults, putting_faults, KnowsName, open_count, NextBreaks, NextPutBreaks, KeepsFile, KeepsPuts, HasNoBreaks};
-    ghost use Rattle.outside_in_memory.specs.MemFeed.{feed_name, lines_left, fault_count, has_ended, broken_calls as feed_broken, call_count as feed_calls};
+    ghost use Rattle.outside_in_memory.specs.MemFeed.{feed_name, lines_left, feed_fault_count, has_ended, broken_calls as feed_broken, call_count as feed_calls};
 
     type Feed = MemFeed;
 
@@ -295,7 +295,7 @@ impl Shelf for MemShelf {
         ensures lines { IfOk result
             (λ feed. HasLinesOf (Some (held_file self.old name.now)) (Some (lines_left feed))) }
         ensures open { IfOk result (λ feed. has_ended feed ≡ false) }
-        ensures unbroken { IfOk result (λ feed. fault_count feed ≡ 0) }
+        ensures unbroken { IfOk result (λ feed. feed_fault_count feed ≡ 0) }
         ensures failed { IsErrOf result FeedNo.Failed
             ↔ (reading_faults self.old name.now < reading_faults self.new name.now) }
         ensures counted { reading_faults self.old name.now ≤ reading_faults self.new name.now }
@@ -357,7 +357,7 @@ impl Shelf for MemShelf {
 
     fn close(&mut self, feed: MemFeed)
         requires { KnowsName self.old (feed_name feed) }
-        ensures failed { (0 < fault_count feed)
+        ensures failed { (0 < feed_fault_count feed)
             ↔ (reading_faults self.old (feed_name feed)
             < reading_faults self.new (feed_name feed)) }
         ensures counted { reading_faults self.old (feed_name feed)
@@ -371,7 +371,7 @@ impl Shelf for MemShelf {
         ensures known { (other : List ℕ) → KnowsName self.new other ↔ KnowsName self.old other }
         ensures closed { open_count self.new ≡ open_count self.old - 1 }
 
-        ensures once { 0 < fault_count feed → reading_faults self.new (feed_name feed)
+        ensures once { 0 < feed_fault_count feed → reading_faults self.new (feed_name feed)
             ≡ reading_faults self.old (feed_name feed) + 1 }
         ensures files { (other : List ℕ) → KeepsFile self.old self.new other }
         ensures puts { KeepsPuts self.old self.new }

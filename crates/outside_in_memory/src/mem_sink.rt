@@ -19,12 +19,12 @@ pub struct MemSink {
 }
 
 impl MemSink {
-    ghost use Rattle.outside_in_memory.specs.MemSink.{written_bytes, fault_count, call_count, broken_writes, next_break};
+    ghost use Rattle.outside_in_memory.specs.MemSink.{written_bytes, sink_fault_count, call_count, broken_writes, next_break};
 
     /// A sink with nothing written, whose writes break as the list says.
     pub fn new(alloc: Global, broken: &[BrokenWrite]) -> Result<Self, AllocError>
         ensures written { IfOk result (λ sink. written_bytes sink ≡ []) }
-        ensures faults { IfOk result (λ sink. fault_count sink ≡ 0) }
+        ensures faults { IfOk result (λ sink. sink_fault_count sink ≡ 0) }
         ensures calls { IfOk result (λ sink. call_count sink ≡ 0) }
         ensures broken { IfOk result (λ sink. broken_writes sink ≡ broken.now) }
     {
@@ -45,18 +45,18 @@ impl MemSink {
 
     /// How many writes have failed.
     pub fn faults(&self) -> u64
-        ensures { result ≡ fault_count self.now }
+        ensures { result ≡ sink_fault_count self.now }
     {
         self.faults
     }
 }
 
 impl Sink for MemSink {
-    ghost use Rattle.outside_in_memory.specs.MemSink.{written_bytes, fault_count, call_count, broken_writes, next_break};
+    ghost use Rattle.outside_in_memory.specs.MemSink.{written_bytes, sink_fault_count, call_count, broken_writes, next_break};
 
     ghost written = { λ sink. Some (written_bytes sink) };
 
-    ghost faults = { λ sink. fault_count sink };
+    ghost faults = { λ sink. sink_fault_count sink };
 
     fn write(&mut self, bytes: &[u8]) -> Result<(), WriteNo>
         ensures ok { OnOk result
@@ -67,14 +67,14 @@ impl Sink for MemSink {
         ensures memory { IsErrOf result WriteNo.Memory → Some (written_bytes self.new)
             ≡ Some (written_bytes self.old) }
         ensures failed { IsErrOf result WriteNo.Failed
-            ↔ (fault_count self.old < fault_count self.new) }
-        ensures counted { fault_count self.old ≤ fault_count self.new }
+            ↔ (sink_fault_count self.old < sink_fault_count self.new) }
+        ensures counted { sink_fault_count self.old ≤ sink_fault_count self.new }
 
         // It breaks exactly in the calls of the list, after so many bytes.
         ensures unbroken { OnOk result (next_break self.old ≡ None) }
         ensures broken { IsErrOf result WriteNo.Failed → IsSomeAnd (next_break self.old) (λ sent.
             written_bytes self.new ≡ written_bytes self.old ++ take sent bytes.now) }
-        ensures once { IsErrOf result WriteNo.Failed → fault_count self.new ≡ fault_count self.old
+        ensures once { IsErrOf result WriteNo.Failed → sink_fault_count self.new ≡ sink_fault_count self.old
             + 1 }
         ensures calls { IsErrOf result WriteNo.Memory
             ⊎ (call_count self.new ≡ call_count self.old + 1) }

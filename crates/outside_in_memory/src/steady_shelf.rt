@@ -17,12 +17,12 @@ pub struct SteadyShelf {
 }
 
 impl SteadyShelf {
-    ghost use Rattle.outside_in_memory.specs.SteadyShelf.{held_bytes, open_count};
+    ghost use Rattle.outside_in_memory.specs.SteadyShelf.{held_bytes, steady_open_count};
 
     /// A shelf of empty files.
     pub fn new(alloc: Global) -> Self
         ensures files { (name : List ℕ) → held_bytes result name ≡ [] }
-        ensures feeds { open_count result ≡ 0 }
+        ensures feeds { steady_open_count result ≡ 0 }
     {
         SteadyShelf {
             alloc,
@@ -39,7 +39,7 @@ impl SteadyShelf {
             ≡ held_bytes self.old other }
         ensures err { OnErr result ((other : List ℕ) → held_bytes self.new other
             ≡ held_bytes self.old other) }
-        ensures feeds { open_count self.new ≡ open_count self.old }
+        ensures feeds { steady_open_count self.new ≡ steady_open_count self.old }
     {
         let key = String::from_str(self.alloc, name)?;
         let file = bytes.to_vec(self.alloc)?;
@@ -59,14 +59,14 @@ impl SteadyShelf {
 
     /// How many of its feeds are open.
     pub fn open_feeds(&self) -> u64
-        ensures { result ≡ open_count self.now }
+        ensures { result ≡ steady_open_count self.now }
     {
         self.open_feeds
     }
 }
 
 impl Shelf for SteadyShelf {
-    ghost use Rattle.outside_in_memory.specs.SteadyShelf.{held_bytes, open_count};
+    ghost use Rattle.outside_in_memory.specs.SteadyShelf.{held_bytes, steady_open_count};
 
     type Feed = SteadyFeed;
 
@@ -78,7 +78,7 @@ impl Shelf for SteadyShelf {
 
     ghost putting_faults = { λ _ _. 0 };
 
-    ghost open_feeds = { λ shelf. open_count shelf };
+    ghost open_feeds = { λ shelf. steady_open_count shelf };
 
     fn fetch(&mut self, alloc: Global, name: &str, limit: u64) -> Result<Vec<u8>, FetchNo> {
         copy_within(alloc, self.file(name), limit)

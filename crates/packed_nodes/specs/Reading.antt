@@ -10,11 +10,11 @@ None >>= f = None
 (Some x) >>= f = f x
 
 -- nothing is read, unless memory ran out
-abbrev pub Refuses : {Y : Type 0} → Unread → Option Y → Type 0
-Refuses unread.Memory read = Unit {0}
-Refuses unread.Nothing read = read ≡ None
+abbrev pub RefusesBytes : {Y : Type 0} → Unread → Option Y → Type 0
+RefusesBytes unread.Memory read = Unit {0}
+RefusesBytes unread.Nothing read = read ≡ None
 
 -- what a function returned, seen by view, is what is read, unless memory ran out
-abbrev pub Gives : {X Y : Type 0} → (X → Y) → Result X Unread → Option Y → Type 0
-Gives view (Ok x) read = read ≡ Some (view x)
-Gives view (Err e) read = Refuses e read
+abbrev pub GivesBytesRead : {X Y : Type 0} → (X → Y) → Result X Unread → Option Y → Type 0
+GivesBytesRead view (Ok x) read = read ≡ Some (view x)
+GivesBytesRead view (Err e) read = RefusesBytes e read

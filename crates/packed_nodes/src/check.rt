@@ -1,12 +1,12 @@
 ghost use Rattle.std.specs.Prelude.{◌≡◌, IfSome, Some, length};
-ghost use Rattle.packed_nodes.specs.Packed.{number_at, op_at, items_at, walk_at, component_walk_at, component_walks_at, walks_at, train_at, trains_at, leaf_at};
+ghost use Rattle.packed_nodes.specs.Packed.{packed_number_at, packed_op_at, packed_items_at, packed_walk_at, component_walk_at, component_walks_at, walks_at, packed_train_at, trains_at, packed_leaf_at};
 
 use crate::read::{COSTS, CYCLE, LATE, SHARES, number_at};
 use disp_model::{ComponentWalk, Leaf, List, Op, TrainWalks};
 
 /// The bytes behind a number, where they begin with it.
 fn behind_number(bytes: &[u8], number: u32) -> Option<&[u8]>
-    ensures { IfSome result (λ rest. number_at bytes.now ≡ Some (number, rest.now)) }
+    ensures { IfSome result (λ rest. packed_number_at bytes.now ≡ Some (number, rest.now)) }
 {
     match number_at(bytes) {
         Ok((found, rest)) => { if found == number { Some(rest) } else { None } }
@@ -16,7 +16,7 @@ fn behind_number(bytes: &[u8], number: u32) -> Option<&[u8]>
 
 /// The bytes behind how many there are of something, where they begin with that.
 fn behind_count(bytes: &[u8], count: usize) -> Option<&[u8]>
-    ensures { IfSome result (λ rest. number_at bytes.now ≡ Some (count, rest.now)) }
+    ensures { IfSome result (λ rest. packed_number_at bytes.now ≡ Some (count, rest.now)) }
 {
     match u32::try_from(count) {
         Ok(count) => behind_number(bytes, count),
@@ -25,9 +25,9 @@ fn behind_count(bytes: &[u8], count: usize) -> Option<&[u8]>
 }
 
 /// The bytes behind an operation.
-#[tactic(auto, unfolding(crate::specs::Packed::op_at))]
+#[tactic(auto, unfolding(crate::specs::Packed::packed_op_at))]
 fn behind_op(bytes: &[u8], op: Op) -> Option<&[u8]>
-    ensures { IfSome result (λ rest. op_at bytes.now ≡ Some (op, rest.now)) }
+    ensures { IfSome result (λ rest. packed_op_at bytes.now ≡ Some (op, rest.now)) }
 {
     let rest = behind_number(bytes, op.train)?;
     behind_number(rest, op.op)
@@ -35,7 +35,7 @@ fn behind_op(bytes: &[u8], op: Op) -> Option<&[u8]>
 
 /// The bytes behind operations.
 fn behind_ops<'a>(bytes: &'a [u8], ops: &[Op]) -> Option<&'a [u8]>
-    ensures { IfSome result (λ rest. items_at op_at (length ops.now) bytes.now
+    ensures { IfSome result (λ rest. packed_items_at packed_op_at (length ops.now) bytes.now
         ≡ Some (ops.now, rest.now)) }
 {
     let mut rest = bytes;
@@ -46,9 +46,9 @@ fn behind_ops<'a>(bytes: &'a [u8], ops: &[Op]) -> Option<&'a [u8]>
 }
 
 /// The bytes behind operations and how many there are.
-#[tactic(auto, unfolding(crate::specs::Packed::walk_at))]
+#[tactic(auto, unfolding(crate::specs::Packed::packed_walk_at))]
 fn behind_walk<'a>(bytes: &'a [u8], walk: &[Op]) -> Option<&'a [u8]>
-    ensures { IfSome result (λ rest. walk_at bytes.now ≡ Some (walk.now, rest.now)) }
+    ensures { IfSome result (λ rest. packed_walk_at bytes.now ≡ Some (walk.now, rest.now)) }
 {
     let rest = behind_count(bytes, walk.len())?;
     behind_ops(rest, walk)
@@ -65,7 +65,7 @@ fn behind_component_walk<'a>(bytes: &'a [u8], walk: &ComponentWalk) -> Option<&'
 
 /// The bytes behind walks to components.
 fn behind_each_component_walk<'a>(bytes: &'a [u8], walks: &[ComponentWalk]) -> Option<&'a [u8]>
-    ensures { IfSome result (λ rest. items_at component_walk_at (length walks.now) bytes.now
+    ensures { IfSome result (λ rest. packed_items_at component_walk_at (length walks.now) bytes.now
         ≡ Some (walks.now, rest.now)) }
 {
     let mut rest = bytes;
@@ -86,7 +86,7 @@ fn behind_component_walks<'a>(bytes: &'a [u8], walks: &[ComponentWalk]) -> Optio
 
 /// The bytes behind the walks of a train.
 fn behind_each_walk<'a>(bytes: &'a [u8], walks: &[List<Op>]) -> Option<&'a [u8]>
-    ensures { IfSome result (λ rest. items_at walk_at (length walks.now) bytes.now
+    ensures { IfSome result (λ rest. packed_items_at packed_walk_at (length walks.now) bytes.now
         ≡ Some (walks.now, rest.now)) }
 {
     let mut rest = bytes;
@@ -106,9 +106,9 @@ fn behind_walks<'a>(bytes: &'a [u8], walks: &[List<Op>]) -> Option<&'a [u8]>
 }
 
 /// The bytes behind a train and its walks.
-#[tactic(auto, unfolding(crate::specs::Packed::train_at))]
+#[tactic(auto, unfolding(crate::specs::Packed::packed_train_at))]
 fn behind_train<'a>(bytes: &'a [u8], listed: &TrainWalks) -> Option<&'a [u8]>
-    ensures { IfSome result (λ rest. train_at bytes.now ≡ Some (listed.now, rest.now)) }
+    ensures { IfSome result (λ rest. packed_train_at bytes.now ≡ Some (listed.now, rest.now)) }
 {
     let rest = behind_number(bytes, listed.train)?;
     behind_walks(rest, listed.walks.as_slice())
@@ -116,7 +116,7 @@ fn behind_train<'a>(bytes: &'a [u8], listed: &TrainWalks) -> Option<&'a [u8]>
 
 /// The bytes behind trains.
 fn behind_each_train<'a>(bytes: &'a [u8], trains: &[TrainWalks]) -> Option<&'a [u8]>
-    ensures { IfSome result (λ rest. items_at train_at (length trains.now) bytes.now
+    ensures { IfSome result (λ rest. packed_items_at packed_train_at (length trains.now) bytes.now
         ≡ Some (trains.now, rest.now)) }
 {
     let mut rest = bytes;
@@ -136,9 +136,9 @@ fn behind_trains<'a>(bytes: &'a [u8], trains: &[TrainWalks]) -> Option<&'a [u8]>
 }
 
 /// The bytes behind a leaf, where they say it.
-#[tactic(auto, unfolding(crate::specs::Packed::leaf_at, crate::specs::Packed::leaf_by, crate::specs::Packed::cycle_at, crate::specs::Packed::late_at, crate::specs::Packed::costs_at, crate::specs::Packed::shares_at))]
+#[tactic(auto, unfolding(crate::specs::Packed::packed_leaf_at, crate::specs::Packed::leaf_by, crate::specs::Packed::packed_cycle_at, crate::specs::Packed::packed_late_at, crate::specs::Packed::packed_costs_at, crate::specs::Packed::packed_shares_at))]
 pub(crate) fn behind_leaf<'a>(bytes: &'a [u8], leaf: &Leaf) -> Option<&'a [u8]>
-    ensures { IfSome result (λ rest. leaf_at bytes.now ≡ Some (leaf.now, rest.now)) }
+    ensures { IfSome result (λ rest. packed_leaf_at bytes.now ≡ Some (leaf.now, rest.now)) }
 {
     match leaf {
         Leaf::NoRoute => None,

@@ -1,6 +1,6 @@
 ghost use Rattle.std.specs.Prelude.{ℕ, List, ◌≡◌, Some, IfOk, IfSome};
-ghost use Rattle.packed_nodes.specs.Kept.{found};
-ghost use Rattle.packed_nodes.specs.Packed.{leaf_at};
+ghost use Rattle.packed_nodes.specs.Kept.{found_leaf};
+ghost use Rattle.packed_nodes.specs.Packed.{packed_leaf_at};
 
 use crate::check::behind_leaf;
 use crate::read::leaf_at;
@@ -35,7 +35,7 @@ impl Model for PackedNode {
 /// Bytes that say a leaf, where there are such and memory for them.
 fn packed(alloc: Global, leaf: &Leaf) -> Option<Vec<u8>>
     ensures { IfSome result (λ bytes.
-        (rest : List ℕ) × (leaf_at bytes.items ≡ Some (leaf.now, rest))) }
+        (rest : List ℕ) × (packed_leaf_at bytes.items ≡ Some (leaf.now, rest))) }
 {
     let bytes = written(alloc, leaf)?;
     match behind_leaf(&bytes, leaf) {
@@ -46,7 +46,7 @@ fn packed(alloc: Global, leaf: &Leaf) -> Option<Vec<u8>>
 
 /// The node that bytes say.
 fn said(alloc: Global, bytes: &[u8]) -> Result<TreeNode, Memory>
-    ensures { IfOk result (λ node. node ≡ found (leaf_at bytes.now)) }
+    ensures { IfOk result (λ node. node ≡ found_leaf (packed_leaf_at bytes.now)) }
 {
     match leaf_at(alloc, bytes) {
         Ok((leaf, _)) => Ok(TreeNode::Leaf(leaf)),

@@ -1,5 +1,5 @@
-ghost use Rattle.packed_nodes.specs.Reading.{Gives};
-ghost use Rattle.packed_nodes.specs.Packed.{long_at, number_at, op_at, items_at, walk_at, component_walk_at, component_walks_at, walks_at, train_at, trains_at, cycle_at, late_at, costs_at, shares_at, leaf_by, leaf_at};
+ghost use Rattle.packed_nodes.specs.Reading.{GivesBytesRead};
+ghost use Rattle.packed_nodes.specs.Packed.{long_at, packed_number_at, packed_op_at, packed_items_at, packed_walk_at, component_walk_at, component_walks_at, walks_at, packed_train_at, trains_at, packed_cycle_at, packed_late_at, packed_costs_at, packed_shares_at, leaf_by, packed_leaf_at};
 
 use crate::unread::Unread;
 use disp_model::{ComponentWalk, Leaf, List, Op, TrainWalks};
@@ -23,7 +23,7 @@ pub(crate) const SHARES: u32 = 4;
 /// A number of two bytes.
 #[tactic(auto, unfolding(crate::specs::Packed::long_at))]
 fn long_at(bytes: &[u8]) -> Result<(u32, &[u8]), Unread>
-    ensures { Gives (λ x. (x.0, x.1.now)) result (long_at bytes.now) }
+    ensures { GivesBytesRead (λ x. (x.0, x.1.now)) result (long_at bytes.now) }
 {
     match bytes {
         [] => Err(Unread::Nothing),
@@ -33,9 +33,9 @@ fn long_at(bytes: &[u8]) -> Result<(u32, &[u8]), Unread>
 }
 
 /// A number.
-#[tactic(auto, unfolding(crate::specs::Packed::number_at))]
+#[tactic(auto, unfolding(crate::specs::Packed::packed_number_at))]
 pub(crate) fn number_at(bytes: &[u8]) -> Result<(u32, &[u8]), Unread>
-    ensures { Gives (λ x. (x.0, x.1.now)) result (number_at bytes.now) }
+    ensures { GivesBytesRead (λ x. (x.0, x.1.now)) result (packed_number_at bytes.now) }
 {
     match bytes {
         [] => Err(Unread::Nothing),
@@ -49,9 +49,9 @@ pub(crate) fn number_at(bytes: &[u8]) -> Result<(u32, &[u8]), Unread>
 }
 
 /// An operation.
-#[tactic(auto, unfolding(crate::specs::Packed::op_at))]
+#[tactic(auto, unfolding(crate::specs::Packed::packed_op_at))]
 fn op_at(bytes: &[u8]) -> Result<(Op, &[u8]), Unread>
-    ensures { Gives (λ x. (x.0, x.1.now)) result (op_at bytes.now) }
+    ensures { GivesBytesRead (λ x. (x.0, x.1.now)) result (packed_op_at bytes.now) }
 {
     let (train, rest) = number_at(bytes)?;
     let (op, rest) = number_at(rest)?;
@@ -60,7 +60,7 @@ fn op_at(bytes: &[u8]) -> Result<(Op, &[u8]), Unread>
 
 /// So many operations.
 fn ops_at(alloc: Global, count: u32, bytes: &[u8]) -> Result<(Vec<Op>, &[u8]), Unread>
-    ensures { Gives (λ x. (x.0.items, x.1.now)) result (items_at op_at count bytes.now) }
+    ensures { GivesBytesRead (λ x. (x.0.items, x.1.now)) result (packed_items_at packed_op_at count bytes.now) }
 {
     let mut ops = Vec::new(alloc);
     let mut rest = bytes;
@@ -73,9 +73,9 @@ fn ops_at(alloc: Global, count: u32, bytes: &[u8]) -> Result<(Vec<Op>, &[u8]), U
 }
 
 /// Operations, behind how many there are.
-#[tactic(auto, unfolding(crate::specs::Packed::walk_at))]
+#[tactic(auto, unfolding(crate::specs::Packed::packed_walk_at))]
 fn walk_at(alloc: Global, bytes: &[u8]) -> Result<(List<Op>, &[u8]), Unread>
-    ensures { Gives (λ x. (x.0, x.1.now)) result (walk_at bytes.now) }
+    ensures { GivesBytesRead (λ x. (x.0, x.1.now)) result (packed_walk_at bytes.now) }
 {
     let (count, rest) = number_at(bytes)?;
     let (ops, rest) = ops_at(alloc, count, rest)?;
@@ -85,7 +85,7 @@ fn walk_at(alloc: Global, bytes: &[u8]) -> Result<(List<Op>, &[u8]), Unread>
 /// A walk to a component.
 #[tactic(auto, unfolding(crate::specs::Packed::component_walk_at))]
 fn component_walk_at(alloc: Global, bytes: &[u8]) -> Result<(ComponentWalk, &[u8]), Unread>
-    ensures { Gives (λ x. (x.0, x.1.now)) result (component_walk_at bytes.now) }
+    ensures { GivesBytesRead (λ x. (x.0, x.1.now)) result (component_walk_at bytes.now) }
 {
     let (component, rest) = number_at(bytes)?;
     let (walk, rest) = walk_at(alloc, rest)?;
@@ -98,8 +98,8 @@ fn component_walks_in(
     count: u32,
     bytes: &[u8],
 ) -> Result<(Vec<ComponentWalk>, &[u8]), Unread>
-    ensures { Gives (λ x. (x.0.items, x.1.now)) result
-        (items_at component_walk_at count bytes.now) }
+    ensures { GivesBytesRead (λ x. (x.0.items, x.1.now)) result
+        (packed_items_at component_walk_at count bytes.now) }
 {
     let mut walks = Vec::new(alloc);
     let mut rest = bytes;
@@ -114,7 +114,7 @@ fn component_walks_in(
 /// Walks to components, behind how many there are.
 #[tactic(auto, unfolding(crate::specs::Packed::component_walks_at))]
 fn component_walks_at(alloc: Global, bytes: &[u8]) -> Result<(List<ComponentWalk>, &[u8]), Unread>
-    ensures { Gives (λ x. (x.0, x.1.now)) result (component_walks_at bytes.now) }
+    ensures { GivesBytesRead (λ x. (x.0, x.1.now)) result (component_walks_at bytes.now) }
 {
     let (count, rest) = number_at(bytes)?;
     let (walks, rest) = component_walks_in(alloc, count, rest)?;
@@ -123,7 +123,7 @@ fn component_walks_at(alloc: Global, bytes: &[u8]) -> Result<(List<ComponentWalk
 
 /// So many walks of a train's.
 fn walks_in(alloc: Global, count: u32, bytes: &[u8]) -> Result<(Vec<List<Op>>, &[u8]), Unread>
-    ensures { Gives (λ x. (x.0.items, x.1.now)) result (items_at walk_at count bytes.now) }
+    ensures { GivesBytesRead (λ x. (x.0.items, x.1.now)) result (packed_items_at packed_walk_at count bytes.now) }
 {
     let mut walks = Vec::new(alloc);
     let mut rest = bytes;
@@ -138,7 +138,7 @@ fn walks_in(alloc: Global, count: u32, bytes: &[u8]) -> Result<(Vec<List<Op>>, &
 /// The walks of a train, behind how many there are.
 #[tactic(auto, unfolding(crate::specs::Packed::walks_at))]
 fn walks_at(alloc: Global, bytes: &[u8]) -> Result<(List<List<Op>>, &[u8]), Unread>
-    ensures { Gives (λ x. (x.0, x.1.now)) result (walks_at bytes.now) }
+    ensures { GivesBytesRead (λ x. (x.0, x.1.now)) result (walks_at bytes.now) }
 {
     let (count, rest) = number_at(bytes)?;
     let (walks, rest) = walks_in(alloc, count, rest)?;
@@ -146,9 +146,9 @@ fn walks_at(alloc: Global, bytes: &[u8]) -> Result<(List<List<Op>>, &[u8]), Unre
 }
 
 /// A train and its walks.
-#[tactic(auto, unfolding(crate::specs::Packed::train_at))]
+#[tactic(auto, unfolding(crate::specs::Packed::packed_train_at))]
 fn train_at(alloc: Global, bytes: &[u8]) -> Result<(TrainWalks, &[u8]), Unread>
-    ensures { Gives (λ x. (x.0, x.1.now)) result (train_at bytes.now) }
+    ensures { GivesBytesRead (λ x. (x.0, x.1.now)) result (packed_train_at bytes.now) }
 {
     let (train, rest) = number_at(bytes)?;
     let (walks, rest) = walks_at(alloc, rest)?;
@@ -157,7 +157,7 @@ fn train_at(alloc: Global, bytes: &[u8]) -> Result<(TrainWalks, &[u8]), Unread>
 
 /// So many trains.
 fn trains_in(alloc: Global, count: u32, bytes: &[u8]) -> Result<(Vec<TrainWalks>, &[u8]), Unread>
-    ensures { Gives (λ x. (x.0.items, x.1.now)) result (items_at train_at count bytes.now) }
+    ensures { GivesBytesRead (λ x. (x.0.items, x.1.now)) result (packed_items_at packed_train_at count bytes.now) }
 {
     let mut trains = Vec::new(alloc);
     let mut rest = bytes;
@@ -172,7 +172,7 @@ fn trains_in(alloc: Global, count: u32, bytes: &[u8]) -> Result<(Vec<TrainWalks>
 /// Trains and their walks, behind how many there are.
 #[tactic(auto, unfolding(crate::specs::Packed::trains_at))]
 fn trains_at(alloc: Global, bytes: &[u8]) -> Result<(List<TrainWalks>, &[u8]), Unread>
-    ensures { Gives (λ x. (x.0, x.1.now)) result (trains_at bytes.now) }
+    ensures { GivesBytesRead (λ x. (x.0, x.1.now)) result (trains_at bytes.now) }
 {
     let (count, rest) = number_at(bytes)?;
     let (trains, rest) = trains_in(alloc, count, rest)?;
@@ -180,36 +180,36 @@ fn trains_at(alloc: Global, bytes: &[u8]) -> Result<(List<TrainWalks>, &[u8]), U
 }
 
 /// A leaf that lists a cycle.
-#[tactic(auto, unfolding(crate::specs::Packed::cycle_at))]
+#[tactic(auto, unfolding(crate::specs::Packed::packed_cycle_at))]
 fn cycle_at(alloc: Global, bytes: &[u8]) -> Result<(Leaf, &[u8]), Unread>
-    ensures { Gives (λ x. (x.0, x.1.now)) result (cycle_at bytes.now) }
+    ensures { GivesBytesRead (λ x. (x.0, x.1.now)) result (packed_cycle_at bytes.now) }
 {
     let (ops, rest) = walk_at(alloc, bytes)?;
     Ok((Leaf::Cycle(ops), rest))
 }
 
 /// A leaf that lists a late walk.
-#[tactic(auto, unfolding(crate::specs::Packed::late_at))]
+#[tactic(auto, unfolding(crate::specs::Packed::packed_late_at))]
 fn late_at(alloc: Global, bytes: &[u8]) -> Result<(Leaf, &[u8]), Unread>
-    ensures { Gives (λ x. (x.0, x.1.now)) result (late_at bytes.now) }
+    ensures { GivesBytesRead (λ x. (x.0, x.1.now)) result (packed_late_at bytes.now) }
 {
     let (walk, rest) = walk_at(alloc, bytes)?;
     Ok((Leaf::Late(walk), rest))
 }
 
 /// A leaf that lists walks to components.
-#[tactic(auto, unfolding(crate::specs::Packed::costs_at))]
+#[tactic(auto, unfolding(crate::specs::Packed::packed_costs_at))]
 fn costs_at(alloc: Global, bytes: &[u8]) -> Result<(Leaf, &[u8]), Unread>
-    ensures { Gives (λ x. (x.0, x.1.now)) result (costs_at bytes.now) }
+    ensures { GivesBytesRead (λ x. (x.0, x.1.now)) result (packed_costs_at bytes.now) }
 {
     let (walks, rest) = component_walks_at(alloc, bytes)?;
     Ok((Leaf::Costs(walks), rest))
 }
 
 /// A leaf that lists walks to components, and trains.
-#[tactic(auto, unfolding(crate::specs::Packed::shares_at))]
+#[tactic(auto, unfolding(crate::specs::Packed::packed_shares_at))]
 fn shares_at(alloc: Global, bytes: &[u8]) -> Result<(Leaf, &[u8]), Unread>
-    ensures { Gives (λ x. (x.0, x.1.now)) result (shares_at bytes.now) }
+    ensures { GivesBytesRead (λ x. (x.0, x.1.now)) result (packed_shares_at bytes.now) }
 {
     let (walks, rest) = component_walks_at(alloc, bytes)?;
     let (trains, rest) = trains_at(alloc, rest)?;
@@ -219,7 +219,7 @@ fn shares_at(alloc: Global, bytes: &[u8]) -> Result<(Leaf, &[u8]), Unread>
 /// A leaf by the number of its kind.
 #[tactic(auto, unfolding(crate::specs::Packed::leaf_by))]
 fn leaf_by(alloc: Global, kind: u32, bytes: &[u8]) -> Result<(Leaf, &[u8]), Unread>
-    ensures { Gives (λ x. (x.0, x.1.now)) result (leaf_by kind bytes.now) }
+    ensures { GivesBytesRead (λ x. (x.0, x.1.now)) result (leaf_by kind bytes.now) }
 {
     if kind == CYCLE {
         return cycle_at(alloc, bytes);
@@ -234,9 +234,9 @@ fn leaf_by(alloc: Global, kind: u32, bytes: &[u8]) -> Result<(Leaf, &[u8]), Unre
 }
 
 /// A leaf.
-#[tactic(auto, unfolding(crate::specs::Packed::leaf_at))]
+#[tactic(auto, unfolding(crate::specs::Packed::packed_leaf_at))]
 pub(crate) fn leaf_at(alloc: Global, bytes: &[u8]) -> Result<(Leaf, &[u8]), Unread>
-    ensures { Gives (λ x. (x.0, x.1.now)) result (leaf_at bytes.now) }
+    ensures { GivesBytesRead (λ x. (x.0, x.1.now)) result (packed_leaf_at bytes.now) }
 {
     let (kind, rest) = number_at(bytes)?;
     leaf_by(alloc, kind, rest)

@@ -6,7 +6,7 @@ use Rattle.std.proofs.lemmas.List.{get_or_default}
 use Rattle.disp_model.specs.Earliest.{ComesBefore}
 use Rattle.disp_laws.proofs.EarliestPlans.{not_before_itself}
 use Rattle.incremental_paths.specs.declared.arc.Arc.{Arc}
-use Rattle.incremental_paths.specs.Walks.{IsJoined}
+use Rattle.incremental_paths.specs.Walks.{JoinsPair}
 use Rattle.incremental_paths.specs.Marked.{AreRising}
 use Rattle.incremental_paths.specs.Ordered.{is_marked}
 use Rattle.plan_builder.specs.declared.stop.Stop.{Stop}
@@ -14,16 +14,16 @@ use Rattle.plan_builder.specs.Stops.{AreMarkedNodes, IsBlocked, IsFirstFree}
 
 -- ---- marks tell who waits
 
-pub blocked_by : (arcs : List Arc) (rest : List Stop) (marks : List Bool) (s : Stop) → AreMarkedNodes rest marks → (u : ℕ) × IsJoined arcs u s.node × (is_marked marks u ≡ true) → IsBlocked arcs rest s
+pub blocked_by : (arcs : List Arc) (rest : List Stop) (marks : List Bool) (s : Stop) → AreMarkedNodes rest marks → (u : ℕ) × JoinsPair arcs u s.node × (is_marked marks u ≡ true) → IsBlocked arcs rest s
 blocked_by arcs rest marks s waiting (u, joined, marked) =
-    let from = waiting.only u marked in (from.0, from.1, subst (λ (n : ℕ). IsJoined arcs n s.node) (sym from.2) joined)
+    let from = waiting.only u marked in (from.0, from.1, subst (λ (n : ℕ). JoinsPair arcs n s.node) (sym from.2) joined)
 
-pub free_by : (arcs : List Arc) (rest : List Stop) (marks : List Bool) (s : Stop) → AreMarkedNodes rest marks → ((u : ℕ) → IsJoined arcs u s.node → is_marked marks u ≡ false) → IsBlocked arcs rest s → ⊥
+pub free_by : (arcs : List Arc) (rest : List Stop) (marks : List Bool) (s : Stop) → AreMarkedNodes rest marks → ((u : ℕ) → JoinsPair arcs u s.node → is_marked marks u ≡ false) → IsBlocked arcs rest s → ⊥
 free_by arcs rest marks s waiting none (other, there, joined) = both_ways (is_marked marks other.node) (none other.node joined) (waiting.each other there)
 
 -- ---- not all wait, since arcs rise
 
-joined_rises : (arcs : List Arc) (places : List ℕ) (u v : ℕ) → AreRising arcs places → IsJoined arcs u v → get_or places u 0 < get_or places v 0
+joined_rises : (arcs : List Arc) (places : List ℕ) (u v : ℕ) → AreRising arcs places → JoinsPair arcs u v → get_or places u 0 < get_or places v 0
 joined_rises arcs places u v rising (k, arc, lt, is, (from, to)) =
     let rises = rising k arc lt in
     let low = ap (λ (a : Arc). get_or places a.from 0) is ∙ ap (λ (n : ℕ). get_or places n 0) from in
@@ -64,12 +64,12 @@ first_free arcs rest place s within is free blocked falling = record {
 
 -- ---- one look at a stop
 
-pub free_at : (arcs : List Arc) (rest : List Stop) (marks : List Bool) (place : ℕ) (e : Stop) → AreMarkedNodes rest marks → place < length rest → ((u : ℕ) → IsJoined arcs u (get_or rest place e).node → is_marked marks u ≡ false)
+pub free_at : (arcs : List Arc) (rest : List Stop) (marks : List Bool) (place : ℕ) (e : Stop) → AreMarkedNodes rest marks → place < length rest → ((u : ℕ) → JoinsPair arcs u (get_or rest place e).node → is_marked marks u ≡ false)
     → (d : Stop) → IsBlocked arcs rest (get_or rest place d) → ⊥
 free_at arcs rest marks place e waiting within none d =
     subst (λ (x : Stop). IsBlocked arcs rest x → ⊥) (get_or_default rest place e d within) (free_by arcs rest marks (get_or rest place e) waiting none)
 
-pub blocked_at : (arcs : List Arc) (rest : List Stop) (marks : List Bool) (place : ℕ) (e : Stop) → AreMarkedNodes rest marks → place < length rest → (u : ℕ) × IsJoined arcs u (get_or rest place e).node × (is_marked marks u ≡ true)
+pub blocked_at : (arcs : List Arc) (rest : List Stop) (marks : List Bool) (place : ℕ) (e : Stop) → AreMarkedNodes rest marks → place < length rest → (u : ℕ) × JoinsPair arcs u (get_or rest place e).node × (is_marked marks u ≡ true)
     → ((k : ℕ) (d : Stop) → place + 1 ≤ k → k < length rest → IsBlocked arcs rest (get_or rest k d)) → (k : ℕ) (d : Stop) → place ≤ k → k < length rest → IsBlocked arcs rest (get_or rest k d)
 blocked_at arcs rest marks place e waiting within found behind k d le lt = elim (cases_eq k place) [
   | inl same ↦ subst (λ (n : ℕ). IsBlocked arcs rest (get_or rest n d)) (sym same)

@@ -12,7 +12,7 @@ use Rattle.incremental_paths.specs.declared.arc.Arc.{Arc}
 use Rattle.incremental_paths.specs.Network.{Network}
 use Rattle.incremental_paths.proofs.Members.{Contains-cons_cases, Contains-there}
 use Rattle.plan_builder.specs.declared.stop.Stop.{Stop}
-use Rattle.plan_builder.specs.Stops.{AreOnce, AreMarkedNodes, IsFirstFree, AreArranged, AreLeft}
+use Rattle.plan_builder.specs.Stops.{AreOnce, AreMarkedNodes, IsFirstFree, AreStopsArranged, AreStopsLeft}
 use Rattle.plan_builder.proofs.Counting.{once_moved, once_rest, apart}
 
 -- ---- what is left
@@ -33,7 +33,7 @@ waiting_left rest left s marks moved once within waiting = record {
       | inr later ↦ (r, later, at)
     ]
 
-pub left_after : (network : Network) (rest : List Stop) (marks : List Bool) (place : ℕ) (s : Stop) → place < length rest → s ≡ get_or rest place s → AreLeft network rest marks → AreLeft network (remove rest place) (set marks s.node false)
+pub left_after : (network : Network) (rest : List Stop) (marks : List Bool) (place : ℕ) (s : Stop) → place < length rest → s ≡ get_or rest place s → AreStopsLeft network rest marks → AreStopsLeft network (remove rest place) (set marks s.node false)
 left_after network rest marks place s within is left =
     let moved = IsPermutation-remove rest place s within is in
     let once = once_moved rest (s ∷ remove rest place) moved left.once in
@@ -56,7 +56,7 @@ first_moved arcs xs ys s moved is =
       first = λ other there not before. is.first other (Contains-permutation ys xs other back there) (λ blocked. not (blocked.0, Contains-permutation xs ys blocked.0 moved blocked.1, blocked.2)) before;
     }
 
-pub arranged_more : (arcs : List Arc) (plan rest left : List Stop) (s : Stop) → IsPermutation rest (s ∷ left) → IsFirstFree arcs rest s → AreArranged arcs plan rest → AreArranged arcs (plan ++ s ∷ []) left
+pub arranged_more : (arcs : List Arc) (plan rest left : List Stop) (s : Stop) → IsPermutation rest (s ∷ left) → IsFirstFree arcs rest s → AreStopsArranged arcs plan rest → AreStopsArranged arcs (plan ++ s ∷ []) left
 arranged_more arcs [] rest left s moved first arranged = (first_moved arcs rest (s ∷ left) s moved first, tt)
 arranged_more arcs (r ∷ plan) rest left s moved first arranged = (
   first_moved arcs (r ∷ plan ++ rest) (r ∷ (plan ++ s ∷ []) ++ left) r (IsPermutation-cons r (plan ++ rest) ((plan ++ s ∷ []) ++ left) (IsPermutation-pop_more (plan ++ rest) plan rest left s (IsPermutation-refl (plan ++ rest)) moved)) arranged.0,

@@ -17,7 +17,7 @@ use Rattle.disp_laws.proofs.RouteSearch.{each_within}
 use Rattle.disp_laws.proofs.LongestArcs.{same_ops}
 use Rattle.disp_laws.proofs.LongestWalks.{Among, Once, among_append_left, among_append_right}
 use Rattle.disp_laws.proofs.Horizon.{among_cases, once_append}
-use Rattle.incremental_paths.specs.Walks.{IsLongest}
+use Rattle.incremental_paths.specs.Walks.{IsLongestLength}
 use Rattle.incremental_paths.specs.Network.{Network}
 use Rattle.plan_builder.specs.declared.stop.Stop.{Stop}
 use Rattle.plan_builder.specs.Stops.{IsStop, op_on, ops_from}
@@ -30,7 +30,7 @@ ops_more old stops s t route i d lt so_far own =
     rw (map_more (op_on t) route i d lt, ← own, ← append_assoc old (map (op_on t) (take i route)) (op_of s.event ∷ []), ← so_far) (map-append (λ (s : Stop). op_of s.event) stops (s ∷ []))
 
 pub is_stop : (problem : Problem) (network : Network) (t first o : ℕ) (s : Stop) → sum_by (λ operations. length operations) (take t problem.trains) ≡ first → op_of s.event ≡ op_on t o → s.node ≡ first + o
-    → first + o < length network.lowers → IsLongest network.lowers network.arcs s.node s.event.time → IsStop problem network s
+    → first + o < length network.lowers → IsLongestLength network.lowers network.arcs s.node s.event.time → IsStop problem network s
 is_stop problem network t first o s sum own node within longest = record {
   node = node ∙ sym (ap (λ (n : ℕ). n + o) sum) ∙ sym (ap (number_of problem) own);
   inside = omega (arith, node, within);

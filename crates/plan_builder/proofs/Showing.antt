@@ -25,11 +25,11 @@ use Rattle.disp_laws.proofs.LongestWalks.{Among, Once, from_once}
 use Rattle.disp_laws.proofs.EarliestExists.{in_some_order}
 use Rattle.disp_laws.proofs.EarliestPlans.{taken_get, get_taken}
 use Rattle.incremental_paths.specs.declared.arc.Arc.{Arc}
-use Rattle.incremental_paths.specs.Walks.{IsJoined, IsLongest, Follows, last_from}
+use Rattle.incremental_paths.specs.Walks.{JoinsPair, IsLongestLength, FollowsArcs, last_node_from}
 use Rattle.incremental_paths.specs.Network.{Network}
 use Rattle.plan_builder.specs.declared.stop.Stop.{Stop}
 use Rattle.plan_builder.specs.Shown.{FitTrains, AreOnlyRoutes, StandsFor, ShowsNode}
-use Rattle.plan_builder.specs.Stops.{IsStop, ops_from, AreOnce, IsBlocked, IsFirstFree, AreArranged}
+use Rattle.plan_builder.specs.Stops.{IsStop, ops_from, AreOnce, IsBlocked, IsFirstFree, AreStopsArranged}
 use Rattle.plan_builder.proofs.Counting.{one_place, once_moved, once_named}
 use Rattle.plan_builder.proofs.Places.{stands_in, stands_at, stands_from, dropped_stands, mapped_at, from_mapped_at}
 use Rattle.plan_builder.proofs.Listing.{ops_among, among_ops, ops_once, route_once, route_inside}
@@ -79,13 +79,13 @@ module _ (problem : Problem) (network : Network) (routes : List (List ℕ)) (fit
 
 -- ---- what is arranged
 
-first_at : (arcs : List Arc) (plan rest : List Stop) (i : ℕ) (s : Stop) → AreArranged arcs plan rest → slice_get plan i ≡ Some s → IsFirstFree arcs (drop i plan ++ rest) s
+first_at : (arcs : List Arc) (plan rest : List Stop) (i : ℕ) (s : Stop) → AreStopsArranged arcs plan rest → slice_get plan i ≡ Some s → IsFirstFree arcs (drop i plan ++ rest) s
 first_at arcs [] rest i s arranged at = absurd (none-some s at)
 first_at arcs (r ∷ plan) rest zero s arranged at = subst (IsFirstFree arcs (r ∷ plan ++ rest)) (same_Some r s at) arranged.0
 first_at arcs (r ∷ plan) rest (suc i) s arranged at = first_at arcs plan rest i s arranged.1 at
 
 module _ (node : Node) (network : Network) (routes : List (List ℕ)) (fit : FitTrains node.problem.trains routes) (stops : List Stop) (ops : ops_of stops ≡ ops_from 0 routes) (each : All (IsStop node.problem network) stops)
-    (plan : List Stop) (moved : IsPermutation stops plan) (arranged : AreArranged network.arcs plan []) (only : AreOnlyRoutes node routes) (shows : ShowsNode node network) where
+    (plan : List Stop) (moved : IsPermutation stops plan) (arranged : AreStopsArranged network.arcs plan []) (only : AreOnlyRoutes node routes) (shows : ShowsNode node network) where
   once : AreOnce plan
   once = once_moved stops plan moved (stops_once node.problem network routes fit stops ops each)
 
@@ -123,7 +123,7 @@ module _ (node : Node) (network : Network) (routes : List (List ℕ)) (fit : Fit
 
   -- ---- arcs lead to later places
 
-  joined_order : (i j : ℕ) (s r : Stop) → slice_get plan i ≡ Some s → slice_get plan j ≡ Some r → IsJoined network.arcs s.node r.node → i < j
+  joined_order : (i j : ℕ) (s r : Stop) → slice_get plan i ≡ Some s → slice_get plan j ≡ Some r → JoinsPair network.arcs s.node r.node → i < j
   joined_order i j s r at there joined = elim (cases_lt i j) [
     | inl lt ↦ lt
     | inr le ↦ absurd ((first_free_at j r there).free (s, stands_from plan j i s le at, joined))
@@ -132,17 +132,17 @@ module _ (node : Node) (network : Network) (routes : List (List ℕ)) (fit : Fit
   stands_for : (arc : Arc) → Contains network.arcs arc → StandsFor node arc
   stands_for arc there = All-contains (StandsFor node) network.arcs arc shows.sound there
 
-  joined_place : (u v : ℕ) → IsJoined network.arcs u v → (i : ℕ) × (s : Stop) × (slice_get plan i ≡ Some s) × (s.node ≡ v)
+  joined_place : (u v : ℕ) → JoinsPair network.arcs u v → (i : ℕ) × (s : Stop) × (slice_get plan i ≡ Some s) × (s.node ≡ v)
   joined_place u v (k, arc, lt, is, (from, to)) =
       let own = stands_for arc (k, lt, is) in
       let at = place_of own.v own.there.1.to_forced in
       (at.0, at.1, at.2, number_at at.0 at.1 own.v at.2 at.3 ∙ sym own.to_is ∙ to)
 
-  follows_order : (u : ℕ) (rest : List ℕ) (i j : ℕ) (s r : Stop) → slice_get plan i ≡ Some s → s.node ≡ u → slice_get plan j ≡ Some r → Follows network.arcs u rest → last_from u rest ≡ r.node → i ≤ j
+  follows_order : (u : ℕ) (rest : List ℕ) (i j : ℕ) (s r : Stop) → slice_get plan i ≡ Some s → s.node ≡ u → slice_get plan j ≡ Some r → FollowsArcs network.arcs u rest → last_node_from u rest ≡ r.node → i ≤ j
   follows_order u [] i j s r at own there follows ends = let same = one_place plan i j s r once at there (own ∙ ends) in omega (arith, same)
   follows_order u (v ∷ rest) i j s r at own there follows ends =
       let next = joined_place u v follows.0 in
-      let joined = subst (λ (n : ℕ). IsJoined network.arcs n next.1.node) (sym own) (subst (IsJoined network.arcs u) (sym next.3) follows.0) in
+      let joined = subst (λ (n : ℕ). JoinsPair network.arcs n next.1.node) (sym own) (subst (JoinsPair network.arcs u) (sym next.3) follows.0) in
       omega (arith, joined_order i next.0 s next.1 at next.2 joined, follows_order v rest next.0 j next.1 r next.2 next.3 there follows.1 ends)
 
   arc_order : (u v : Op) (i j : ℕ) (s r : Stop) → HasArc node u v → slice_get plan i ≡ Some s → op_of s.event ≡ u → slice_get plan j ≡ Some r → op_of r.event ≡ v → i < j
@@ -150,7 +150,7 @@ module _ (node : Node) (network : Network) (routes : List (List ℕ)) (fit : Fit
       let way = shows.complete u v arc in
       let begin = number_at i s u at own in
       let next = joined_place (number_of node.problem u) way.next way.follows.0 in
-      let joined = subst (λ (n : ℕ). IsJoined network.arcs n next.1.node) (sym begin) (subst (IsJoined network.arcs (number_of node.problem u)) (sym next.3) way.follows.0) in
+      let joined = subst (λ (n : ℕ). JoinsPair network.arcs n next.1.node) (sym begin) (subst (JoinsPair network.arcs (number_of node.problem u)) (sym next.3) way.follows.0) in
       omega (arith, joined_order i next.0 s next.1 at next.2 joined, follows_order way.next way.rest next.0 j next.1 r next.2 next.3 there way.follows.1 (way.ends ∙ sym (number_at j r v there other)))
 
   closes_order : (first u : Op) (rest : List Op) (i j : ℕ) (s r : Stop) → ClosesTo node first u rest → slice_get plan i ≡ Some s → op_of s.event ≡ first → slice_get plan j ≡ Some r → op_of r.event ≡ u → j < i
@@ -243,5 +243,5 @@ module _ (node : Node) (network : Network) (routes : List (List ℕ)) (fit : Fit
           by_stop (s, place, is) =
               let stop = is_stop_at i s place in
               let forced = forced_at i s place in
-              let own = subst (λ (n : ℕ). IsLongest network.lowers network.arcs n s.event.time) stop.node stop.longest in
+              let own = subst (λ (n : ℕ). IsLongestLength network.lowers network.arcs n s.event.time) stop.node stop.longest in
               (subst (λ (f : Event). IsForced node (op_of f)) is forced, subst (λ (f : Event). of_node.IsLongest node (op_of f) f.time) is (shows.longest (op_of s.event) s.event.time forced own))

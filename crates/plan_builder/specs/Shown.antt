@@ -9,7 +9,7 @@ use Rattle.disp_model.specs.Routes.{HasOneRoute, IsForced}
 use Rattle.disp_model.specs.Arcs.{HasArc}
 use Rattle.disp_model.specs.Walks as of_node
 use Rattle.incremental_paths.specs.declared.arc.Arc.{Arc}
-use Rattle.incremental_paths.specs.Walks.{IsLongest, Follows, last_from}
+use Rattle.incremental_paths.specs.Walks.{IsLongestLength, FollowsArcs, last_node_from}
 use Rattle.incremental_paths.specs.Network.{Network}
 
 -- a route for each train
@@ -27,8 +27,8 @@ AreOnlyRoutes node routes =
 pub record ArcsLead (arcs : List Arc) (from to : ℕ) : Type 0 where
   pub next : ℕ
   pub rest : List ℕ
-  pub follows : Follows arcs from (next ∷ rest)
-  pub ends : last_from next rest ≡ to
+  pub follows : FollowsArcs arcs from (next ∷ rest)
+  pub ends : last_node_from next rest ≡ to
 
 -- an arc of the network joins the numbers of two operations between which an arc of the node leads
 pub record StandsFor (node : Node) (arc : Arc) : Type 0 where
@@ -42,7 +42,7 @@ pub record StandsFor (node : Node) (arc : Arc) : Type 0 where
 -- stands for one of the node, and where an arc of the node leads, a way along its arcs does
 pub record ShowsNode (node : Node) (network : Network) : Type 0 where
   pub longest : (o : Op) (total : ℕ) → IsForced node o
-      → IsLongest network.lowers network.arcs (number_of node.problem o) total
+      → IsLongestLength network.lowers network.arcs (number_of node.problem o) total
       → of_node.IsLongest node o total
   pub sound : All (StandsFor node) network.arcs
   pub complete : (u v : Op) → HasArc node u v

@@ -5,7 +5,7 @@ use Rattle.disp_model.specs.declared.problem.Problem.{Problem}
 use Rattle.disp_model.specs.Numbers.{number_of}
 use Rattle.disp_model.specs.Earliest.{op_of, ComesBefore}
 use Rattle.incremental_paths.specs.declared.arc.Arc.{Arc}
-use Rattle.incremental_paths.specs.Walks.{IsJoined, IsLongest}
+use Rattle.incremental_paths.specs.Walks.{JoinsPair, IsLongestLength}
 use Rattle.incremental_paths.specs.Ordered.{is_marked}
 use Rattle.incremental_paths.specs.Network.{Network}
 use Rattle.plan_builder.specs.declared.stop.Stop.{Stop}
@@ -25,7 +25,7 @@ ops_from t (route ∷ routes) = map (op_on t) route ++ ops_from (t + 1) routes
 pub record IsStop (problem : Problem) (network : Network) (s : Stop) : Type 0 where
   pub node : s.node ≡ number_of problem (op_of s.event)
   pub inside : s.node < length network.lowers
-  pub longest : IsLongest network.lowers network.arcs s.node s.event.time
+  pub longest : IsLongestLength network.lowers network.arcs s.node s.event.time
 
 -- how many of the stops are at a node
 abbrev pub stops_at : ℕ → List Stop → ℕ
@@ -45,7 +45,7 @@ pub record AreMarkedNodes (stops : List Stop) (marks : List Bool) : Type 0 where
 -- an arc leads to the stop from one of these
 abbrev pub IsBlocked : List Arc → List Stop → Stop → Type 0
 IsBlocked arcs rest s =
-    (other : Stop) × Contains rest other × IsJoined arcs other.node s.node
+    (other : Stop) × Contains rest other × JoinsPair arcs other.node s.node
 
 -- of those to which no arc leads from one of the rest, none comes before the stop, and it is one
 pub record IsFirstFree (arcs : List Arc) (rest : List Stop) (s : Stop) : Type 0 where
@@ -54,13 +54,13 @@ pub record IsFirstFree (arcs : List Arc) (rest : List Stop) (s : Stop) : Type 0 
       → ComesBefore other.event s.event → ⊥
 
 -- each is the first free one of those from it on, which end with the rest
-abbrev pub AreArranged : List Arc → List Stop → List Stop → Type 0
-AreArranged arcs [] rest = Unit {0}
-AreArranged arcs (s ∷ plan) rest =
-    IsFirstFree arcs (s ∷ plan ++ rest) s × AreArranged arcs plan rest
+abbrev pub AreStopsArranged : List Arc → List Stop → List Stop → Type 0
+AreStopsArranged arcs [] rest = Unit {0}
+AreStopsArranged arcs (s ∷ plan) rest =
+    IsFirstFree arcs (s ∷ plan ++ rest) s × AreStopsArranged arcs plan rest
 
 -- stops that are left, in falling order, and the marks on their nodes
-pub record AreLeft (network : Network) (rest : List Stop) (marks : List Bool) : Type 0 where
+pub record AreStopsLeft (network : Network) (rest : List Stop) (marks : List Bool) : Type 0 where
   pub nodes : All (λ s. s.node < length network.lowers) rest
   pub once : AreOnce rest
   pub falling : AllPairs (λ s t. ComesBefore s.event t.event → ⊥) rest

@@ -2,7 +2,7 @@ ghost use Rattle.std.specs.Prelude.{◌≡◌, ℕ, ◌+◌, ◌<◌, ◌≤◌,
 ghost use Rattle.std.specs.List.{remove};
 ghost use Rattle.std.specs.List.Sorted.{IsPermutation};
 ghost use Rattle.plan_builder.specs.declared.stop.Stop.{Stop};
-ghost use Rattle.plan_builder.specs.Stops.{AreOnce, AreMarkedNodes, IsBlocked, IsFirstFree, AreLeft, AreArranged};
+ghost use Rattle.plan_builder.specs.Stops.{AreOnce, AreMarkedNodes, IsBlocked, IsFirstFree, AreStopsLeft, AreStopsArranged};
 
 use crate::order::last_first;
 use crate::stop::Stop;
@@ -48,8 +48,8 @@ fn last_free(rest: &[Stop], waiting: &[bool], paths: &Paths) -> Option<usize>
 /// Takes out the first stop, which are in falling order, to which no arc leads from another.
 fn take_first(rest: &mut Vec<Stop>, waiting: &mut [bool], paths: &Paths) -> Stop
     requires some { 0 < length rest.old.items }
-    requires left { AreLeft paths.now rest.old.items waiting.old }
-    ensures left { AreLeft paths.now rest.new.items waiting.new }
+    requires left { AreStopsLeft paths.now rest.old.items waiting.old }
+    ensures left { AreStopsLeft paths.now rest.new.items waiting.new }
     ensures taken { (place : ℕ) × (place < length rest.old.items)
         × (result ≡ slice_index_or rest.old.items place result)
         × (rest.new.items ≡ remove rest.old.items place) }
@@ -69,7 +69,7 @@ pub(crate) fn arrange(alloc: Global, stops: Vec<Stop>, paths: &Paths) -> Result<
     requires nodes { All (λ s. s.node < length paths.now.lowers) stops.items }
     requires once { AreOnce stops.items }
     ensures same { IfOk result (λ plan. IsPermutation stops.items plan.items) }
-    ensures arranged { IfOk result (λ plan. AreArranged paths.now.arcs plan.items []) }
+    ensures arranged { IfOk result (λ plan. AreStopsArranged paths.now.arcs plan.items []) }
 {
     let count = stops.len();
     let mut rest = last_first(stops)?;

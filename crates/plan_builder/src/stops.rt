@@ -3,7 +3,7 @@ ghost use Rattle.disp_model.specs.declared.train.Operation.{Operation};
 ghost use Rattle.disp_model.specs.declared.problem.Problem.{Problem};
 ghost use Rattle.disp_model.specs.WellFormed.{operation_count};
 ghost use Rattle.disp_model.specs.Earliest.{op_of};
-ghost use Rattle.incremental_paths.specs.Walks.{IsLongest};
+ghost use Rattle.incremental_paths.specs.Walks.{IsLongestLength};
 ghost use Rattle.plan_builder.specs.Shown.{FitTrains};
 ghost use Rattle.plan_builder.specs.Stops.{IsStop, op_on, ops_from};
 
@@ -18,7 +18,7 @@ fn stop_of(train: u32, first: u32, operation: u32, paths: &Paths) -> Stop
     requires node { first + operation < length paths.now.lowers }
     ensures op { op_of result.event ≡ op_on train operation }
     ensures node { result.node ≡ first + operation }
-    ensures longest { IsLongest paths.now.lowers paths.now.arcs result.node result.event.time }
+    ensures longest { IsLongestLength paths.now.lowers paths.now.arcs result.node result.event.time }
 {
     let node = first + operation;
     Stop {

@@ -22,8 +22,8 @@ listed text (x ∷ xs) = codes "[" ++ text x ++ flat_map (behind_comma text) xs 
 abbrev pub name_text : List (List ℕ) → ℕ → List ℕ
 name_text names resource = compact_text (string (slice_index_or names resource []))
 
-abbrev pub listing_text : List (List ℕ) → Listing → List ℕ
-listing_text names l =
+abbrev pub written_listing : List (List ℕ) → Listing → List ℕ
+written_listing names l =
     codes "{\"release_time\":" ++ decimal l.release ++ codes ",\"resource\":"
     ++ name_text names l.resource ++ codes "}"
 
@@ -32,17 +32,17 @@ abbrev pub upper_text : Option ℕ → List ℕ
 upper_text None = []
 upper_text (Some upper) = codes ",\"start_ub\":" ++ decimal upper
 
-abbrev pub operation_text : List (List ℕ) → Operation → List ℕ
-operation_text names o =
+abbrev pub written_operation : List (List ℕ) → Operation → List ℕ
+written_operation names o =
     codes "{\"min_duration\":" ++ decimal o.min ++ codes ",\"resources\":"
-    ++ listed (listing_text names) o.listings ++ codes ",\"start_lb\":" ++ decimal o.lower
+    ++ listed (written_listing names) o.listings ++ codes ",\"start_lb\":" ++ decimal o.lower
     ++ upper_text o.upper ++ codes ",\"successors\":" ++ listed decimal o.next ++ codes "}"
 
-abbrev pub train_text : List (List ℕ) → List Operation → List ℕ
-train_text names train = listed (operation_text names) train
+abbrev pub written_train : List (List ℕ) → List Operation → List ℕ
+written_train names train = listed (written_operation names) train
 
-abbrev pub component_text : Component → List ℕ
-component_text c =
+abbrev pub written_component : Component → List ℕ
+written_component c =
     codes "{\"coeff\":" ++ decimal c.coeff ++ codes ",\"increment\":" ++ decimal c.increment
     ++ codes ",\"operation\":" ++ decimal c.operation ++ codes ",\"threshold\":"
     ++ decimal c.threshold ++ codes ",\"train\":" ++ decimal c.train
@@ -51,5 +51,5 @@ component_text c =
 -- a problem
 abbrev pub problem_text : Problem → List ℕ
 problem_text problem =
-    codes "{\"objective\":" ++ listed component_text problem.components ++ codes ",\"trains\":"
-    ++ listed (train_text problem.names) problem.trains ++ codes "}"
+    codes "{\"objective\":" ++ listed written_component problem.components ++ codes ",\"trains\":"
+    ++ listed (written_train problem.names) problem.trains ++ codes "}"

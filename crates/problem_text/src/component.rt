@@ -2,7 +2,7 @@
 ghost use Rattle.std.specs.Prelude.{◌≡◌, OnOk, string_bytes};
 ghost use Rattle.std.specs.List.{flat_map};
 ghost use Rattle.plain_values.specs.Texts.{Adds};
-ghost use Rattle.problem_text.specs.Texts.{behind_comma, listed, component_text};
+ghost use Rattle.problem_text.specs.Texts.{behind_comma, listed, written_component};
 
 use crate::numbers::push_number;
 use disp_model::{Component, Memory};
@@ -11,7 +11,7 @@ use plain_values::push_text;
 /// Adds a component.
 fn push_component(text: &mut String, component: &Component) -> Result<(), Memory>
     ensures { OnOk result (Adds (string_bytes text.old) (string_bytes text.new)
-        (component_text component.now)) }
+        (written_component component.now)) }
 {
     push_text(text, "{\"coeff\":")?;
     push_number(text, component.coeff)?;
@@ -30,7 +30,7 @@ fn push_component(text: &mut String, component: &Component) -> Result<(), Memory
 /// Adds components that stand behind another one.
 fn push_next_components(text: &mut String, components: &[Component]) -> Result<(), Memory>
     ensures { OnOk result (Adds (string_bytes text.old) (string_bytes text.new)
-        (flat_map (behind_comma component_text) components.now)) }
+        (flat_map (behind_comma written_component) components.now)) }
 {
     for component in components {
         push_text(text, ",")?;
@@ -42,7 +42,7 @@ fn push_next_components(text: &mut String, components: &[Component]) -> Result<(
 /// Adds a list of components.
 pub(crate) fn push_components(text: &mut String, components: &[Component]) -> Result<(), Memory>
     ensures { OnOk result (Adds (string_bytes text.old) (string_bytes text.new)
-        (listed component_text components.now)) }
+        (listed written_component components.now)) }
 {
     let Some((first, others)) = components.split_first() else {
         return push_text(text, "[]");

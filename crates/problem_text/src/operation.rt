@@ -2,8 +2,8 @@
 ghost use Rattle.std.specs.Prelude.{◌≡◌, IfOk, OnOk, string_bytes};
 ghost use Rattle.std.specs.List.{flat_map};
 ghost use Rattle.plain_values.specs.Texts.{Adds};
-ghost use Rattle.problem_text.specs.Texts.{behind_comma, listed, name_text, listing_text};
-ghost use Rattle.problem_text.specs.Texts.{upper_text, operation_text, train_text};
+ghost use Rattle.problem_text.specs.Texts.{behind_comma, listed, name_text, written_listing};
+ghost use Rattle.problem_text.specs.Texts.{upper_text, written_operation, written_train};
 
 use crate::numbers::{push_number, push_numbers};
 use disp_model::{Listing, Memory, Operation, Text};
@@ -40,7 +40,7 @@ fn push_listing(
     listing: &Listing,
 ) -> Result<(), Memory>
     ensures { OnOk result (Adds (string_bytes text.old) (string_bytes text.new)
-        (listing_text names.now listing.now)) }
+        (written_listing names.now listing.now)) }
 {
     push_text(text, "{\"release_time\":")?;
     push_number(text, listing.release)?;
@@ -58,7 +58,7 @@ fn push_next_listings(
     listings: &[Listing],
 ) -> Result<(), Memory>
     ensures { OnOk result (Adds (string_bytes text.old) (string_bytes text.new)
-        (flat_map (behind_comma (listing_text names.now)) listings.now)) }
+        (flat_map (behind_comma (written_listing names.now)) listings.now)) }
 {
     for listing in listings {
         push_text(text, ",")?;
@@ -75,7 +75,7 @@ fn push_listings(
     listings: &[Listing],
 ) -> Result<(), Memory>
     ensures { OnOk result (Adds (string_bytes text.old) (string_bytes text.new)
-        (listed (listing_text names.now) listings.now)) }
+        (listed (written_listing names.now) listings.now)) }
 {
     let Some((first, others)) = listings.split_first() else {
         return push_text(text, "[]");
@@ -109,7 +109,7 @@ fn push_operation(
     operation: &Operation,
 ) -> Result<(), Memory>
     ensures { OnOk result (Adds (string_bytes text.old) (string_bytes text.new)
-        (operation_text names.now operation.now)) }
+        (written_operation names.now operation.now)) }
 {
     push_text(text, "{\"min_duration\":")?;
     push_number(text, operation.min)?;
@@ -132,7 +132,7 @@ fn push_next_operations(
     operations: &[Operation],
 ) -> Result<(), Memory>
     ensures { OnOk result (Adds (string_bytes text.old) (string_bytes text.new)
-        (flat_map (behind_comma (operation_text names.now)) operations.now)) }
+        (flat_map (behind_comma (written_operation names.now)) operations.now)) }
 {
     for operation in operations {
         push_text(text, ",")?;
@@ -149,7 +149,7 @@ pub(crate) fn push_train(
     train: &[Operation],
 ) -> Result<(), Memory>
     ensures { OnOk result (Adds (string_bytes text.old) (string_bytes text.new)
-        (train_text names.now train.now)) }
+        (written_train names.now train.now)) }
 {
     let Some((first, others)) = train.split_first() else {
         return push_text(text, "[]");

@@ -1,7 +1,7 @@
 ghost use Rattle.std.specs.Prelude.{◌≡◌, IfOk, OnOk, string_bytes};
 ghost use Rattle.std.specs.List.{flat_map};
 ghost use Rattle.plain_values.specs.Texts.{Adds};
-ghost use Rattle.problem_text.specs.Texts.{behind_comma, listed, train_text, problem_text};
+ghost use Rattle.problem_text.specs.Texts.{behind_comma, listed, written_train, problem_text};
 
 use crate::component::push_components;
 use crate::operation::push_train;
@@ -17,7 +17,7 @@ fn push_next_trains(
     trains: &[Train],
 ) -> Result<(), Memory>
     ensures { OnOk result (Adds (string_bytes text.old) (string_bytes text.new)
-        (flat_map (behind_comma (train_text names.now)) trains.now)) }
+        (flat_map (behind_comma (written_train names.now)) trains.now)) }
 {
     for train in trains {
         push_text(text, ",")?;
@@ -34,7 +34,7 @@ fn push_trains(
     trains: &[Train],
 ) -> Result<(), Memory>
     ensures { OnOk result (Adds (string_bytes text.old) (string_bytes text.new)
-        (listed (train_text names.now) trains.now)) }
+        (listed (written_train names.now) trains.now)) }
 {
     let Some((first, others)) = trains.split_first() else {
         return push_text(text, "[]");

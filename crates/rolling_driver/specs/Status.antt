@@ -9,11 +9,11 @@ use Rattle.journal_printer.specs.declared.no.PrintNo.{PrintNo}
 use Rattle.journal_printer.specs.declared.no.PrintNo.TheVariants.{Unput, Unwritten, Memory}
 
 -- the status for a mark
-abbrev pub status_of_mark : Mark → ℕ
-status_of_mark Working = 5
-status_of_mark (Optimal cost) = 0
-status_of_mark Infeasible = 1
-status_of_mark (Stopped spent bound) = 3
+abbrev pub roll_status_of_mark : Mark → ℕ
+roll_status_of_mark Working = 5
+roll_status_of_mark (Optimal cost) = 0
+roll_status_of_mark Infeasible = 1
+roll_status_of_mark (Stopped spent bound) = 3
 
 -- memory ran out where the printing stopped or a feed was read, or an edition is still worked on
 abbrev pub WantsMemory : Mark → List Reading → Result (Unit {0}) PrintNo → Type 0
@@ -32,7 +32,7 @@ IsOtherStatus mark readings printed status =
     (Contains readings reading.TooMany × (status ≡ 2))
     ⊎ ((Contains readings reading.TooMany → ⊥)
     × ((HasFailed readings printed × (status ≡ 4))
-    ⊎ ((HasFailed readings printed → ⊥) × (status ≡ status_of_mark mark))))
+    ⊎ ((HasFailed readings printed → ⊥) × (status ≡ roll_status_of_mark mark))))
 
 abbrev pub IsStatus : Mark → List Reading → Result (Unit {0}) PrintNo → ℕ → Type 0
 IsStatus mark readings printed status = (WantsMemory mark readings printed × (status ≡ 5))

@@ -1,6 +1,6 @@
 ghost use Rattle.std.specs.Prelude.{◌≡◌, ◌↔◌, List, IsTrue, Any, map};
 ghost use Rattle.feed_reader.specs.declared.read.Reading.{Reading as ReadingOf};
-ghost use Rattle.rolling_driver.specs.Status.{AreEnded, HasFailed, IsStatus, WantsMemory, status_of_mark};
+ghost use Rattle.rolling_driver.specs.Status.{AreEnded, HasFailed, IsStatus, WantsMemory, roll_status_of_mark};
 
 use disp_model::Mark;
 use feed_reader::Reading;
@@ -50,7 +50,7 @@ pub(crate) fn ended_of<F>(readers: &[Reader<F>]) -> Ended
 
 /// The status for a mark that is not worked on any more.
 fn status_of_mark(mark: Mark) -> u8
-    ensures { result ≡ status_of_mark mark }
+    ensures { result ≡ roll_status_of_mark mark }
 {
     match mark {
         Mark::Working => 5,

@@ -7,12 +7,12 @@ use Rattle.disp_model.specs.declared.train.Operation.{Operation}
 use Rattle.disp_laws.proofs.Paths.{IsIn}
 use Rattle.train_orders.proofs.Places.{contains_none}
 use Rattle.train_orders.proofs.Ordered.{contains_here}
-use Rattle.route_marks.specs.Ways.{Steps, Goes, IsWalk, Chain, last_of}
+use Rattle.route_marks.specs.Ways.{StepsAlong, Goes, IsRowWalk, Chain, last_of}
 use Rattle.route_marks.specs.Marks.{IsLaid}
 
 -- ---- chains and walks, joined and parted
 
-pub chain_more : (order : List ℕ) (rows : List (List ℕ)) (o : ℕ) (front : List ℕ) (z s : ℕ) → Chain order rows o front z → Steps order rows z s → Chain order rows o (front ++ z ∷ []) s
+pub chain_more : (order : List ℕ) (rows : List (List ℕ)) (o : ℕ) (front : List ℕ) (z s : ℕ) → Chain order rows o front z → StepsAlong order rows z s → Chain order rows o (front ++ z ∷ []) s
 chain_more order rows o [] z s chain step = (chain, (s, step, refl))
 chain_more order rows o (p ∷ front) z s chain step = (chain.0, (chain.1.0, chain.1.1, chain_more order rows chain.1.0 front z s chain.1.2 step))
 
@@ -21,41 +21,41 @@ pub record LastStep (order : List ℕ) (rows : List (List ℕ)) (o : ℕ) (front
   pub op : ℕ
   pub is : front ≡ before ++ op ∷ []
   pub chain : Chain order rows o before op
-  pub steps : Steps order rows op z
+  pub steps : StepsAlong order rows op z
 
 pub chain_last : (order : List ℕ) (rows : List (List ℕ)) (o : ℕ) (front : List ℕ) (z : ℕ) → Chain order rows o front z → ((front ≡ []) × (o ≡ z)) ⊎ LastStep order rows o front z
 chain_last order rows o [] z chain = inl (refl, chain)
 chain_last order rows o (p ∷ front) z chain = by (chain_last order rows chain.1.0 front z chain.1.2)
   where
     by : ((front ≡ []) × (chain.1.0 ≡ z)) ⊎ LastStep order rows chain.1.0 front z → ((p ∷ front ≡ []) × (o ≡ z)) ⊎ LastStep order rows o (p ∷ front) z
-    by (inl h) = inr (record { before = []; op = p; is = ap (λ (l : List ℕ). p ∷ l) h.0; chain = chain.0; steps = subst (λ (x : ℕ). Steps order rows p x) h.1 chain.1.1 })
+    by (inl h) = inr (record { before = []; op = p; is = ap (λ (l : List ℕ). p ∷ l) h.0; chain = chain.0; steps = subst (λ (x : ℕ). StepsAlong order rows p x) h.1 chain.1.1 })
     by (inr last) = inr (record { before = p ∷ last.before; op = last.op; is = ap (λ (l : List ℕ). p ∷ l) last.is; chain = (chain.0, (chain.1.0, chain.1.1, last.chain)); steps = last.steps })
 
-walk_goes : (order : List ℕ) (rows : List (List ℕ)) (p s : ℕ) (route : List ℕ) → Steps order rows p s → IsWalk order rows s route → Goes order rows p route
+walk_goes : (order : List ℕ) (rows : List (List ℕ)) (p s : ℕ) (route : List ℕ) → StepsAlong order rows p s → IsRowWalk order rows s route → Goes order rows p route
 walk_goes order rows p s [] step walk = absurd walk
-walk_goes order rows p s (q ∷ rest) step walk = (subst (λ (x : ℕ). Steps order rows p x) walk.0 step, walk.1)
+walk_goes order rows p s (q ∷ rest) step walk = (subst (λ (x : ℕ). StepsAlong order rows p x) walk.0 step, walk.1)
 
-pub chain_walk : (order : List ℕ) (rows : List (List ℕ)) (e : ℕ) (front : List ℕ) (z : ℕ) (rest : List ℕ) → Chain order rows e front z → Goes order rows z rest → IsWalk order rows e (front ++ z ∷ rest)
+pub chain_walk : (order : List ℕ) (rows : List (List ℕ)) (e : ℕ) (front : List ℕ) (z : ℕ) (rest : List ℕ) → Chain order rows e front z → Goes order rows z rest → IsRowWalk order rows e (front ++ z ∷ rest)
 chain_walk order rows e [] z rest chain goes = (chain, goes)
 chain_walk order rows e (p ∷ front) z rest chain goes = (chain.0, walk_goes order rows p chain.1.0 (front ++ z ∷ rest) chain.1.1 (chain_walk order rows chain.1.0 front z rest chain.1.2 goes))
 
-pub walk_parts : (order : List ℕ) (rows : List (List ℕ)) (e : ℕ) (front : List ℕ) (z : ℕ) (rest : List ℕ) → IsWalk order rows e (front ++ z ∷ rest) → Chain order rows e front z × Goes order rows z rest
+pub walk_parts : (order : List ℕ) (rows : List (List ℕ)) (e : ℕ) (front : List ℕ) (z : ℕ) (rest : List ℕ) → IsRowWalk order rows e (front ++ z ∷ rest) → Chain order rows e front z × Goes order rows z rest
 walk_parts order rows e [] z rest walk = (walk.0, walk.1)
 walk_parts order rows e (p ∷ []) z rest walk = ((walk.0, (z, walk.1.0, refl)), walk.1.1)
 walk_parts order rows e (p ∷ q ∷ front) z rest walk =
-    let behind : IsWalk order rows q (q ∷ (front ++ z ∷ rest)) = (refl, walk.1.1) in
+    let behind : IsRowWalk order rows q (q ∷ (front ++ z ∷ rest)) = (refl, walk.1.1) in
     let parts = walk_parts order rows q (q ∷ front) z rest behind in
     ((walk.0, (q, walk.1.0, parts.0)), parts.1)
 
 -- ---- rows and steps
 
-pub steps_row : (train : List Operation) (order : List ℕ) (rows : List (List ℕ)) (k o s : ℕ) (row : List ℕ) → IsLaid train order rows → slice_get order k ≡ Some o → slice_get rows k ≡ Some row → Steps order rows o s → Contains row s
+pub steps_row : (train : List Operation) (order : List ℕ) (rows : List (List ℕ)) (k o s : ℕ) (row : List ℕ) → IsLaid train order rows → slice_get order k ≡ Some o → slice_get rows k ≡ Some row → StepsAlong order rows o s → Contains row s
 steps_row train order rows k o s row laid here row_is step =
     let place : step.place ≡ k = laid.one_place step.place k o step.here here in
     let same : step.row ≡ row = same_Some step.row row (sym step.row_is ∙ subst (λ (n : ℕ). slice_get rows n ≡ Some row) (sym place) row_is) in
     subst (λ (l : List ℕ). Contains l s) same step.has
 
-pub row_steps : (order : List ℕ) (rows : List (List ℕ)) (k o s : ℕ) (row : List ℕ) → slice_get order k ≡ Some o → slice_get rows k ≡ Some row → Contains row s → Steps order rows o s
+pub row_steps : (order : List ℕ) (rows : List (List ℕ)) (k o s : ℕ) (row : List ℕ) → slice_get order k ≡ Some o → slice_get rows k ≡ Some row → Contains row s → StepsAlong order rows o s
 row_steps order rows k o s row here row_is has = record { place = k; row = row; here = here; row_is = row_is; has = has }
 
 pub row_within : (train : List Operation) (order : List ℕ) (rows : List (List ℕ)) (k o : ℕ) (row : List ℕ) → IsLaid train order rows → slice_get order k ≡ Some o → slice_get rows k ≡ Some row → All (λ s. s < length train) row

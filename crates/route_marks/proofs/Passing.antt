@@ -15,8 +15,8 @@ use Rattle.disp_laws.proofs.LeastSums.{parted}
 use Rattle.train_orders.proofs.Places.{set_at, set_elsewhere, same_number}
 use Rattle.train_orders.proofs.Ordered.{contains_here, contains_later}
 use Rattle.route_marks.specs.declared.marks.Mark.{Mark}
-use Rattle.route_marks.specs.Ways.{Steps, Goes, IsWalk, Chain, IsLeast, IsOnEach, last_of}
-use Rattle.route_marks.specs.Marks.{ArePlaces, IsLaid, Relaxes, IsLowest, IsOnly, Makes, IsMark, mark_at, Crosses, IsPass, Enters}
+use Rattle.route_marks.specs.Ways.{StepsAlong, Goes, IsRowWalk, Chain, IsLeastOnRows, IsOnEach, last_of}
+use Rattle.route_marks.specs.Marks.{ArePlaces, IsLaid, Relaxes, IsLowest, IsOnly, Makes, IsMark, mark_at, Crosses, IsPass, MarksEntered}
 use Rattle.route_marks.proofs.Chaining.{chain_more, LastStep, chain_last, chain_walk, walk_parts, steps_row, row_steps, goes_on, goes_below, chain_above, ending, last_here}
 
 -- ---- sums and marks
@@ -32,7 +32,7 @@ all_row : (row : List ℕ) (s : ℕ) → ((q : ℕ) → Contains row q → q ≡
 all_row row s says k d lt = says (get_or row k d) (Contains-get_or row k d lt)
 
 only_steps : (train : List Operation) (order : List ℕ) (rows : List (List ℕ)) (k o : ℕ) (row : List ℕ) (next : Option ℕ) → IsLaid train order rows → slice_get order k ≡ Some o → slice_get rows k ≡ Some row → IsOnly row next
-    → (s : ℕ) → (next ≡ Some s) ↔ (Steps order rows o s × ((q : ℕ) → Steps order rows o q → q ≡ s))
+    → (s : ℕ) → (next ≡ Some s) ↔ (StepsAlong order rows o s × ((q : ℕ) → StepsAlong order rows o q → q ≡ s))
 only_steps train order rows k o row next laid here row_is only s = (
   λ e. let found = (only s).0 e in (row_steps order rows k o s row here row_is found.0, λ q step. All-contains (λ q. q ≡ s) row q found.1 (steps_row train order rows k o q row laid here row_is step)),
   λ h. (only s).1 (steps_row train order rows k o s row laid here row_is h.0, all_row row s (λ q there. h.1 q (row_steps order rows k o q row here row_is there))),
@@ -54,7 +54,7 @@ at_most train order rows place at sums reach marks front is chain = by (chain_la
     by (inl h) = let start = is.pass.starts in (start.0, subst (λ (x : ℕ). slice_get sums x ≡ Some (Some start.0)) h.1 start.1, omega (arith, start.2))
     by (inr last) = before last.op last.before last.is last.chain last.steps last.steps.place last.steps.here
       where
-        before : (p : ℕ) (early : List ℕ) → front ≡ early ++ p ∷ [] → Chain order rows (last_of order) early p → Steps order rows p at → (k : ℕ) → slice_get order k ≡ Some p
+        before : (p : ℕ) (early : List ℕ) → front ≡ early ++ p ∷ [] → Chain order rows (last_of order) early p → StepsAlong order rows p at → (k : ℕ) → slice_get order k ≡ Some p
             → (n : ℕ) × (slice_get sums at ≡ Some (Some n)) × (n ≤ sum_by (duration_of train) front)
         before p early e chain step k on =
             let down = is.laid.down k p at on step in
@@ -146,9 +146,9 @@ none_on : (train : List Operation) (order : List ℕ) (rows : List (List ℕ)) (
 none_on train order rows place at sums reach marks is none each =
     let last = last_here train order rows is.laid in
     let way = goes_on train order rows last.0 (last_of order) is.laid last.2 in
-    let walk : IsWalk order rows (last_of order) (last_of order ∷ way.0) = (refl, way.1) in
+    let walk : IsRowWalk order rows (last_of order) (last_of order ∷ way.0) = (refl, way.1) in
     let part = parted at (last_of order ∷ way.0) (is_in at (last_of order ∷ way.0) (each (last_of order ∷ way.0) walk)) in
-    none part.before (walk_parts order rows (last_of order) part.before at part.rest (subst (IsWalk order rows (last_of order)) part.is walk)).0
+    none part.before (walk_parts order rows (last_of order) part.before at part.rest (subst (IsRowWalk order rows (last_of order)) part.is walk)).0
 
 -- ---- an operation that no chain leads to
 
@@ -223,7 +223,7 @@ visits train order places rows place at sum through row sums reach marks new lea
   ];
   far = λ k p s j front on le chain step onto. elim (cases_lt place k) [
     | inl over ↦ omega (arith, lowest.most, pass.far k p s j front on (omega (arith, over)) chain step onto)
-    | inr ge ↦ omega (arith, lowest.each s (steps_row train order rows place at s row laid here is.row_is (subst (λ (x : ℕ). Steps order rows x s) (own k p on le ge) step)), is.are_places.at j s onto)
+    | inr ge ↦ omega (arith, lowest.each s (steps_row train order rows place at s row laid here is.row_is (subst (λ (x : ℕ). StepsAlong order rows x s) (own k p on le ge) step)), is.are_places.at j s onto)
   ];
   near = elim lowest.from [
     | inl same ↦ nearer same pass.near
@@ -250,7 +250,7 @@ visits train order places rows place at sum through row sums reach marks new lea
     own_front : (front : List ℕ) × Chain order rows (last_of order) front at × (sum ≡ sum_by (duration_of train) front)
     own_front = pass.sound at sum is.has
 
-    least_here : IsLeast train order rows (last_of order) at sum
+    least_here : IsLeastOnRows train order rows (last_of order) at sum
     least_here = record {
       reached = own_front;
       at_most = λ front chain.
@@ -259,10 +259,10 @@ visits train order places rows place at sum through row sums reach marks new lea
           omega (arith, known.2, same);
     }
 
-    known_here : (k p s : ℕ) (front : List ℕ) → slice_get order k ≡ Some p → p ≡ at → Chain order rows (last_of order) front p → Steps order rows p s
+    known_here : (k p s : ℕ) (front : List ℕ) → slice_get order k ≡ Some p → p ≡ at → Chain order rows (last_of order) front p → StepsAlong order rows p s
         → (n : ℕ) × (slice_get new s ≡ Some (Some n)) × (n ≤ sum_by (duration_of train) (front ++ p ∷ []))
     known_here k p s front on same chain step =
-        let lower = relaxed.lower s (steps_row train order rows place at s row laid here is.row_is (subst (λ (x : ℕ). Steps order rows x s) same step)) in
+        let lower = relaxed.lower s (steps_row train order rows place at s row laid here is.row_is (subst (λ (x : ℕ). StepsAlong order rows x s) same step)) in
         let most = least_here.at_most front (subst (λ (x : ℕ). Chain order rows (last_of order) front x) same chain) in
         (lower.0, lower.1, omega (arith, lower.2, most, is.through_is, sum_more train front p, ap (duration_of train) same))
 
@@ -287,7 +287,7 @@ visits train order places rows place at sum through row sums reach marks new lea
     is_mark m makes = record {
       place = subst (λ (n : ℕ). slice_get order n ≡ Some at) (sym makes.place_is) here;
       each = on_each train order rows place at sums reach marks own_front.0 is.is_at makes.reached own_front.1;
-      sum = subst (λ (n : ℕ). IsLeast train order rows (last_of order) at n) (sym makes.sum_is) least_here;
+      sum = subst (λ (n : ℕ). IsLeastOnRows train order rows (last_of order) at n) (sym makes.sum_is) least_here;
       next = only_steps train order rows place at row m.next laid here is.row_is makes.next_is;
     }
 
@@ -310,7 +310,7 @@ none_mark zero o = refl
 none_mark (suc n) zero = refl
 none_mark (suc n) (suc o) = none_mark n o
 
-pub enters : (train : List Operation) (order : List ℕ) (rows : List (List ℕ)) (left : ℕ) (sums : List (Option ℕ)) (reach : ℕ) (marks : List (Option Mark)) → IsLaid train order rows → left ≡ length order → Enters train order sums reach marks
+pub enters : (train : List Operation) (order : List ℕ) (rows : List (List ℕ)) (left : ℕ) (sums : List (Option ℕ)) (reach : ℕ) (marks : List (Option Mark)) → IsLaid train order rows → left ≡ length order → MarksEntered train order sums reach marks
     → IsPass train order rows left sums reach marks
 enters train order rows left sums reach marks laid all is = record {
   sums_long = ap (λ (l : List (Option ℕ)). length l) is.sums_are ∙ length-set (replicate (length train) None) e (Some 0) ∙ length-replicate (length train) None;

@@ -3,7 +3,7 @@ use Rattle.std.specs.Prelude.{◌≡◌, ◌↔◌, ◌⊎◌, ℕ, ◌+◌, ◌
 use Rattle.disp_model.specs.declared.train.Operation.{Operation}
 use Rattle.disp_model.specs.Train.{duration_of}
 use Rattle.route_marks.specs.declared.marks.Mark.{Mark}
-use Rattle.route_marks.specs.Ways.{Steps, Goes, Chain, IsLeast, IsOnEach, last_of}
+use Rattle.route_marks.specs.Ways.{StepsAlong, Goes, Chain, IsLeastOnRows, IsOnEach, last_of}
 
 -- where each operation of the order stands
 pub record ArePlaces (train : List Operation) (order places : List ℕ) : Type 0 where
@@ -18,7 +18,7 @@ pub record IsLaid (train : List Operation) (order : List ℕ) (rows : List (List
   pub long : length rows ≡ length order
   pub within : (k o : ℕ) → slice_get order k ≡ Some o → o < length train
   pub one_place : (i j o : ℕ) → slice_get order i ≡ Some o → slice_get order j ≡ Some o → i ≡ j
-  pub down : (k o s : ℕ) → slice_get order k ≡ Some o → Steps order rows o s → (j : ℕ) × (j < k) × (slice_get order j ≡ Some s)
+  pub down : (k o s : ℕ) → slice_get order k ≡ Some o → StepsAlong order rows o s → (j : ℕ) × (j < k) × (slice_get order j ≡ Some s)
   pub one_end : (o z : ℕ) (front other : List ℕ) → Chain order rows (last_of order) front o → Chain order rows (last_of order) other z → Goes order rows o [] → Goes order rows z [] → o ≡ z
 
 -- the least of a sum that may be known and one that is
@@ -54,15 +54,15 @@ pub record Makes (reach place sum : ℕ) (row : List ℕ) (mark : Mark) : Type 0
 pub record IsMark (train : List Operation) (order : List ℕ) (rows : List (List ℕ)) (o : ℕ) (mark : Mark) : Type 0 where
   pub place : slice_get order mark.place ≡ Some o
   pub each : IsOnEach order rows (last_of order) o
-  pub sum : IsLeast train order rows (last_of order) o mark.sum
-  pub next : (s : ℕ) → (mark.next ≡ Some s) ↔ (Steps order rows o s × ((q : ℕ) → Steps order rows o q → q ≡ s))
+  pub sum : IsLeastOnRows train order rows (last_of order) o mark.sum
+  pub next : (s : ℕ) → (mark.next ≡ Some s) ↔ (StepsAlong order rows o s × ((q : ℕ) → StepsAlong order rows o q → q ≡ s))
 
 abbrev pub mark_at : List (Option Mark) → ℕ → Option Mark
 mark_at marks o = slice_index_or marks o None
 
 -- the marks of the operations from a place of the order on: of those that each walk has
-abbrev pub AreMarks : List Operation → List ℕ → List (List ℕ) → ℕ → List (Option Mark) → Type 0
-AreMarks train order rows left marks =
+abbrev pub AreRouteMarks : List Operation → List ℕ → List (List ℕ) → ℕ → List (Option Mark) → Type 0
+AreRouteMarks train order rows left marks =
     (k o : ℕ) → slice_get order k ≡ Some o → left ≤ k → MatchOption (mark_at marks o) (IsOnEach order rows (last_of order) o → ⊥) (IsMark train order rows o)
 
 -- a step from an operation that the pass has come to, onto an operation at a place
@@ -74,7 +74,7 @@ pub record Crosses (order : List ℕ) (rows : List (List ℕ)) (left goal : ℕ)
   pub here : slice_get order place ≡ Some op
   pub passed : left ≤ place
   pub chain : Chain order rows (last_of order) front op
-  pub steps : Steps order rows op next
+  pub steps : StepsAlong order rows op next
   pub onto : slice_get order goal ≡ Some next
 
 -- how far a pass has come: down to a place of the order
@@ -85,14 +85,14 @@ pub record IsPass (train : List Operation) (order : List ℕ) (rows : List (List
   pub bound : (o n : ℕ) → slice_get sums o ≡ Some (Some n) → n + left * 2 ^ 32 ≤ length order * 2 ^ 32
   pub sound : (o n : ℕ) → slice_get sums o ≡ Some (Some n) → (front : List ℕ) × Chain order rows (last_of order) front o × (n ≡ sum_by (duration_of train) front)
   pub starts : (n : ℕ) × (slice_get sums (last_of order) ≡ Some (Some n)) × (n ≡ 0)
-  pub known : (k p s : ℕ) (front : List ℕ) → slice_get order k ≡ Some p → left ≤ k → Chain order rows (last_of order) front p → Steps order rows p s
+  pub known : (k p s : ℕ) (front : List ℕ) → slice_get order k ≡ Some p → left ≤ k → Chain order rows (last_of order) front p → StepsAlong order rows p s
       → (n : ℕ) × (slice_get sums s ≡ Some (Some n)) × (n ≤ sum_by (duration_of train) (front ++ p ∷ []))
-  pub far : (k p s j : ℕ) (front : List ℕ) → slice_get order k ≡ Some p → left ≤ k → Chain order rows (last_of order) front p → Steps order rows p s → slice_get order j ≡ Some s → reach ≤ j
+  pub far : (k p s j : ℕ) (front : List ℕ) → slice_get order k ≡ Some p → left ≤ k → Chain order rows (last_of order) front p → StepsAlong order rows p s → slice_get order j ≡ Some s → reach ≤ j
   pub near : (reach + 1 ≡ length order) ⊎ Crosses order rows left reach
-  pub are_marks : AreMarks train order rows left marks
+  pub are_marks : AreRouteMarks train order rows left marks
 
 -- the sums, the place and the marks of a pass that is at the last operation of the order
-pub record Enters (train : List Operation) (order : List ℕ) (sums : List (Option ℕ)) (reach : ℕ) (marks : List (Option Mark)) : Type 0 where
+pub record MarksEntered (train : List Operation) (order : List ℕ) (sums : List (Option ℕ)) (reach : ℕ) (marks : List (Option Mark)) : Type 0 where
   pub sums_are : sums ≡ slice_set (replicate (length train) None) (last_of order) (Some 0)
   pub reach_is : reach + 1 ≡ length order
   pub marks_are : marks ≡ replicate (length train) None
@@ -100,4 +100,4 @@ pub record Enters (train : List Operation) (order : List ℕ) (sums : List (Opti
 -- the marks of all operations
 pub record HasMarks (train : List Operation) (order : List ℕ) (rows : List (List ℕ)) (marks : List (Option Mark)) : Type 0 where
   pub long : length marks ≡ length train
-  pub are_marks : AreMarks train order rows 0 marks
+  pub are_marks : AreRouteMarks train order rows 0 marks

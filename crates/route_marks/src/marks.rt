@@ -1,6 +1,6 @@
 ghost use Rattle.std.specs.Prelude.{◌≡◌, ◌≢◌, ◌+◌, ◌<◌, ◌^◌, All, IfOk, MatchOption, Some, length, slice_get};
 ghost use Rattle.train_orders.specs.Orders.{IsOrder};
-ghost use Rattle.route_marks.specs.Marks.{ArePlaces, IsLaid, lowered, Relaxes, IsLowest, IsOnly, Makes, IsPass, Enters, HasMarks};
+ghost use Rattle.route_marks.specs.Marks.{ArePlaces, IsLaid, lowered, Relaxes, IsLowest, IsOnly, Makes, IsPass, MarksEntered, HasMarks};
 
 use crate::row::Row;
 use disp_model::{List, Memory, Operation};
@@ -133,7 +133,7 @@ fn entered(alloc: Global, train: &[Operation], order: &[u32]) -> Result<Pass, Me
     requires some { 0 < length order.now }
     requires within { All (λ o. o < length train.now) order.now }
     ensures { IfOk result
-        (λ pass. Enters train.now order.now pass.sums.items pass.reach pass.marks.items) }
+        (λ pass. MarksEntered train.now order.now pass.sums.items pass.reach pass.marks.items) }
 {
     let reach = order.len() - 1;
     let mut sums = vec![in alloc; None; train.len()]?;

@@ -24,7 +24,7 @@ use Rattle.route_sets.specs.Asks.{AreAsks}
 use Rattle.route_sets.specs.Sweeps.{HasWay, IsSwept}
 use Rattle.route_marks.specs.Ways.{last_of}
 use Rattle.route_marks.specs.Marks.{IsLaid, mark_at, HasMarks}
-use Rattle.route_sets.specs.Sets.{op_of, IsMarkOf, AreAllowedRows, AreRoutesOf}
+use Rattle.route_sets.specs.Sets.{op_of_train, IsMarkOf, AreAllowedRows, AreRoutesOf}
 use Rattle.route_sets.proofs.Walking.{IsTrimmedFor, route_is_way}
 use Rattle.route_sets.proofs.Knowing.{AreWalks, are_walks, marks_are, ordered_are, route_there, marked_forced}
 use Rattle.route_sets.proofs.Following.{begins_are, ends_are, short_are}
@@ -93,8 +93,8 @@ pub none_are : (problem : Problem) (fixings : List Fixing) (decisions : List Dec
     → routes.left ≡ false → routes.marks.items ≡ [] → AreRoutesOf (node_at problem fixings decisions) t routes
 none_are problem fixings decisions t asks order swept routes is not_held not_left empty = record {
   left = (λ left. absurd (false≢true (sym not_left ∙ left)), λ has. absurd (none has));
-  marks = λ o. subst (λ (l : List (Option Mark)). MatchOption (mark_at l o) (IsForced node (op_of t o) → ⊥) (IsMarkOf node t o)) (sym empty)
-      (subst (λ (m : Option Mark). MatchOption m (IsForced node (op_of t o) → ⊥) (IsMarkOf node t o)) (sym (get_or_past [] o None (omega arith))) (λ forced. none forced.allowed));
+  marks = λ o. subst (λ (l : List (Option Mark)). MatchOption (mark_at l o) (IsForced node (op_of_train t o) → ⊥) (IsMarkOf node t o)) (sym empty)
+      (subst (λ (m : Option Mark). MatchOption m (IsForced node (op_of_train t o) → ⊥) (IsMarkOf node t o)) (sym (get_or_past [] o None (omega arith))) (λ forced. none forced.allowed));
   ordered = λ a b from to first second. unmarked a from first;
   begins = λ route allowed. absurd (none (route, allowed));
   ends = λ o mark at. unmarked o mark at;
@@ -147,7 +147,7 @@ some_are problem fixings decisions t asks order swept routes is held left entry 
 
 -- ---- answers
 
-one_arc : (node : Node) (t a b n m : ℕ) → IsTrainArc node (op_of t a) (op_of t b) n → IsTrainArc node (op_of t a) (op_of t b) m → n ≡ m
+one_arc : (node : Node) (t a b n m : ℕ) → IsTrainArc node (op_of_train t a) (op_of_train t b) n → IsTrainArc node (op_of_train t a) (op_of_train t b) m → n ≡ m
 one_arc node t a b n m first second =
     let up = first.least second.reached.0 m second.reached.1 second.reached.2 in
     let down = second.least first.reached.0 n first.reached.1 first.reached.2 in
@@ -155,24 +155,24 @@ one_arc node t a b n m first second =
 
 -- the least sum between two marked operations
 pub between_some : (node : Node) (t a b : ℕ) (routes : Routes) (from to : Mark) (sum : ℕ) → AreRoutesOf node t routes → mark_at routes.marks.items a ≡ Some from → mark_at routes.marks.items b ≡ Some to → to.place < from.place
-    → (to.sum - from.sum ≡ sum) ↔ (IsForced node (op_of t a) × IsForced node (op_of t b) × IsTrainArc node (op_of t a) (op_of t b) sum)
+    → (to.sum - from.sum ≡ sum) ↔ (IsForced node (op_of_train t a) × IsForced node (op_of_train t b) × IsTrainArc node (op_of_train t a) (op_of_train t b) sum)
 between_some node t a b routes from to sum are first second lower = (
   λ e. (
     (marked_forced node t a (mark_at routes.marks.items a) from (are.marks a) first).forced,
     (marked_forced node t b (mark_at routes.marks.items b) to (are.marks b) second).forced,
-    subst (IsTrainArc node (op_of t a) (op_of t b)) e arc,
+    subst (IsTrainArc node (op_of_train t a) (op_of_train t b)) e arc,
   ),
   λ h. one_arc node t a b (to.sum - from.sum) sum arc h.2,
 )
   where
-    arc : IsTrainArc node (op_of t a) (op_of t b) (to.sum - from.sum)
+    arc : IsTrainArc node (op_of_train t a) (op_of_train t b) (to.sum - from.sum)
     arc = (are.ordered a b from to first second).arc lower
 
 pub between_none : (node : Node) (t a b : ℕ) (routes : Routes) (from to : Mark) (sum : ℕ) → AreRoutesOf node t routes → mark_at routes.marks.items a ≡ Some from → mark_at routes.marks.items b ≡ Some to → from.place ≤ to.place
-    → IsTrainArc node (op_of t a) (op_of t b) sum → ⊥
+    → IsTrainArc node (op_of_train t a) (op_of_train t b) sum → ⊥
 between_none node t a b routes from to sum are first second above arc = (are.ordered a b from to first second).none above sum arc
 
-pub next_is : (node : Node) (t o : ℕ) (routes : Routes) (mark : Mark) (s : ℕ) → AreRoutesOf node t routes → mark_at routes.marks.items o ≡ Some mark → (mark.next ≡ Some s) ↔ (IsForced node (op_of t o) × GoesTo node (op_of t o) (op_of t s))
+pub next_is : (node : Node) (t o : ℕ) (routes : Routes) (mark : Mark) (s : ℕ) → AreRoutesOf node t routes → mark_at routes.marks.items o ≡ Some mark → (mark.next ≡ Some s) ↔ (IsForced node (op_of_train t o) × GoesTo node (op_of_train t o) (op_of_train t s))
 next_is node t o routes mark s are is =
     let found = marked_forced node t o (mark_at routes.marks.items o) mark (are.marks o) is in
     (λ e. (found.forced, (found.next s).0 e), λ h. (found.next s).1 h.1)

@@ -23,7 +23,7 @@ use Rattle.route_marks.specs.declared.marks.Mark.{Mark}
 use Rattle.route_sets.specs.declared.routes.Routes.{Routes}
 use Rattle.route_marks.specs.Ways.{last_of}
 use Rattle.route_marks.specs.Marks.{mark_at, HasMarks}
-use Rattle.route_sets.specs.Sets.{op_of, follow, mark_followed, next_followed, BeginsEach, AreRoutesOf, IsOnlyRoute}
+use Rattle.route_sets.specs.Sets.{op_of_train, follow, mark_followed, next_followed, BeginsEach, AreRoutesOf, IsOnlyRoute}
 use Rattle.route_sets.proofs.Knowing.{AreWalks, marked, order_fits, after_first, marked_forced, forced_marked}
 
 -- ---- the exit stands first in the order
@@ -164,10 +164,10 @@ further node t routes o q front rest route mark are one is at = record { next = 
     train : List Operation
     train = train_at node.problem t
 
-    goes : GoesTo node (op_of t o) (op_of t q)
+    goes : GoesTo node (op_of_train t o) (op_of_train t q)
     goes = (refl, λ other allowed. subst (λ (l : List ℕ). after o l ≡ Some q) (sym (one.alone other allowed ∙ is)) (after_on node t front o (q ∷ rest) (subst (IsAllowed node t) is one.allowed) ∙ after_first o q rest))
 
-    forced : IsForced node (op_of t q)
+    forced : IsForced node (op_of_train t q)
     forced = record {
       train = there node t (route, one.allowed);
       allowed = (route, one.allowed);
@@ -177,7 +177,7 @@ further node t routes o q front rest route mark are one is at = record { next = 
     found : (onto : Mark) × (mark_at routes.marks.items q ≡ Some onto)
     found = forced_marked node t q (mark_at routes.marks.items q) (are.marks q) forced
 
-    arc : IsTrainArc node (op_of t o) (op_of t q) (sum_by (duration_of train) (o ∷ []))
+    arc : IsTrainArc node (op_of_train t o) (op_of_train t q) (sum_by (duration_of train) (o ∷ []))
     arc = record {
       same_train = refl;
       reached = (route, one.allowed, record { before = front; between = []; behind = rest; route_is = is; total_is = refl });
@@ -215,7 +215,7 @@ none_followed node t routes (suc steps) o front rest route mark are one is at lt
         later q rest (is ∙ sym (append_assoc front (o ∷ []) (q ∷ rest))) on (not_mapped o (onward q) led)
 
 -- the operation that each allowed route begins with is forced
-pub begin_forced : (node : Node) (t : ℕ) (routes : Routes) → AreRoutesOf node t routes → HasRoute node t → IsForced node (op_of t routes.entry)
+pub begin_forced : (node : Node) (t : ℕ) (routes : Routes) → AreRoutesOf node t routes → HasRoute node t → IsForced node (op_of_train t routes.entry)
 begin_forced node t routes are some = record {
   train = there node t some;
   allowed = some;

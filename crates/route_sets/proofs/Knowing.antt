@@ -26,9 +26,9 @@ use Rattle.train_orders.proofs.Ordered.{one_place}
 use Rattle.route_sets.specs.declared.asks.Ask.{Ask}
 use Rattle.route_marks.specs.declared.marks.Mark.{Mark}
 use Rattle.route_sets.specs.Sweeps.{HasWay}
-use Rattle.route_marks.specs.Ways.{Steps, Goes, IsWalk, Chain, IsOnEach, last_of}
+use Rattle.route_marks.specs.Ways.{StepsAlong, Goes, IsRowWalk, Chain, IsOnEach, last_of}
 use Rattle.route_marks.specs.Marks.{IsLaid, IsMark, mark_at, HasMarks}
-use Rattle.route_sets.specs.Sets.{op_of, IsMarkOf, AreOrdered}
+use Rattle.route_sets.specs.Sets.{op_of_train, IsMarkOf, AreMarksInOrder}
 use Rattle.route_marks.proofs.Keeping.{earlier}
 use Rattle.route_sets.proofs.Walking.{IsTrimmedFor, row_at, route_is_walk, walk_is_route}
 use Rattle.route_marks.proofs.Chaining.{chain_walk, walk_parts, goes_on, goes_below, chain_above, last_here}
@@ -79,8 +79,8 @@ pub record AreWalks (node : Node) (t : ℕ) (order : List ℕ) (rows : List (Lis
   pub acyclic : IsAcyclic (train_at node.problem t)
   pub order_is : IsOrder (train_at node.problem t) order
   pub is_laid : IsLaid (train_at node.problem t) order rows
-  pub walk : (route : List ℕ) → IsAllowed node t route → IsWalk order rows (last_of order) route
-  pub route : (route : List ℕ) → IsWalk order rows (last_of order) route → IsAllowed node t route
+  pub walk : (route : List ℕ) → IsAllowed node t route → IsRowWalk order rows (last_of order) route
+  pub route : (route : List ℕ) → IsRowWalk order rows (last_of order) route → IsAllowed node t route
 
 pub are_walks : (node : Node) (t : ℕ) (asks : List Ask) (order : List ℕ) (rows : List (List ℕ)) (k : ℕ) → t < length node.problem.trains → IsTrimmedFor node t asks order rows k (last_of order) → HasWay (train_at node.problem t) asks order (last_of order)
     → length (train_at node.problem t) < 2 ^ 31 → AreWalks node t order rows
@@ -98,7 +98,7 @@ some_route : (node : Node) (t : ℕ) (order : List ℕ) (rows : List (List ℕ))
 some_route node t order rows are =
     let last = last_here (train_at node.problem t) order rows are.is_laid in
     let way = goes_on (train_at node.problem t) order rows last.0 (last_of order) are.is_laid last.2 in
-    let walk : IsWalk order rows (last_of order) (last_of order ∷ way.0) = (refl, way.1) in
+    let walk : IsRowWalk order rows (last_of order) (last_of order ∷ way.0) = (refl, way.1) in
     (last_of order ∷ way.0, are.route (last_of order ∷ way.0) walk)
 
 -- what follows an operation on an allowed route
@@ -114,13 +114,13 @@ through node t order rows front o rest are chain goes = are.route (front ++ o �
 
 -- ---- a mark
 
-pub forced_of : (node : Node) (t : ℕ) (order : List ℕ) (rows : List (List ℕ)) (o : ℕ) → AreWalks node t order rows → IsOnEach order rows (last_of order) o → IsForced node (op_of t o)
+pub forced_of : (node : Node) (t : ℕ) (order : List ℕ) (rows : List (List ℕ)) (o : ℕ) → AreWalks node t order rows → IsOnEach order rows (last_of order) o → IsForced node (op_of_train t o)
 forced_of node t order rows o are each = record { train = are.there; allowed = some_route node t order rows are; each_has = λ route allowed. each route (are.walk route allowed) }
 
-pub each_of : (node : Node) (t : ℕ) (order : List ℕ) (rows : List (List ℕ)) (o : ℕ) → AreWalks node t order rows → IsForced node (op_of t o) → IsOnEach order rows (last_of order) o
+pub each_of : (node : Node) (t : ℕ) (order : List ℕ) (rows : List (List ℕ)) (o : ℕ) → AreWalks node t order rows → IsForced node (op_of_train t o) → IsOnEach order rows (last_of order) o
 each_of node t order rows o are forced route walk = forced.each_has route (are.route route walk)
 
-next_to : (node : Node) (t : ℕ) (order : List ℕ) (rows : List (List ℕ)) (o s : ℕ) → AreWalks node t order rows → IsOnEach order rows (last_of order) o → Steps order rows o s → ((q : ℕ) → Steps order rows o q → q ≡ s)
+next_to : (node : Node) (t : ℕ) (order : List ℕ) (rows : List (List ℕ)) (o s : ℕ) → AreWalks node t order rows → IsOnEach order rows (last_of order) o → StepsAlong order rows o s → ((q : ℕ) → StepsAlong order rows o q → q ≡ s)
     → (route : List ℕ) → IsAllowed node t route → after o route ≡ Some s
 next_to node t order rows o s are each step alone route allowed =
     let part = parted o route (is_in o route (each route (are.walk route allowed))) in
@@ -133,23 +133,23 @@ next_to node t order rows o s are each step alone route allowed =
         ∙ ap Some (alone q (walk_parts order rows (last_of order) front o (q ∷ rest) (are.walk (front ++ o ∷ q ∷ rest) is)).1.0)
 
 next_from : (node : Node) (t : ℕ) (order : List ℕ) (rows : List (List ℕ)) (o s k : ℕ) (front : List ℕ) → AreWalks node t order rows → Chain order rows (last_of order) front o → slice_get order k ≡ Some o
-    → ((route : List ℕ) → IsAllowed node t route → after o route ≡ Some s) → Steps order rows o s × ((q : ℕ) → Steps order rows o q → q ≡ s)
+    → ((route : List ℕ) → IsAllowed node t route → after o route ≡ Some s) → StepsAlong order rows o s × ((q : ℕ) → StepsAlong order rows o q → q ≡ s)
 next_from node t order rows o s k front are chain here each = (first way.0 way.1, alone)
   where
     way : (rest : List ℕ) × Goes order rows o rest
     way = goes_on (train_at node.problem t) order rows k o are.is_laid here
 
-    follows : (q : ℕ) (rest : List ℕ) → Steps order rows o q → Goes order rows q rest → q ≡ s
+    follows : (q : ℕ) (rest : List ℕ) → StepsAlong order rows o q → Goes order rows q rest → q ≡ s
     follows q rest step goes =
         let on : Goes order rows o (q ∷ rest) = (step, goes) in
         let allowed = through node t order rows front o (q ∷ rest) are chain on in
         same_Some q s (sym (next_on node t order rows front o (q ∷ rest) are allowed ∙ after_first o q rest) ∙ each (front ++ o ∷ q ∷ rest) allowed)
 
-    first : (rest : List ℕ) → Goes order rows o rest → Steps order rows o s
+    first : (rest : List ℕ) → Goes order rows o rest → StepsAlong order rows o s
     first [] stops = absurd (let allowed = through node t order rows front o [] are chain stops in none-some s (sym (next_on node t order rows front o [] are allowed) ∙ each (front ++ o ∷ []) allowed))
-    first (q ∷ rest) goes = subst (λ (x : ℕ). Steps order rows o x) (follows q rest goes.0 goes.1) goes.0
+    first (q ∷ rest) goes = subst (λ (x : ℕ). StepsAlong order rows o x) (follows q rest goes.0 goes.1) goes.0
 
-    alone : (q : ℕ) → Steps order rows o q → q ≡ s
+    alone : (q : ℕ) → StepsAlong order rows o q → q ≡ s
     alone q step =
         let down = are.is_laid.down k o q here step in
         let later = goes_on (train_at node.problem t) order rows down.0 q are.is_laid down.2 in
@@ -167,14 +167,14 @@ mark_is node t order rows o mark are is = record {
 -- ---- the marks of all operations
 
 pub marks_are : (node : Node) (t : ℕ) (order : List ℕ) (rows : List (List ℕ)) (marks : List (Option Mark)) → AreWalks node t order rows → HasMarks (train_at node.problem t) order rows marks
-    → (o : ℕ) → MatchOption (mark_at marks o) (IsForced node (op_of t o) → ⊥) (IsMarkOf node t o)
+    → (o : ℕ) → MatchOption (mark_at marks o) (IsForced node (op_of_train t o) → ⊥) (IsMarkOf node t o)
 marks_are node t order rows marks are has o = elim (cases_lt o (length marks)) [
   | inl lt ↦
       let place = at_contains order o (are.order_is.has o (omega (arith, lt, has.long))) in
-      matched (mark_at marks o) (IsOnEach order rows (last_of order) o → ⊥) (IsForced node (op_of t o) → ⊥) (IsMark train order rows o) (IsMarkOf node t o) (has.are_marks place.0 o place.1 (omega arith))
+      matched (mark_at marks o) (IsOnEach order rows (last_of order) o → ⊥) (IsForced node (op_of_train t o) → ⊥) (IsMark train order rows o) (IsMarkOf node t o) (has.are_marks place.0 o place.1 (omega arith))
       (λ not_each forced. not_each (each_of node t order rows o are forced)) (λ mark is. mark_is node t order rows o mark are is)
   | inr past ↦
-      subst (λ (m : Option Mark). MatchOption m (IsForced node (op_of t o) → ⊥) (IsMarkOf node t o)) (sym (get_or_past marks o None past))
+      subst (λ (m : Option Mark). MatchOption m (IsForced node (op_of_train t o) → ⊥) (IsMarkOf node t o)) (sym (get_or_past marks o None past))
       (λ forced. let some = forced.allowed in omega (arith, past, has.long, within some.0 some.1 (forced.each_has some.0 some.1)))
 ]
   where
@@ -209,10 +209,10 @@ pub record Leg (train : List Operation) (order : List ℕ) (rows : List (List �
   pub early : Chain order rows (last_of order) before a
   pub late : Chain order rows a (a ∷ between) b
 
-leg : (train : List Operation) (order : List ℕ) (rows : List (List ℕ)) (a b : ℕ) (before between behind : List ℕ) → IsWalk order rows (last_of order) (before ++ a ∷ (between ++ b ∷ behind)) → Leg train order rows a b before between
+leg : (train : List Operation) (order : List ℕ) (rows : List (List ℕ)) (a b : ℕ) (before between behind : List ℕ) → IsRowWalk order rows (last_of order) (before ++ a ∷ (between ++ b ∷ behind)) → Leg train order rows a b before between
 leg train order rows a b before between behind walk =
     let parts = walk_parts order rows (last_of order) before a (between ++ b ∷ behind) walk in
-    let on : IsWalk order rows a (a ∷ (between ++ b ∷ behind)) = (refl, parts.1) in
+    let on : IsRowWalk order rows a (a ∷ (between ++ b ∷ behind)) = (refl, parts.1) in
     record { early = parts.0; late = (walk_parts order rows a (a ∷ between) b behind on).0 }
 
 -- where both are marked a leg between them is no shorter than the difference
@@ -229,12 +229,12 @@ leg_least node t order rows a b from to before between first second legs =
     )
 
 train_arc : (node : Node) (t : ℕ) (order : List ℕ) (rows : List (List ℕ)) (a b : ℕ) (from to : Mark) → AreWalks node t order rows → IsMark (train_at node.problem t) order rows a from → IsMark (train_at node.problem t) order rows b to
-    → to.place < from.place → IsTrainArc node (op_of t a) (op_of t b) (to.sum - from.sum)
+    → to.place < from.place → IsTrainArc node (op_of_train t a) (op_of_train t b) (to.sum - from.sum)
 train_arc node t order rows a b from to are first second lower = record {
   same_train = refl;
   reached = reached;
   least = λ route total allowed passes.
-      let legs = leg train order rows a b passes.before passes.between passes.behind (subst (IsWalk order rows (last_of order)) passes.route_is (are.walk route allowed)) in
+      let legs = leg train order rows a b passes.before passes.between passes.behind (subst (IsRowWalk order rows (last_of order)) passes.route_is (are.walk route allowed)) in
       omega (arith, leg_least node t order rows a b from to passes.before passes.between first second legs, passes.total_is);
 }
   where
@@ -250,7 +250,7 @@ train_arc node t order rows a b from to are first second lower = record {
     route : List ℕ
     route = front.0 ++ b ∷ way.0
 
-    walk : IsWalk order rows (last_of order) route
+    walk : IsRowWalk order rows (last_of order) route
     walk = chain_walk order rows (last_of order) front.0 b way.0 front.1 way.1
 
     in_front : IsIn a front.0
@@ -268,7 +268,7 @@ train_arc node t order rows a b from to are first second lower = record {
     route_is = ap (λ (l : List ℕ). l ++ b ∷ way.0) part.is ∙ append_assoc part.before (a ∷ part.rest) (b ∷ way.0)
 
     legs : Leg train order rows a b part.before part.rest
-    legs = leg train order rows a b part.before part.rest way.0 (subst (IsWalk order rows (last_of order)) route_is walk)
+    legs = leg train order rows a b part.before part.rest way.0 (subst (IsRowWalk order rows (last_of order)) route_is walk)
 
     sum : to.sum ≡ sum_by (duration_of train) part.before + sum_by (duration_of train) (a ∷ part.rest)
     sum = front.2 ∙ ap (λ (l : List ℕ). sum_by (duration_of train) l) part.is ∙ sum_by-append (duration_of train) part.before (a ∷ part.rest)
@@ -280,16 +280,16 @@ train_arc node t order rows a b from to are first second lower = record {
     reached = (route, are.route route walk, record { before = part.before; between = part.rest; behind = way.0; route_is = route_is; total_is = total_is })
 
 no_arc : (node : Node) (t : ℕ) (order : List ℕ) (rows : List (List ℕ)) (a b : ℕ) (from to : Mark) → AreWalks node t order rows → IsMark (train_at node.problem t) order rows a from → IsMark (train_at node.problem t) order rows b to
-    → from.place ≤ to.place → (sum : ℕ) → IsTrainArc node (op_of t a) (op_of t b) sum → ⊥
+    → from.place ≤ to.place → (sum : ℕ) → IsTrainArc node (op_of_train t a) (op_of_train t b) sum → ⊥
 no_arc node t order rows a b from to are first second above sum arc =
     let passes = arc.reached.2 in
     let train = train_at node.problem t in
-    let legs = leg train order rows a b passes.before passes.between passes.behind (subst (IsWalk order rows (last_of order)) passes.route_is (are.walk arc.reached.0 arc.reached.1)) in
+    let legs = leg train order rows a b passes.before passes.between passes.behind (subst (IsRowWalk order rows (last_of order)) passes.route_is (are.walk arc.reached.0 arc.reached.1)) in
     let found = chain_above train order rows from.place a (a ∷ passes.between) to.place b are.is_laid first.place second.place legs.late a (inl refl) in
     omega (arith, found.1, above, are.is_laid.one_place found.0 from.place a found.2 first.place)
 
 pub ordered_are : (node : Node) (t : ℕ) (order : List ℕ) (rows : List (List ℕ)) (marks : List (Option Mark)) → AreWalks node t order rows → HasMarks (train_at node.problem t) order rows marks
-    → (a b : ℕ) (from to : Mark) → mark_at marks a ≡ Some from → mark_at marks b ≡ Some to → AreOrdered node t a b from to
+    → (a b : ℕ) (from to : Mark) → mark_at marks a ≡ Some from → mark_at marks b ≡ Some to → AreMarksInOrder node t a b from to
 ordered_are node t order rows marks are has a b from to first second =
     let one = marked node t order rows marks a from are has first in
     let other = marked node t order rows marks b to are has second in
@@ -300,10 +300,10 @@ route_there node t order rows are = some_route node t order rows are
 
 -- ---- marked and forced
 
-pub marked_forced : (node : Node) (t o : ℕ) (found : Option Mark) (mark : Mark) → MatchOption found (IsForced node (op_of t o) → ⊥) (IsMarkOf node t o) → found ≡ Some mark → IsMarkOf node t o mark
+pub marked_forced : (node : Node) (t o : ℕ) (found : Option Mark) (mark : Mark) → MatchOption found (IsForced node (op_of_train t o) → ⊥) (IsMarkOf node t o) → found ≡ Some mark → IsMarkOf node t o mark
 marked_forced node t o None mark h e = absurd (none-some mark e)
 marked_forced node t o (Some m) mark h e = subst (IsMarkOf node t o) (same_Some m mark e) h
 
-pub forced_marked : (node : Node) (t o : ℕ) (found : Option Mark) → MatchOption found (IsForced node (op_of t o) → ⊥) (IsMarkOf node t o) → IsForced node (op_of t o) → (mark : Mark) × (found ≡ Some mark)
+pub forced_marked : (node : Node) (t o : ℕ) (found : Option Mark) → MatchOption found (IsForced node (op_of_train t o) → ⊥) (IsMarkOf node t o) → IsForced node (op_of_train t o) → (mark : Mark) × (found ≡ Some mark)
 forced_marked node t o None h forced = absurd (h forced)
 forced_marked node t o (Some m) h forced = (m, refl)

@@ -20,7 +20,7 @@ use Rattle.disp_laws.proofs.LongestArcs.{some_or_not}
 use Rattle.route_marks.specs.declared.marks.Mark.{Mark}
 use Rattle.route_sets.specs.declared.routes.Routes.{Routes}
 use Rattle.route_marks.specs.Marks.{mark_at}
-use Rattle.route_sets.specs.Sets.{op_of, parting, mark_parted, next_parted, AreRoutesOf, IsAloneUnparted}
+use Rattle.route_sets.specs.Sets.{op_of_train, parting, mark_parted, next_parted, AreRoutesOf, IsAloneUnparted}
 use Rattle.route_sets.proofs.Knowing.{after_first, marked_forced, forced_marked}
 use Rattle.route_sets.proofs.Following.{Goes_by, goes_further, none_behind, there, after_on, here_in, begin_forced}
 
@@ -66,7 +66,7 @@ none_earlier node t front p between q one other by first second apart =
     let right = by other second in
     apart (follows node t front p between q left.0 one first left.1 ∙ sym (follows node t front p between q right.0 other second right.1))
 
-one_fork : (node : Node) (t p q : ℕ) → IsFork node (op_of t p) → IsFork node (op_of t q) → p ≡ q
+one_fork : (node : Node) (t p q : ℕ) → IsFork node (op_of_train t p) → IsFork node (op_of_train t q) → p ≡ q
 one_fork node t p q f g = by (meets f.front g.front p q left.0 right.0 (sym left.1 ∙ right.1))
   where
     left : (rest : List ℕ) × (f.one ≡ f.front ++ p ∷ rest)
@@ -87,7 +87,7 @@ one_fork node t p q f g = by (meets f.front g.front p q left.0 right.0 (sym left
 -- an operation, or that one route is allowed
 abbrev PartsAt : Node → ℕ → Option ℕ → Type 0
 PartsAt node t None = (route : List ℕ) × HasOneRoute node t route
-PartsAt node t (Some o) = IsFork node (op_of t o)
+PartsAt node t (Some o) = IsFork node (op_of_train t o)
 
 -- all routes go on alike from a marked operation to the next one, which is marked too
 record GoesOnTo (node : Node) (t : ℕ) (routes : Routes) (front : List ℕ) (o s : ℕ) (mark : Mark) : Type 0 where
@@ -103,13 +103,13 @@ goes_on_to node t routes front o s mark are some by at next = record { by = furt
     train : List Operation
     train = train_at node.problem t
 
-    goes : GoesTo node (op_of t o) (op_of t s)
+    goes : GoesTo node (op_of_train t o) (op_of_train t s)
     goes = ((marked_forced node t o (mark_at routes.marks.items o) mark (are.marks o) at).next s).0 next
 
     further : Goes_by node t (front ++ o ∷ []) s
     further = goes_further node t front o s by goes.1
 
-    forced : IsForced node (op_of t s)
+    forced : IsForced node (op_of_train t s)
     forced = record {
       train = there node t some;
       allowed = some;
@@ -119,7 +119,7 @@ goes_on_to node t routes front o s mark are some by at next = record { by = furt
     found : (onto : Mark) × (mark_at routes.marks.items s ≡ Some onto)
     found = forced_marked node t s (mark_at routes.marks.items s) (are.marks s) forced
 
-    arc : IsTrainArc node (op_of t o) (op_of t s) (sum_by (duration_of train) (o ∷ []))
+    arc : IsTrainArc node (op_of_train t o) (op_of_train t s) (sum_by (duration_of train) (o ∷ []))
     arc =
         let part = further some.0 some.1 in
         record {
@@ -136,16 +136,16 @@ goes_on_to node t routes front o s mark are some by at next = record { by = furt
 
 -- where the mark of an operation that is not the exit names none that comes next, the routes part
 parts_here : (node : Node) (t : ℕ) (routes : Routes) (front : List ℕ) (o : ℕ) (mark : Mark) → AreRoutesOf node t routes → HasRoute node t → Goes_by node t front o → mark_at routes.marks.items o ≡ Some mark
-    → (mark.place ≡ 0 → ⊥) → mark.next ≡ None → IsFork node (op_of t o)
+    → (mark.place ≡ 0 → ⊥) → mark.next ≡ None → IsFork node (op_of_train t o)
 parts_here node t routes front o mark are some by at more none = by_rest (by some.0 some.1).0 (by some.0 some.1).1
   where
     listed : IsListed node t
     listed = allowed_routes node t (there node t some)
 
-    not_next : (s : ℕ) → GoesTo node (op_of t o) (op_of t s) → ⊥
+    not_next : (s : ℕ) → GoesTo node (op_of_train t o) (op_of_train t s) → ⊥
     not_next s goes = none-some s (sym none ∙ ((marked_forced node t o (mark_at routes.marks.items o) mark (are.marks o) at).next s).1 goes)
 
-    by_rest : (rest : List ℕ) → some.0 ≡ front ++ o ∷ rest → IsFork node (op_of t o)
+    by_rest : (rest : List ℕ) → some.0 ≡ front ++ o ∷ rest → IsFork node (op_of_train t o)
     by_rest [] is = absurd (more ((are.ends o mark at).1 (route_from (train_at node.problem t) front o [] (subst (IsAllowed node t) is some.1).is_route)))
     by_rest (s ∷ rest) is =
         let own : after o some.0 ≡ Some s = ap (after o) is ∙ after_on node t front o (s ∷ rest) (subst (IsAllowed node t) is some.1) ∙ after_first o s rest in
@@ -188,19 +188,19 @@ parted_from node t routes found are left is =
     let begin = forced_marked node t routes.entry (mark_at routes.marks.items routes.entry) (are.marks routes.entry) (begin_forced node t routes are some) in
     subst (PartsAt node t) (sym is) (parted node t routes (length routes.marks.items) [] routes.entry begin.0 are some are.begins begin.1 (are.short routes.entry begin.0 begin.1))
 
-no_fork : (node : Node) (t o : ℕ) (route : List ℕ) → HasOneRoute node t route → IsFork node (op_of t o) → ⊥
+no_fork : (node : Node) (t o : ℕ) (route : List ℕ) → HasOneRoute node t route → IsFork node (op_of_train t o) → ⊥
 no_fork node t o route one fork = fork.apart (ap (after o) (one.alone fork.one fork.one_allowed ∙ sym (one.alone fork.other fork.other_allowed)))
 
-pub part_is : (node : Node) (t : ℕ) (found : Option ℕ) → PartsAt node t found → (o : ℕ) → (found ≡ Some o) ↔ IsFork node (op_of t o)
+pub part_is : (node : Node) (t : ℕ) (found : Option ℕ) → PartsAt node t found → (o : ℕ) → (found ≡ Some o) ↔ IsFork node (op_of_train t o)
 part_is node t None one o = (λ e. absurd (none-some o e), λ fork. absurd (no_fork node t o one.0 one.1 fork))
-part_is node t (Some p) fork o = (λ e. subst (λ (q : ℕ). IsFork node (op_of t q)) (same_Some p o e) fork, λ other. ap Some (one_fork node t p o fork other))
+part_is node t (Some p) fork o = (λ e. subst (λ (q : ℕ). IsFork node (op_of_train t q)) (same_Some p o e) fork, λ other. ap Some (one_fork node t p o fork other))
 
 pub alone_is : (node : Node) (t : ℕ) (found : Option ℕ) → PartsAt node t found → IsAloneUnparted node t found
 alone_is node t None one is has = one
 alone_is node t (Some p) fork is has = absurd (none-some p (sym is))
 
 -- where none is left none parts
-pub none_parts : (node : Node) (t : ℕ) → (HasRoute node t → ⊥) → (o : ℕ) → IsFork node (op_of t o) → ⊥
+pub none_parts : (node : Node) (t : ℕ) → (HasRoute node t → ⊥) → (o : ℕ) → IsFork node (op_of_train t o) → ⊥
 none_parts node t none o fork = none (fork.one, fork.one_allowed)
 
 -- ---- one step of the loop

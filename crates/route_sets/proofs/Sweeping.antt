@@ -10,7 +10,7 @@ use Rattle.disp_model.specs.Train.{next_of, IsSuccessor}
 use Rattle.route_sets.specs.declared.asks.Ask.{Ask}
 use Rattle.route_sets.specs.Asks.{ask_at, free}
 use Rattle.train_orders.specs.Orders.{IsBehind}
-use Rattle.route_sets.specs.Sweeps.{MayGo, IsWanted, IsWay, HasWay, IsHeld, counted, CanEnd, IsKept, IsRow, AreRows, IsSwept}
+use Rattle.route_sets.specs.Sweeps.{AskMayGo, IsWantedAsk, IsWayLeft, HasWay, IsHeld, counted, CanEnd, IsKept, IsRow, AreRows, IsSwept}
 use Rattle.train_orders.proofs.Searching.{next_at}
 use Rattle.train_orders.proofs.Places.{contains_at, contains_none, get_push_cases, set_at, set_elsewhere, same_number}
 use Rattle.train_orders.proofs.Ordered.{contains_here, contains_later, contains_cases, way_inside}
@@ -71,7 +71,7 @@ way_ends train asks order i o held count operation next is end = (
   },
 )
 
-way_goes_on : (train : List Operation) (asks : List Ask) (order : List ℕ) (i o s : ℕ) → IsSuccessor train o s → MayGo (ask_at asks o) s → HasWay train asks (take i order) s → HasWay train asks (take i order ++ o ∷ []) o
+way_goes_on : (train : List Operation) (asks : List Ask) (order : List ℕ) (i o s : ℕ) → IsSuccessor train o s → AskMayGo (ask_at asks o) s → HasWay train asks (take i order) s → HasWay train asks (take i order ++ o ∷ []) o
 way_goes_on train asks order i o s goes may (rest, way) = (
   s ∷ rest,
   record {
@@ -89,7 +89,7 @@ zero_or_more zero = inl refl
 zero_or_more (suc n) = inr (omega arith)
 
 can_by_way : (train : List Operation) (asks : List Ask) (order : List ℕ) (i o : ℕ) (held : List (Option ℕ)) (count : ℕ) (operation : Operation) (row : List ℕ) → IsNext train asks order i o held count → next_of train o ≡ operation.next
-    → IsRow train asks (take i order) o row → (rest : List ℕ) → IsWay train asks (take i order ++ o ∷ []) o rest → CanEnd operation (ask_at asks o) count ⊎ ((s : ℕ) × Contains row s)
+    → IsRow train asks (take i order) o row → (rest : List ℕ) → IsWayLeft train asks (take i order ++ o ∷ []) o rest → CanEnd operation (ask_at asks o) count ⊎ ((s : ℕ) × Contains row s)
 can_by_way train asks order i o held count operation row next is rows [] way = inl (record { last = sym is ∙ way.goes.last; may = way.keeps; none = none (zero_or_more count) })
   where
     none : ((count ≡ 0) ⊎ (0 < count)) → count ≡ 0
@@ -199,7 +199,7 @@ held_more train asks order i o held count holds next says = record {
             record {
               goes = way.1.goes;
               keeps = way.1.keeps;
-              wanted = λ q at wanted. elim (Contains-push_cases done o q at) [ inl before ↦ way.1.wanted q before wanted | inr e ↦ absurd (false≢true (sym not_wanted ∙ subst (λ (x : ℕ). IsWanted asks x) (sym e) wanted)) ];
+              wanted = λ q at wanted. elim (Contains-push_cases done o q at) [ inl before ↦ way.1.wanted q before wanted | inr e ↦ absurd (false≢true (sym not_wanted ∙ subst (λ (x : ℕ). IsWantedAsk asks x) (sym e) wanted)) ];
             },
           ),
         )

@@ -10,7 +10,7 @@ use Rattle.route_sets.specs.declared.asks.Ask.{Ask}
 use Rattle.route_sets.specs.declared.asks.Demand.{Demand}
 
 -- the route is as it is asked of the operation
-pub record Meets (route : List ℕ) (o : ℕ) (ask : Ask) : Type 0 where
+pub record MeetsAsk (route : List ℕ) (o : ℕ) (ask : Ask) : Type 0 where
   pub wanted : ask.wanted ≡ true → Contains route o
   pub skipped : ask.skipped ≡ true → Contains route o → ⊥
   pub next : (n : ℕ) → ask.next ≡ Some n → Contains route o → after o route ≡ Some n
@@ -28,10 +28,10 @@ ask_at asks o = slice_index_or asks o free
 
 -- the route is as it is asked of each operation
 abbrev pub AreMet : List Ask → List ℕ → Type 0
-AreMet asks route = (o : ℕ) → Meets route o (ask_at asks o)
+AreMet asks route = (o : ℕ) → MeetsAsk route o (ask_at asks o)
 
-abbrev pub IsWithin : ℕ → List ℕ → Type 0
-IsWithin count route = (o : ℕ) → Contains route o → o < count
+abbrev pub AreWithinTrain : ℕ → List ℕ → Type 0
+AreWithinTrain count route = (o : ℕ) → Contains route o → o < count
 
 -- two operations to go on to are not the same
 abbrev pub differ : Option ℕ → Option ℕ → Bool
@@ -61,11 +61,11 @@ demand_of_decision t (Run o) = if o.train == t then record { op = o.op; ask = re
 demand_of_decision t (Skip o) = if o.train == t then record { op = o.op; ask = record { wanted = false; skipped = true; next = None } } else nothing
 
 -- the new asks are met exactly where the old ones are, and more holds of the route
-pub record Takes (More : List ℕ → Type 0) (old new : List Ask) : Type 0 where
+pub record TakesAsks (More : List ℕ → Type 0) (old new : List Ask) : Type 0 where
   pub long : length new ≡ length old
-  pub both : (route : List ℕ) → IsWithin (length old) route → (AreMet old route × More route) ↔ AreMet new route
+  pub both : (route : List ℕ) → AreWithinTrain (length old) route → (AreMet old route × More route) ↔ AreMet new route
 
 -- the asks are met by the routes that agree with the fixings and decisions of the train
 pub record AreAsks (count t : ℕ) (fixings : List Fixing) (decisions : List Decision) (asks : List Ask) : Type 0 where
   pub long : length asks ≡ count
-  pub met : (route : List ℕ) → IsWithin count route → (All (AgreesWithFixing t route) fixings × All (AgreesWithDecision t route) decisions) ↔ AreMet asks route
+  pub met : (route : List ℕ) → AreWithinTrain count route → (All (AgreesWithFixing t route) fixings × All (AgreesWithDecision t route) decisions) ↔ AreMet asks route

@@ -9,22 +9,22 @@ use Rattle.disp_model.specs.Arcs.{IsTrainArc, GoesTo}
 use Rattle.train_orders.specs.Orders.{IsOrder}
 use Rattle.route_marks.specs.declared.marks.Mark.{Mark}
 use Rattle.route_sets.specs.declared.routes.Routes.{Routes}
-use Rattle.route_marks.specs.Ways.{IsWalk, last_of}
+use Rattle.route_marks.specs.Ways.{IsRowWalk, last_of}
 use Rattle.route_marks.specs.Marks.{IsLaid, mark_at}
 
 -- an operation of a train
-abbrev pub op_of : ℕ → ℕ → Op
-op_of t o = record { train = t; op = o }
+abbrev pub op_of_train : ℕ → ℕ → Op
+op_of_train t o = record { train = t; op = o }
 
 -- the mark of a forced operation has what each allowed route goes on to from it
 pub record IsMarkOf (node : Node) (t o : ℕ) (mark : Mark) : Type 0 where
-  pub forced : IsForced node (op_of t o)
-  pub next : (s : ℕ) → (mark.next ≡ Some s) ↔ GoesTo node (op_of t o) (op_of t s)
+  pub forced : IsForced node (op_of_train t o)
+  pub next : (s : ℕ) → (mark.next ≡ Some s) ↔ GoesTo node (op_of_train t o) (op_of_train t s)
 
 -- the marks of forced operations have least sums, and places that fall along the routes
-pub record AreOrdered (node : Node) (t : ℕ) (a b : ℕ) (from to : Mark) : Type 0 where
-  pub arc : to.place < from.place → IsTrainArc node (op_of t a) (op_of t b) (to.sum - from.sum)
-  pub none : from.place ≤ to.place → (sum : ℕ) → IsTrainArc node (op_of t a) (op_of t b) sum → ⊥
+pub record AreMarksInOrder (node : Node) (t : ℕ) (a b : ℕ) (from to : Mark) : Type 0 where
+  pub arc : to.place < from.place → IsTrainArc node (op_of_train t a) (op_of_train t b) (to.sum - from.sum)
+  pub none : from.place ≤ to.place → (sum : ℕ) → IsTrainArc node (op_of_train t a) (op_of_train t b) sum → ⊥
 
 -- the operation that a mark names as the one that comes next, and what follows it
 abbrev pub next_followed : ℕ → Option ℕ → (ℕ → Option (List ℕ)) → Option (List ℕ)
@@ -64,14 +64,14 @@ BeginsEach node t e = (route : List ℕ) → IsAllowed node t route → (rest : 
 -- allowed routes
 pub record AreAllowedRows (node : Node) (t : ℕ) (order : List ℕ) (rows : List (List ℕ)) : Type 0 where
   pub laid : IsLaid (train_at node.problem t) order rows
-  pub walk : (route : List ℕ) → IsAllowed node t route → IsWalk order rows (last_of order) route
-  pub route : (route : List ℕ) → IsWalk order rows (last_of order) route → IsAllowed node t route
+  pub walk : (route : List ℕ) → IsAllowed node t route → IsRowWalk order rows (last_of order) route
+  pub route : (route : List ℕ) → IsRowWalk order rows (last_of order) route → IsAllowed node t route
 
 -- what is kept of a train's routes says which are allowed at the node
 pub record AreRoutesOf (node : Node) (t : ℕ) (routes : Routes) : Type 0 where
   pub left : IsTrue routes.left ↔ HasRoute node t
-  pub marks : (o : ℕ) → MatchOption (mark_at routes.marks.items o) (IsForced node (op_of t o) → ⊥) (IsMarkOf node t o)
-  pub ordered : (a b : ℕ) (from to : Mark) → mark_at routes.marks.items a ≡ Some from → mark_at routes.marks.items b ≡ Some to → AreOrdered node t a b from to
+  pub marks : (o : ℕ) → MatchOption (mark_at routes.marks.items o) (IsForced node (op_of_train t o) → ⊥) (IsMarkOf node t o)
+  pub ordered : (a b : ℕ) (from to : Mark) → mark_at routes.marks.items a ≡ Some from → mark_at routes.marks.items b ≡ Some to → AreMarksInOrder node t a b from to
   pub begins : BeginsEach node t routes.entry
   pub ends : (o : ℕ) (mark : Mark) → mark_at routes.marks.items o ≡ Some mark → (mark.place ≡ 0) ↔ IsExit (train_at node.problem t) o
   pub short : (o : ℕ) (mark : Mark) → mark_at routes.marks.items o ≡ Some mark → mark.place < length routes.marks.items

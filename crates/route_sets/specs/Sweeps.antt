@@ -7,7 +7,7 @@ use Rattle.route_sets.specs.declared.sweep.Swept.{Swept}
 use Rattle.route_sets.specs.Asks.{ask_at}
 
 -- a route may go on from the operation to the other, by what is asked of the operation
-pub record MayGo (ask : Ask) (s : ℕ) : Type 0 where
+pub record AskMayGo (ask : Ask) (s : ℕ) : Type 0 where
   pub stays : ask.skipped ≡ false
   pub next : IfSome ask.next (λ n. n ≡ s)
 
@@ -16,28 +16,28 @@ pub record MayEnd (ask : Ask) : Type 0 where
   pub stays : ask.skipped ≡ false
   pub next : ask.next ≡ None
 
-abbrev pub IsWanted : List Ask → ℕ → Type 0
-IsWanted asks q = (ask_at asks q).wanted ≡ true
+abbrev pub IsWantedAsk : List Ask → ℕ → Type 0
+IsWantedAsk asks q = (ask_at asks q).wanted ≡ true
 
 -- each operation of the way goes on as it is asked
-abbrev pub Keeps : List Ask → ℕ → List ℕ → Type 0
-Keeps asks o [] = MayEnd (ask_at asks o)
-Keeps asks o (s ∷ rest) = MayGo (ask_at asks o) s × Keeps asks s rest
+abbrev pub KeepsAsks : List Ask → ℕ → List ℕ → Type 0
+KeepsAsks asks o [] = MayEnd (ask_at asks o)
+KeepsAsks asks o (s ∷ rest) = AskMayGo (ask_at asks o) s × KeepsAsks asks s rest
 
 -- the way goes from the operation to the exit, as asked, and has all wanted of the operations so far
-pub record IsWay (train : List Operation) (asks : List Ask) (done : List ℕ) (o : ℕ) (rest : List ℕ) : Type 0 where
+pub record IsWayLeft (train : List Operation) (asks : List Ask) (done : List ℕ) (o : ℕ) (rest : List ℕ) : Type 0 where
   pub goes : GoesOn train o rest
-  pub keeps : Keeps asks o rest
-  pub wanted : (q : ℕ) → Contains done q → IsWanted asks q → Contains (o ∷ rest) q
+  pub keeps : KeepsAsks asks o rest
+  pub wanted : (q : ℕ) → Contains done q → IsWantedAsk asks q → Contains (o ∷ rest) q
 
 abbrev pub HasWay : List Operation → List Ask → List ℕ → ℕ → Type 0
-HasWay train asks done o = (rest : List ℕ) × IsWay train asks done o rest
+HasWay train asks done o = (rest : List ℕ) × IsWayLeft train asks done o rest
 
 -- what is held of the operations so far: how many are wanted of them, and which of them have a way with all of those
 pub record IsHeld (train : List Operation) (asks : List Ask) (done : List ℕ) (held : List (Option ℕ)) (count : ℕ) : Type 0 where
   pub long : length held ≡ length train
   pub fits : count ≤ length done
-  pub some : 0 < count → (q : ℕ) × Contains done q × IsWanted asks q
+  pub some : 0 < count → (q : ℕ) × Contains done q × IsWantedAsk asks q
   pub none : count ≡ 0 → (q : ℕ) → Contains done q → (ask_at asks q).wanted ≡ false
   pub at_most : (o k : ℕ) → slice_get held o ≡ Some (Some k) → k ≤ count
   pub sound : (o : ℕ) → slice_get held o ≡ Some (Some count) → Contains done o × HasWay train asks done o
@@ -55,12 +55,12 @@ pub record CanEnd (operation : Operation) (ask : Ask) (count : ℕ) : Type 0 whe
 
 -- the operation may go on to the other, which has a way of so many wanted operations
 pub record IsKept (ask : Ask) (held : List (Option ℕ)) (count s : ℕ) : Type 0 where
-  pub may : MayGo ask s
+  pub may : AskMayGo ask s
   pub holds : slice_get held s ≡ Some (Some count)
 
 -- the successors that an operation goes on to on ways with all that is wanted of the operations before it in the order
 abbrev pub IsRow : List Operation → List Ask → List ℕ → ℕ → List ℕ → Type 0
-IsRow train asks before o row = (s : ℕ) → Contains row s ↔ (IsSuccessor train o s × MayGo (ask_at asks o) s × HasWay train asks before s)
+IsRow train asks before o row = (s : ℕ) → Contains row s ↔ (IsSuccessor train o s × AskMayGo (ask_at asks o) s × HasWay train asks before s)
 
 -- such a row of each operation, in the order
 pub record AreRows (train : List Operation) (asks : List Ask) (order : List ℕ) (count : ℕ) (rows : List (List ℕ)) : Type 0 where

@@ -1,6 +1,6 @@
 ghost use Rattle.std.specs.Prelude.{◌≡◌, ◌<◌, IfOk, IfSome, All, length};
 ghost use Rattle.disp_model.specs.Routes.{AgreesWithFixing, AgreesWithDecision};
-ghost use Rattle.route_sets.specs.Asks.{joined, differ, demand_of_fixing, demand_of_decision, Meets, Takes, AreAsks};
+ghost use Rattle.route_sets.specs.Asks.{joined, differ, demand_of_fixing, demand_of_decision, MeetsAsk, TakesAsks, AreAsks};
 
 use disp_model::{Decision, Fixing, Memory};
 use std::alloc::Global;
@@ -133,7 +133,7 @@ fn demand_of_decision(train: u32, decision: &Decision) -> Demand
 /// what no route can do.
 fn add(asks: &mut Vec<Ask>, demand: Demand)
     requires { 0 < length asks.old.items }
-    ensures { Takes (λ route. Meets route demand.op demand.ask) asks.old.items asks.new.items }
+    ensures { TakesAsks (λ route. MeetsAsk route demand.op demand.ask) asks.old.items asks.new.items }
 {
     let at = demand.op as usize;
     if at < asks.len() {
@@ -146,7 +146,7 @@ fn add(asks: &mut Vec<Ask>, demand: Demand)
 /// Adds what the fixings of the train ask.
 fn add_fixings(asks: &mut Vec<Ask>, train: u32, fixings: &[Fixing])
     requires { 0 < length asks.old.items }
-    ensures { Takes (λ route. All (AgreesWithFixing train route) fixings.now) asks.old.items
+    ensures { TakesAsks (λ route. All (AgreesWithFixing train route) fixings.now) asks.old.items
         asks.new.items }
 {
     for fixing in fixings {
@@ -157,7 +157,7 @@ fn add_fixings(asks: &mut Vec<Ask>, train: u32, fixings: &[Fixing])
 /// Adds what the decisions of the train ask.
 fn add_decisions(asks: &mut Vec<Ask>, train: u32, decisions: &[Decision])
     requires { 0 < length asks.old.items }
-    ensures { Takes (λ route. All (AgreesWithDecision train route) decisions.now) asks.old.items
+    ensures { TakesAsks (λ route. All (AgreesWithDecision train route) decisions.now) asks.old.items
         asks.new.items }
 {
     for decision in decisions {

@@ -79,7 +79,7 @@ fn routes_by(
 }
 
 impl Routes {
-    ghost use Rattle.route_sets.specs.Sets.{op_of, AreAllowedRows, follow, IsOnlyRoute, parting, IsAloneUnparted};
+    ghost use Rattle.route_sets.specs.Sets.{op_of_train, AreAllowedRows, follow, IsOnlyRoute, parting, IsAloneUnparted};
 
     /// The routes of a train that the fixings and the decisions allow. Takes time linear in the
     /// operations of the train, their successors, the fixings and the decisions.
@@ -158,7 +158,7 @@ impl Routes {
     /// Whether some route is allowed, and each allowed route has the operation.
     pub fn forced(&self, op: u32) -> bool
         ensures { (node : Node) (t : ℕ) → AreRoutesOf node t self.now
-            → IsTrue result ↔ IsForced node (op_of t op) }
+            → IsTrue result ↔ IsForced node (op_of_train t op) }
     {
         self.mark(op).is_some()
     }
@@ -167,7 +167,7 @@ impl Routes {
     pub fn only_next(&self, op: u32) -> Option<u32>
         ensures { (node : Node) (t : ℕ) → AreRoutesOf node t self.now → (s : ℕ)
             → (result ≡ Some s)
-            ↔ (IsForced node (op_of t op) × GoesTo node (op_of t op) (op_of t s)) }
+            ↔ (IsForced node (op_of_train t op) × GoesTo node (op_of_train t op) (op_of_train t s)) }
     {
         self.mark(op)?.next
     }
@@ -177,8 +177,8 @@ impl Routes {
     pub fn least_between(&self, a: u32, b: u32) -> Option<u64>
         ensures { (node : Node) (t : ℕ) → AreRoutesOf node t self.now → (sum : ℕ)
             → (result ≡ Some sum)
-            ↔ (IsForced node (op_of t a) × IsForced node (op_of t b)
-            × IsTrainArc node (op_of t a) (op_of t b) sum) }
+            ↔ (IsForced node (op_of_train t a) × IsForced node (op_of_train t b)
+            × IsTrainArc node (op_of_train t a) (op_of_train t b) sum) }
     {
         let from = self.mark(a)?;
         let to = self.mark(b)?;
@@ -246,7 +246,7 @@ impl Routes {
     /// operation.
     pub fn fork(&self) -> Option<u32>
         ensures part { (node : Node) (t : ℕ) → AreRoutesOf node t self.now → (o : ℕ)
-            → (result ≡ Some o) ↔ IsFork node (op_of t o) }
+            → (result ≡ Some o) ↔ IsFork node (op_of_train t o) }
         ensures alone { (node : Node) (t : ℕ) → AreRoutesOf node t self.now
             → IsAloneUnparted node t result }
     {

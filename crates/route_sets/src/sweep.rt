@@ -1,7 +1,7 @@
 ghost use Rattle.std.specs.Prelude.{◌≡◌, ◌↔◌, ◌⊎◌, ◌<◌, ◌^◌, ℕ, [], ◌∷◌, ◌++◌, All, IfOk, IfSome, IsTrue, Some, None, Contains, length, if◌then◌else◌};
 ghost use Rattle.disp_model.specs.WellFormed.{IsAcyclic};
 ghost use Rattle.train_orders.specs.Orders.{IsInside, IsOrder};
-ghost use Rattle.route_sets.specs.Sweeps.{MayGo, CanEnd, IsKept, IsSwept, counted};
+ghost use Rattle.route_sets.specs.Sweeps.{AskMayGo, CanEnd, IsKept, IsSwept, counted};
 
 use crate::asks::Ask;
 use disp_model::{List, Memory, Operation};
@@ -30,7 +30,7 @@ fn goes_to(wanted: Option<u64>, next: u32) -> bool
 
 /// Whether an operation may go on to another, by what is asked of it.
 fn may_go(ask: Ask, next: u32) -> bool
-    ensures { IsTrue result ↔ MayGo ask next }
+    ensures { IsTrue result ↔ AskMayGo ask next }
 {
     !ask.skipped && goes_to(ask.next, next)
 }

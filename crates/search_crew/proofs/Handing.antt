@@ -14,7 +14,7 @@ use Rattle.disp_model.specs.Node.{Node, node_at, with_decision}
 use Rattle.disp_model.specs.Trees.{children_of}
 use Rattle.open_nodes.specs.declared.work.Fragment.{Fragment}
 use Rattle.open_nodes.specs.declared.work.Work.{Work}
-use Rattle.tree_growth.specs.Grown.{Helps, Grows, branches}
+use Rattle.tree_growth.specs.Grown.{Helps, GrowsBelow, branches}
 use Rattle.dispatch_core.specs.States.{IsExamined}
 use Rattle.turn_lock.specs.Known.{Known}
 use Rattle.shared_board.specs.declared.board.Board.{Board}
@@ -26,16 +26,16 @@ use Rattle.shared_board.specs.Standing.{SameRole}
 use Rattle.search_workers.specs.declared.growth.Growth.{Growth}
 use Rattle.search_workers.specs.declared.growth.Growth.TheVariants as growth
 use Rattle.search_workers.specs.Grown.{IsPlanAt, IsGrownOf}
-use Rattle.search_crew.specs.Grounds.{IsNoMore}
+use Rattle.search_crew.specs.Grounds.{IsBestNoMore}
 use Rattle.search_crew.specs.Working.{IsAtWork}
 
 -- ---- what grew below a lesser cost grew below a greater
 
-module _ (best other : Option ℕ) (less : IsNoMore best other) (rule : Rule) where
+module _ (best other : Option ℕ) (less : IsBestNoMore best other) (rule : Rule) where
   helps_more : (node : Node) (choice : Choice) → Helps rule best node choice → Helps rule other node choice
   helps_more node choice is = record { alive = is.alive; picked = is.picked; bound = is.bound; bound_is = is.bound_is; below = less is.bound is.below }
 
-  grows_more : (places : List Node) (tree : List TreeNode) (bounds : List ℕ) → Grows rule best places tree bounds → Grows rule other places tree bounds
+  grows_more : (places : List Node) (tree : List TreeNode) (bounds : List ℕ) → GrowsBelow rule best places tree bounds → GrowsBelow rule other places tree bounds
   grows_more [] [] [] is = tt
   grows_more [] [] (bound ∷ bounds) is = absurd is
   grows_more [] (top ∷ tree) bounds is = absurd is
@@ -59,14 +59,14 @@ module _ (board : Board) (rule : Rule) (pass : Pass) (work : Work) (at : IsAtWor
   abbrev pub node : Node
   node = node_at (problem_of board) (fixings_after work.edition (known pass).seen) work.decisions
 
-  pub growth_of : (nodes : List TreeNode) (bounds : List ℕ) → Grows rule work.best (node ∷ []) nodes bounds → branches nodes ≤ work.allowance
+  pub growth_of : (nodes : List TreeNode) (bounds : List ℕ) → GrowsBelow rule work.best (node ∷ []) nodes bounds → branches nodes ≤ work.allowance
       → IsGrowthOf (known pass) (record { work = work; subtree = nodes; bounds = bounds })
   growth_of nodes bounds grows few = record {
     terms = at.searcher.terms;
     terms_are = at.searcher.terms_are;
     edition = at.edition_is;
-    grows = subst (λ (r : Rule). Grows r work.best (node_at at.searcher.terms.problem (fixings_after work.edition (known pass).seen) work.decisions ∷ []) nodes bounds) (sym at.rule_is)
-        (subst (λ (p : Problem). Grows rule work.best (node_at p (fixings_after work.edition (known pass).seen) work.decisions ∷ []) nodes bounds) (sym at.problem) grows);
+    grows = subst (λ (r : Rule). GrowsBelow r work.best (node_at at.searcher.terms.problem (fixings_after work.edition (known pass).seen) work.decisions ∷ []) nodes bounds) (sym at.rule_is)
+        (subst (λ (p : Problem). GrowsBelow rule work.best (node_at p (fixings_after work.edition (known pass).seen) work.decisions ∷ []) nodes bounds) (sym at.problem) grows);
     few = few;
   }
 

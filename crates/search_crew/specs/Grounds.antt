@@ -7,7 +7,7 @@ use Rattle.disp_model.specs.History.{newest, fixings_after}
 use Rattle.disp_model.specs.Node.{node_at}
 use Rattle.event_graph.specs.Joined.{IsOfEdition}
 use Rattle.node_leaves.specs.Shown.{IsDeadLeaf}
-use Rattle.open_nodes.specs.States.{IsBelow}
+use Rattle.open_nodes.specs.States.{IsBoundBelow}
 use Rattle.share_bound.specs.Known.{HoldFor}
 use Rattle.search_crew.specs.declared.ground.Ground.{Ground}
 use Rattle.search_crew.specs.declared.ground.Ground.TheVariants as ground
@@ -21,5 +21,5 @@ IsGround problem fixings (ground.Alive alive) =
 IsGround problem fixings (ground.Dead leaf) = IsDeadLeaf (node_at problem fixings []) leaf
 
 -- what is below the first is below the second
-abbrev pub IsNoMore : Option ℕ → Option ℕ → Type 0
-IsNoMore best other = (bound : ℕ) → IsBelow bound best → IsBelow bound other
+abbrev pub IsBestNoMore : Option ℕ → Option ℕ → Type 0
+IsBestNoMore best other = (bound : ℕ) → IsBoundBelow bound best → IsBoundBelow bound other

@@ -5,7 +5,7 @@ use Rattle.search_crew.specs.declared.turn.Turn.{Turn}
 use Rattle.search_crew.specs.declared.turn.Turn.TheVariants as turn
 use Rattle.search_crew.specs.Working.{IsAnswered}
 
-abbrev pub IsTurn : ℕ → List Entry → Turn → Type 0
-IsTurn edition seen (turn.Work work) = Unit {0}
-IsTurn edition seen (turn.Answer answer) = IsAnswered edition seen answer
-IsTurn edition seen turn.On = Unit {0}
+abbrev pub IsCrewTurn : ℕ → List Entry → Turn → Type 0
+IsCrewTurn edition seen (turn.Work work) = Unit {0}
+IsCrewTurn edition seen (turn.Answer answer) = IsAnswered edition seen answer
+IsCrewTurn edition seen turn.On = Unit {0}

@@ -13,7 +13,7 @@ use Rattle.shared_board.specs.declared.board.Board.{Board}
 use Rattle.shared_board.specs.declared.pass.Pass.{Pass}
 use Rattle.shared_board.specs.Board.{board_of, problem_of, own_board, known, lines}
 use Rattle.shared_board.specs.Calls.{IsSearcher}
-use Rattle.shared_board.specs.Onward.{GoesOn}
+use Rattle.shared_board.specs.Onward.{PassGoesOn}
 
 -- the pass is a searcher's, of a board with this rule, and has seen the edition
 pub record IsAtWork (board : Board) (rule : Rule) (edition : ℕ) (pass : Pass) : Type 0 where
@@ -25,7 +25,7 @@ pub record IsAtWork (board : Board) (rule : Rule) (edition : ℕ) (pass : Pass) 
 
 -- calls came between, none of them for a line
 pub record KeepsOn (before after : Pass) : Type 0 where
-  pub goes : GoesOn before after
+  pub goes : PassGoesOn before after
   pub lines_are : lines after ≡ lines before
 
 -- an entry settled or stopped the edition so, or a newer one is the newest

@@ -5,7 +5,7 @@ ghost use Rattle.event_graph.specs.Joined.{IsOfEdition};
 ghost use Rattle.node_leaves.specs.Reckoned.{ReckonsFor};
 ghost use Rattle.search_workers.specs.Grown.{IsGrownOf};
 ghost use Rattle.share_bound.specs.Known.{HoldFor};
-ghost use Rattle.search_crew.specs.Grounds.{IsGround, IsNoMore};
+ghost use Rattle.search_crew.specs.Grounds.{IsGround, IsBestNoMore};
 
 use disp_model::{Copied, Fixing, Leaf, Memory, Problem};
 use event_graph::Graph;
@@ -85,7 +85,7 @@ pub(crate) fn ground_of<'p>(
 
 /// The lesser of two best costs, none being the greatest.
 pub(crate) fn lesser(best: Option<u64>, other: Option<u64>) -> Option<u64>
-    ensures { IsNoMore result best }
+    ensures { IsBestNoMore result best }
 {
     match (best, other) {
         (Some(cost), Some(least)) => Some(cost.min(least)),

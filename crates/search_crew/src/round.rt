@@ -6,8 +6,8 @@ ghost use Rattle.node_leaves.specs.Reckoned.{ReckonsFor};
 ghost use Rattle.shared_board.specs.Board.{board_of, problem_of, own_board, known};
 ghost use Rattle.shared_board.specs.Calls.{IsSearcher};
 ghost use Rattle.search_crew.specs.Crews.{IsHandOf, IsSameHand};
-ghost use Rattle.search_crew.specs.Grounds.{IsGround, IsNoMore};
-ghost use Rattle.search_crew.specs.Turns.{IsTurn};
+ghost use Rattle.search_crew.specs.Grounds.{IsGround, IsBestNoMore};
+ghost use Rattle.search_crew.specs.Turns.{IsCrewTurn};
 ghost use Rattle.search_crew.specs.Working.{IsAnswered, IsAtWork, KeepsOn};
 
 use crate::crew::{Crew, Hand};
@@ -30,7 +30,7 @@ struct Outdated;
 fn cutoff(crew: &Crew, hand: &mut Hand, work: &Work) -> Result<Option<u64>, Outdated>
     requires { IsHandOf crew.now hand.old }
     ensures hand { IsSameHand hand.old hand.new }
-    ensures best { IfOk result (λ best. IsNoMore best work.now.best) }
+    ensures best { IfOk result (λ best. IsBestNoMore best work.now.best) }
 {
     let (newest, least) = crew.least.least(&mut hand.cell);
     if work.edition < newest {
@@ -92,7 +92,7 @@ fn find_turn<W: Wait>(
     requires searcher { IsSearcher (known pass.old) }
     ensures on { KeepsOn pass.old pass.new }
     ensures hand { IsSameHand hand.old hand.new }
-    ensures turn { IfOk result (IsTurn edition (known pass.new).seen) }
+    ensures turn { IfOk result (IsCrewTurn edition (known pass.new).seen) }
 {
     if let Some(work) = hand.take_or_steal(crew) {
         return Ok(Turn::Work(work));

@@ -2,7 +2,7 @@ ghost use Rattle.std.specs.Prelude.{◌≡◌, IfOk};
 ghost use Rattle.shared_board.specs.Board.{board_of, own_board, known};
 ghost use Rattle.shared_board.specs.Calls.{IsSearcher};
 ghost use Rattle.search_crew.specs.Crews.{IsSameHand};
-ghost use Rattle.search_crew.specs.Turns.{IsTurn};
+ghost use Rattle.search_crew.specs.Turns.{IsCrewTurn};
 ghost use Rattle.search_crew.specs.Working.{KeepsOn};
 
 use crate::answered::answered;
@@ -45,7 +45,7 @@ fn settle<W: Wait>(
 ) -> Result<Turn, Memory>
     requires { own_board pass.old ≡ board_of board.now }
     ensures on { KeepsOn pass.old pass.new }
-    ensures turn { IfOk result (IsTurn edition (known pass.new).seen) }
+    ensures turn { IfOk result (IsCrewTurn edition (known pass.new).seen) }
 {
     board.settle(rt, alloc, pass, edition)?;
     Ok(Turn::On)
@@ -61,7 +61,7 @@ fn stop<W: Wait>(
 ) -> Result<Turn, Memory>
     requires { own_board pass.old ≡ board_of board.now }
     ensures on { KeepsOn pass.old pass.new }
-    ensures turn { IfOk result (IsTurn edition (known pass.new).seen) }
+    ensures turn { IfOk result (IsCrewTurn edition (known pass.new).seen) }
 {
     board.stop(rt, alloc, pass, edition)?;
     Ok(Turn::On)
@@ -81,7 +81,7 @@ pub(crate) fn next_turn<W: Wait>(
     requires board { own_board pass.old ≡ board_of board.now }
     requires searcher { IsSearcher (known pass.old) }
     ensures on { KeepsOn pass.old pass.new }
-    ensures turn { IfOk result (IsTurn edition (known pass.new).seen) }
+    ensures turn { IfOk result (IsCrewTurn edition (known pass.new).seen) }
 {
     let moves = board.moves();
     match board.take(rt, alloc, pass, edition, want)? {

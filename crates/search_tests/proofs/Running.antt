@@ -22,12 +22,12 @@ use Rattle.dispatch_core.specs.declared.event.CoreReply.TheVariants as reply
 use Rattle.open_nodes.specs.declared.work.Fragment.{Fragment}
 use Rattle.search_tests.specs.Scripts.{IsGrownAt, IsRun}
 use Rattle.search_workers.proofs.GoingOn.{steps_on}
-use Rattle.search_workers.specs.Searched.{IsSearch}
-use Rattle.tree_growth.specs.Grown.{Grows}
+use Rattle.search_workers.specs.Searched.{IsSearchEvent}
+use Rattle.tree_growth.specs.Grown.{GrowsBelow}
 
 module _ (core after : Core) (run : IsRun core) where
   -- a searcher's event
-  searched : (asked : CoreEvent) (told : CoreReply) → IsSearch asked → Steps core asked told after → IsRun after
+  searched : (asked : CoreEvent) (told : CoreReply) → IsSearchEvent asked → Steps core asked told after → IsRun after
   searched asked told search is =
       let on = steps_on core after asked told search is in
       record { rule = ap (λ (s : Settings). s.rule) on.settings ∙ run.rule; feeds = subst (λ (l : List Bool). 0 < length l) (sym on.ended) run.feeds }
@@ -52,7 +52,7 @@ module _ (core after : Core) (run : IsRun core) where
 pub may_hand_in : (core : Core) (fixings : List Fixing) (fragment : Fragment) → IsRun core
     → fixings ≡ fixings_after fragment.work.edition core.history → IsGrownAt core.problem fixings fragment.work fragment.subtree fragment.bounds → IsGrowth core fragment
 may_hand_in core fixings fragment run are grown =
-    let Wanted : Rule → List Fixing → Type 0 = λ rule f. Grows rule fragment.work.best (node_at core.problem f fragment.work.decisions ∷ []) fragment.subtree fragment.bounds in
+    let Wanted : Rule → List Fixing → Type 0 = λ rule f. GrowsBelow rule fragment.work.best (node_at core.problem f fragment.work.decisions ∷ []) fragment.subtree fragment.bounds in
     record {
       grows = subst (λ (rule : Rule). Wanted rule (fixings_after fragment.work.edition core.history)) (sym run.rule) (subst (λ (f : List Fixing). Wanted Fixed f) are grown.grows);
       few = grown.few;

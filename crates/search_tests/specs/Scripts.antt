@@ -6,7 +6,7 @@ use Rattle.disp_model.specs.declared.settings.Rule.TheVariants.{Fixed}
 use Rattle.disp_model.specs.declared.tree.TreeNode.{TreeNode}
 use Rattle.disp_model.specs.Node.{node_at}
 use Rattle.open_nodes.specs.declared.work.Work.{Work}
-use Rattle.tree_growth.specs.Grown.{Grows, branches}
+use Rattle.tree_growth.specs.Grown.{GrowsBelow, branches}
 use Rattle.dispatch_core.specs.States.{Core}
 
 -- its rule is the fixed one, and it has a feed
@@ -16,5 +16,5 @@ pub record IsRun (core : Core) : Type 0 where
 
 -- a subtree grows at a work's node under these fixings, by no more branches than were allowed
 pub record IsGrownAt (problem : Problem) (fixings : List Fixing) (work : Work) (subtree : List TreeNode) (bounds : List ℕ) : Type 0 where
-  pub grows : Grows Fixed work.best (node_at problem fixings work.decisions ∷ []) subtree bounds
+  pub grows : GrowsBelow Fixed work.best (node_at problem fixings work.decisions ∷ []) subtree bounds
   pub few : branches subtree ≤ work.allowance

@@ -24,29 +24,29 @@ use Rattle.dispatch_core.specs.declared.event.CoreEvent.{CoreEvent}
 use Rattle.dispatch_core.specs.declared.event.CoreEvent.TheVariants as event
 use Rattle.dispatch_core.specs.declared.event.CoreReply.{CoreReply}
 use Rattle.dispatch_core.specs.declared.event.CoreReply.TheVariants as reply
-use Rattle.dispatch_core.specs.Replies.{IsTake, IsGrow, IsGiveBack, IsPublish, IsSettle, IsStopped, Steps}
+use Rattle.dispatch_core.specs.Replies.{IsTake, IsGrow, IsGiveBack, IsPublish, IsSettle, IsStopReply, Steps}
 use Rattle.dispatch_core.specs.States.{Core, entered, with_nodes}
-use Rattle.search_workers.specs.Searched.{IsOfSearch, GoesOn, IsOfNewest, IsSearch}
+use Rattle.search_workers.specs.Searched.{IsOfSearch, CoreGoesOn, IsOfNewest, IsSearchEvent}
 use Rattle.search_workers.specs.Walks.{IsBeside}
 
 -- ---- one step after the other
 
 -- another tree alone
-on_nodes : (core : Core) (nodes : State) (after : Core) → after ≡ with_nodes core nodes → GoesOn core after
+on_nodes : (core : Core) (nodes : State) (after : Core) → after ≡ with_nodes core nodes → CoreGoesOn core after
 on_nodes core nodes after is =
-    subst (GoesOn core) (sym is) (record { problem = refl; settings = refl; more = []; history = sym (append-nil core.history); of_search = All-nil IsOfSearch; ended = refl; left = refl })
+    subst (CoreGoesOn core) (sym is) (record { problem = refl; settings = refl; more = []; history = sym (append-nil core.history); of_search = All-nil IsOfSearch; ended = refl; left = refl })
 
 -- nothing at all
-pub on_same : (core after : Core) → after ≡ core → GoesOn core after
+pub on_same : (core after : Core) → after ≡ core → CoreGoesOn core after
 on_same core after is =
-    subst (GoesOn core) (sym is) (record { problem = refl; settings = refl; more = []; history = sym (append-nil core.history); of_search = All-nil IsOfSearch; ended = refl; left = refl })
+    subst (CoreGoesOn core) (sym is) (record { problem = refl; settings = refl; more = []; history = sym (append-nil core.history); of_search = All-nil IsOfSearch; ended = refl; left = refl })
 
 -- an entry, and maybe another tree
-on_entry : (core : Core) (one : Entry) (nodes : State) (after : Core) → IsOfSearch one → after ≡ with_nodes (entered core one) nodes → GoesOn core after
+on_entry : (core : Core) (one : Entry) (nodes : State) (after : Core) → IsOfSearch one → after ≡ with_nodes (entered core one) nodes → CoreGoesOn core after
 on_entry core one nodes after of_search is =
-    subst (GoesOn core) (sym is) (record { problem = refl; settings = refl; more = one ∷ []; history = refl; of_search = All-cons IsOfSearch one [] of_search (All-nil IsOfSearch); ended = refl; left = refl })
+    subst (CoreGoesOn core) (sym is) (record { problem = refl; settings = refl; more = one ∷ []; history = refl; of_search = All-cons IsOfSearch one [] of_search (All-nil IsOfSearch); ended = refl; left = refl })
 
-pub on_on : (one two three : Core) → GoesOn one two → GoesOn two three → GoesOn one three
+pub on_on : (one two three : Core) → CoreGoesOn one two → CoreGoesOn two three → CoreGoesOn one three
 on_on one two three first second = record {
   problem = second.problem ∙ first.problem;
   settings = second.settings ∙ first.settings;
@@ -60,43 +60,43 @@ on_on one two three first second = record {
 -- ---- the core goes on with what a searcher asks
 
 module _ (core : Core) (after : Core) where
-  take_on : (edition want : ℕ) (told : CoreReply) → IsTake core edition want told after → GoesOn core after
+  take_on : (edition want : ℕ) (told : CoreReply) → IsTake core edition want told after → CoreGoesOn core after
   take_on edition want reply.Ripe from = on_nodes core from.nodes after from.after_is
   take_on edition want (reply.Taken work) from = on_nodes core from.nodes after from.after_is
   take_on edition want (reply.AllOut count) from = on_nodes core from.nodes after from.after_is
   take_on edition want (reply.Dry spent) (from, spent_is, all) = on_nodes core from.nodes after from.after_is
   take_on edition want told is = on_same core after is.1
 
-  grow_on : (searcher : ℕ) (fragment : Fragment) (told : CoreReply) → IsGrow core searcher fragment told after → GoesOn core after
+  grow_on : (searcher : ℕ) (fragment : Fragment) (told : CoreReply) → IsGrow core searcher fragment told after → CoreGoesOn core after
   grow_on searcher fragment (reply.Grown count) (splits, from, counted) =
       on_entry core (entry.Grown searcher fragment.work.edition fragment.work.seen fragment.work.node splits) from.nodes after tt from.after_is
   grow_on searcher fragment (reply.Gone node) is = on_same core after is.1
   grow_on searcher fragment told is = absurd is
 
-  back_on : (work : Work) (examined : Bool) (told : CoreReply) → IsGiveBack core work examined told after → GoesOn core after
+  back_on : (work : Work) (examined : Bool) (told : CoreReply) → IsGiveBack core work examined told after → CoreGoesOn core after
   back_on work examined reply.Noted from = on_nodes core from.nodes after from.after_is
   back_on work examined (reply.Gone node) is = on_same core after is.1
   back_on work examined told is = absurd is
 
-  publish_on : (edition : ℕ) (plan : List Event) (told : CoreReply) → IsPublish core edition plan told after → GoesOn core after
+  publish_on : (edition : ℕ) (plan : List Event) (told : CoreReply) → IsPublish core edition plan told after → CoreGoesOn core after
   publish_on edition plan (reply.Invalid fault) is = on_same core after is.2
   publish_on edition plan (reply.NotBetter best) is = on_same core after is.2
   publish_on edition plan (reply.Published cost) is = on_entry core (entry.Published edition plan cost) core.nodes after tt is.2
   publish_on edition plan told is = on_same core after is.1
 
-  settle_on : (edition : ℕ) (told : CoreReply) → IsSettle core edition told after → GoesOn core after
+  settle_on : (edition : ℕ) (told : CoreReply) → IsSettle core edition told after → CoreGoesOn core after
   settle_on edition (reply.StillOpen node bound) is = on_same core after is.2
   settle_on edition (reply.Settled verdict) is = on_entry core _ core.nodes after tt is.2
   settle_on edition told is = on_same core after is.1
 
-  stop_on : (edition : ℕ) (told : CoreReply) → IsStopped core edition told after → GoesOn core after
+  stop_on : (edition : ℕ) (told : CoreReply) → IsStopReply core edition told after → CoreGoesOn core after
   stop_on edition (reply.NotSpent spent) is = on_same core after is.3
   stop_on edition reply.Ripe is = on_same core after is.3
   stop_on edition (reply.Unexamined node) is = on_same core after is.3
   stop_on edition (reply.Stopped bound) is = on_entry core _ core.nodes after tt is.2
   stop_on edition told is = on_same core after is.1
 
-  pub steps_on : (asked : CoreEvent) (told : CoreReply) → IsSearch asked → Steps core asked told after → GoesOn core after
+  pub steps_on : (asked : CoreEvent) (told : CoreReply) → IsSearchEvent asked → Steps core asked told after → CoreGoesOn core after
   steps_on (event.Ask feed line change) told search is = absurd search
   steps_on (event.Unread feed line why) told search is = absurd search
   steps_on (event.Show feed line) told search is = absurd search
@@ -126,7 +126,7 @@ no_changes [] all = refl
 no_changes (one ∷ more) all =
     ap (λ (l : List Change). l ++ changes_of more) (no_change one (All-head IsOfSearch one more all)) ∙ no_changes more (All-tail IsOfSearch one more all)
 
-module _ (before after : Core) (on : GoesOn before after) where
+module _ (before after : Core) (on : CoreGoesOn before after) where
   pub same_changes : changes_of after.history ≡ changes_of before.history
   same_changes =
       ap changes_of on.history ∙ changes_append before.history on.more ∙ ap (λ (l : List Change). changes_of before.history ++ l) (no_changes on.more on.of_search) ∙ append-nil (changes_of before.history)

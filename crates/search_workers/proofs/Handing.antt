@@ -7,7 +7,7 @@ use Rattle.disp_model.specs.History.{newest, edition_of, fixings_after}
 use Rattle.disp_model.specs.Node.{Node, node_at}
 use Rattle.open_nodes.specs.declared.work.Fragment.{Fragment}
 use Rattle.open_nodes.specs.declared.work.Work.{Work}
-use Rattle.tree_growth.specs.Grown.{Grows, branches}
+use Rattle.tree_growth.specs.Grown.{GrowsBelow, branches}
 use Rattle.dispatch_core.specs.Asked.{IsGrowth, MayGiveBack}
 use Rattle.dispatch_core.specs.States.{Core, IsExamined}
 use Rattle.dispatch_core.proofs.Replacing.{newest_fixings}
@@ -30,8 +30,8 @@ at_newest P core graph decisions is holds =
     subst (λ (p : Problem). P (node_at p (edition_of core.history) decisions)) is.problem (subst (λ (f : List Fixing). P (node_at graph.problem f decisions)) is.fixings holds)
 
 pub is_growth : (core : Core) (fragment : Fragment) → fragment.work.edition ≡ newest core.history
-    → Grows core.settings.rule fragment.work.best (node_of core fragment.work ∷ []) fragment.subtree fragment.bounds → branches fragment.subtree ≤ fragment.work.allowance → IsGrowth core fragment
+    → GrowsBelow core.settings.rule fragment.work.best (node_of core fragment.work ∷ []) fragment.subtree fragment.bounds → branches fragment.subtree ≤ fragment.work.allowance → IsGrowth core fragment
 is_growth core fragment is_newest grows few = record {
-  grows = carried core fragment.work is_newest (λ fixings. Grows core.settings.rule fragment.work.best (node_at core.problem fixings fragment.work.decisions ∷ []) fragment.subtree fragment.bounds) grows;
+  grows = carried core fragment.work is_newest (λ fixings. GrowsBelow core.settings.rule fragment.work.best (node_at core.problem fixings fragment.work.decisions ∷ []) fragment.subtree fragment.bounds) grows;
   few = few;
 }

@@ -5,7 +5,7 @@ use Rattle.disp_model.specs.declared.settings.Rule.{Rule}
 use Rattle.disp_model.specs.WellFormed.{horizon}
 use Rattle.disp_model.specs.Node.{Node}
 use Rattle.disp_model.specs.Valid.{IsValid}
-use Rattle.tree_growth.specs.Grown.{Grows, branches}
+use Rattle.tree_growth.specs.Grown.{GrowsBelow, branches}
 use Rattle.dispatch_core.specs.States.{IsExamined}
 use Rattle.search_workers.specs.declared.growth.Growth.{Growth}
 use Rattle.search_workers.specs.declared.growth.Growth.TheVariants as growth
@@ -19,6 +19,6 @@ pub record IsPlanAt (node : Node) (plan : List Event) : Type 0 where
 -- node is examined, and this is its bound
 abbrev pub IsGrownOf : Rule → Node → Option ℕ → ℕ → ℕ → Growth → Type 0
 IsGrownOf rule node best allowance bound (growth.Subtree nodes bounds plan) =
-    Grows rule best (node ∷ []) nodes bounds × (branches nodes ≤ allowance)
+    GrowsBelow rule best (node ∷ []) nodes bounds × (branches nodes ≤ allowance)
     × ((found : List Event) → plan ≡ Some found → IsPlanAt node found)
 IsGrownOf rule node best allowance bound growth.Examined = IsExamined rule node bound

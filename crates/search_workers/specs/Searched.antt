@@ -24,7 +24,7 @@ IsOfSearch (Settled edition verdict tree) = Unit {0}
 IsOfSearch (Stopped edition spent bound) = Unit {0}
 
 -- entries of a search came behind the others, and nothing else has changed but the tree
-pub record GoesOn (before after : Core) : Type 0 where
+pub record CoreGoesOn (before after : Core) : Type 0 where
   pub problem : after.problem ≡ before.problem
   pub settings : after.settings ≡ before.settings
   pub more : List Entry
@@ -38,19 +38,19 @@ abbrev pub IsClosed : Core → Type 0
 IsClosed core = mark_of (newest core.history) core.history ≢ Working
 
 -- what a searcher asks of the core
-abbrev pub IsSearch : CoreEvent → Type 0
-IsSearch (event.Ask feed line change) = ⊥
-IsSearch (event.Unread feed line why) = ⊥
-IsSearch (event.Show feed line) = ⊥
-IsSearch (event.FeedEnd feed) = ⊥
-IsSearch (event.Leave searcher) = ⊥
-IsSearch event.Next = Unit {0}
-IsSearch (event.Take searcher edition want) = Unit {0}
-IsSearch (event.Grow searcher fragment) = Unit {0}
-IsSearch (event.GiveBack work examined) = Unit {0}
-IsSearch (event.Publish edition plan) = Unit {0}
-IsSearch (event.Settle edition) = Unit {0}
-IsSearch (event.Stop edition) = Unit {0}
+abbrev pub IsSearchEvent : CoreEvent → Type 0
+IsSearchEvent (event.Ask feed line change) = ⊥
+IsSearchEvent (event.Unread feed line why) = ⊥
+IsSearchEvent (event.Show feed line) = ⊥
+IsSearchEvent (event.FeedEnd feed) = ⊥
+IsSearchEvent (event.Leave searcher) = ⊥
+IsSearchEvent event.Next = Unit {0}
+IsSearchEvent (event.Take searcher edition want) = Unit {0}
+IsSearchEvent (event.Grow searcher fragment) = Unit {0}
+IsSearchEvent (event.GiveBack work examined) = Unit {0}
+IsSearchEvent (event.Publish edition plan) = Unit {0}
+IsSearchEvent (event.Settle edition) = Unit {0}
+IsSearchEvent (event.Stop edition) = Unit {0}
 
 -- a node of the newest edition, whose accepted changes are those of an edition
 pub record IsOfNewest (core : Core) (node : Node) : Type 0 where

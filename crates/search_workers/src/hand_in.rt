@@ -5,7 +5,7 @@ ghost use Rattle.disp_model.specs.History.{newest};
 ghost use Rattle.dispatch_core.specs.Asked.{IsGrowth};
 ghost use Rattle.dispatch_core.specs.States.{IsExamined};
 ghost use Rattle.search_workers.specs.Grown.{IsGrownOf};
-ghost use Rattle.search_workers.specs.Searched.{GoesOn, node_of};
+ghost use Rattle.search_workers.specs.Searched.{CoreGoesOn, node_of};
 
 use crate::growth::Growth;
 use crate::turn::{SEARCHER, tell};
@@ -16,7 +16,7 @@ use std::alloc::Global;
 
 /// Gives a work back, unexamined.
 fn give_back(alloc: Global, core: &mut Core, work: Work)
-    ensures { GoesOn core.old core.new }
+    ensures { CoreGoesOn core.old core.new }
 {
     let event = CoreEvent::GiveBack {
         work,
@@ -29,7 +29,7 @@ fn give_back(alloc: Global, core: &mut Core, work: Work)
 fn give_back_examined(alloc: Global, core: &mut Core, work: Work) -> Result<(), Memory>
     requires newest { work.edition ≡ newest core.old.history }
     requires examined { IsExamined core.old.settings.rule (node_of core.old work) work.bound }
-    ensures { GoesOn core.old core.new }
+    ensures { CoreGoesOn core.old core.new }
 {
     let event = CoreEvent::GiveBack {
         work,
@@ -42,7 +42,7 @@ fn give_back_examined(alloc: Global, core: &mut Core, work: Work) -> Result<(), 
 /// Puts what grew in the place of its leaf. Where memory runs out the work is given back.
 fn put_in(alloc: Global, core: &mut Core, fragment: Fragment) -> Result<(), Memory>
     requires { IsGrowth core.old fragment }
-    ensures { GoesOn core.old core.new }
+    ensures { CoreGoesOn core.old core.new }
 {
     let event = CoreEvent::Grow {
         searcher: SEARCHER,
@@ -62,7 +62,7 @@ fn put_in(alloc: Global, core: &mut Core, fragment: Fragment) -> Result<(), Memo
 fn publish(alloc: Global, core: &mut Core, plan: Option<Plan>) -> Result<(), Memory>
     requires { (found : List Event) → plan ≡ Some found
         → All (λ e. e.time ≤ horizon core.old.problem.trains) found }
-    ensures { GoesOn core.old core.new }
+    ensures { CoreGoesOn core.old core.new }
 {
     let Some(plan) = plan else {
         return Ok(());
@@ -77,7 +77,7 @@ fn tell_growth(alloc: Global, core: &mut Core, work: Work, growth: Growth) -> Re
     requires newest { work.edition ≡ newest core.old.history }
     requires grown { IsGrownOf core.old.settings.rule (node_of core.old work) work.best
         work.allowance work.bound growth }
-    ensures { GoesOn core.old core.new }
+    ensures { CoreGoesOn core.old core.new }
 {
     match growth {
         Growth::Examined => give_back_examined(alloc, core, work),
@@ -108,7 +108,7 @@ pub(crate) fn hand_in(
     requires grown { IfOk growth
         (IsGrownOf core.old.settings.rule (node_of core.old work) work.best work.allowance
         work.bound) }
-    ensures { GoesOn core.old core.new }
+    ensures { CoreGoesOn core.old core.new }
 {
     match growth {
         Ok(growth) => tell_growth(alloc, core, work, growth),

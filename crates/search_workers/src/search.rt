@@ -6,7 +6,7 @@ ghost use Rattle.node_leaves.specs.Reckoned.{ReckonsFor};
 ghost use Rattle.node_leaves.specs.Shown.{IsDeadLeaf};
 ghost use Rattle.share_bound.specs.Known.{HoldFor};
 ghost use Rattle.search_workers.specs.declared.growth.Growth.TheVariants.{Subtree};
-ghost use Rattle.search_workers.specs.Searched.{GoesOn, IsClosed, IsOfNewest};
+ghost use Rattle.search_workers.specs.Searched.{CoreGoesOn, IsClosed, IsOfNewest};
 
 use crate::effort::{Effort, FOR_PLAN};
 use crate::growth::{Growth, grow, leaf_alone, target_after};
@@ -56,7 +56,7 @@ fn round(
     requires newest { IsOfNewest core.old graph.old }
     requires known { HoldFor graph.old known.old }
     ensures known { HoldFor graph.new known.new }
-    ensures on { GoesOn core.old core.new }
+    ensures on { CoreGoesOn core.old core.new }
     ensures newest { IsOfNewest core.new graph.new }
     ensures closed { IfOk result (λ closed. closed ≡ true → IsClosed core.new) }
 {
@@ -82,7 +82,7 @@ fn round(
 fn round_of_dead(alloc: Global, core: &mut Core, leaf: &Leaf) -> Result<bool, Memory>
     requires dead { IsDeadLeaf (node_at core.old.problem (edition_of core.old.history) [])
         leaf.now }
-    ensures on { GoesOn core.old core.new }
+    ensures on { CoreGoesOn core.old core.new }
     ensures closed { IfOk result (λ closed. closed ≡ true → IsClosed core.new) }
 {
     match next_turn(alloc, core, FOR_PLAN)? {
@@ -109,7 +109,7 @@ fn rounds(
     requires reckons { ReckonsFor problem.now reckoning.now }
     requires rule { core.old.settings.rule ≡ reckoning.now.rule }
     requires newest { IsOfNewest core.old graph.old }
-    ensures on { GoesOn core.old core.new }
+    ensures on { CoreGoesOn core.old core.new }
     ensures closed { OnOk result (IsClosed core.new) }
 {
     let mut effort = Effort::new(FOR_PLAN);
@@ -135,7 +135,7 @@ fn rounds(
 fn rounds_of_dead(alloc: Global, core: &mut Core, leaf: &Leaf) -> Result<(), Memory>
     requires dead { IsDeadLeaf (node_at core.old.problem (edition_of core.old.history) [])
         leaf.now }
-    ensures on { GoesOn core.old core.new }
+    ensures on { CoreGoesOn core.old core.new }
     ensures closed { OnOk result (IsClosed core.new) }
 {
     for _ in 0..u64::MAX {
@@ -177,7 +177,7 @@ pub fn search_alone(
 ) -> Result<(), Memory>
     requires problem { core.old.problem ≡ problem.now }
     requires rule { core.old.settings.rule ≡ rule }
-    ensures goes_on { GoesOn core.old core.new }
+    ensures goes_on { CoreGoesOn core.old core.new }
     ensures closed { OnOk result (IsClosed core.new) }
 {
     let _edition = core.edition();

@@ -1,7 +1,7 @@
 ghost use Rattle.std.specs.Prelude.{◌≡◌, IfOk};
 ghost use Rattle.dispatch_core.specs.Asked.{MayStep};
 ghost use Rattle.dispatch_core.specs.Replies.{Steps};
-ghost use Rattle.search_workers.specs.Searched.{GoesOn, IsSearch, IsTurn};
+ghost use Rattle.search_workers.specs.Searched.{CoreGoesOn, IsSearchEvent, IsTurn};
 
 use disp_model::Memory;
 use dispatch_core::{Core, CoreEvent, CoreReply};
@@ -25,8 +25,8 @@ pub(crate) enum Turn {
 /// Asks something of the core. Fails for memory alone; then nothing has changed.
 pub(crate) fn tell(alloc: Global, core: &mut Core, event: CoreEvent) -> Result<CoreReply, Memory>
     requires may { MayStep core.old event }
-    requires search { IsSearch event }
-    ensures on { GoesOn core.old core.new }
+    requires search { IsSearchEvent event }
+    ensures on { CoreGoesOn core.old core.new }
     ensures told { IfOk result (λ told. Steps core.old event told core.new) }
 {
     match core.step(alloc, event) {
@@ -38,7 +38,7 @@ pub(crate) fn tell(alloc: Global, core: &mut Core, event: CoreEvent) -> Result<C
 /// Takes a leaf of the newest edition, to grow so many branches. Where none is wanted, settles it;
 /// where none may be taken, stops it.
 pub(crate) fn next_turn(alloc: Global, core: &mut Core, want: u32) -> Result<Turn, Memory>
-    ensures on { GoesOn core.old core.new }
+    ensures on { CoreGoesOn core.old core.new }
     ensures turn { IfOk result (IsTurn core.new) }
 {
     let edition = core.edition();

@@ -11,7 +11,7 @@ use Rattle.disp_model.specs.Shares.{IsBase}
 use Rattle.disp_laws.proofs.RouteSearch.{is_forced_or_not}
 use Rattle.disp_laws.proofs.HorizonBounds.{AreSmall, edition_is_small}
 use Rattle.incremental_paths.specs.declared.arc.Arc.{Arc}
-use Rattle.incremental_paths.specs.Walks.{Follows, last_from, IsWalkTo, IsLongest, walk_length}
+use Rattle.incremental_paths.specs.Walks.{FollowsArcs, last_node_from, IsWalkTo, IsLongestLength, walk_length}
 use Rattle.incremental_paths.proofs.Members.{joining}
 use Rattle.event_arcs.specs.Listed.{IsArcOf, AreArcsOf, AreLowersOf}
 use Rattle.event_arcs.proofs.Numbering.{forced_is_op, same_by_number}
@@ -24,16 +24,16 @@ edition_small node edition = subst AreSmall (sym edition.2)
     (edition_is_small node.problem edition.0 edition.1)
 
 -- an arc leads into the last node of a way
-arc_into : (arcs : List Arc) (n m : ℕ) (rest : List ℕ) → Follows arcs n (m ∷ rest) → (arc : Arc)
-    × Contains arcs arc × (arc.to ≡ last_from m rest)
+arc_into : (arcs : List Arc) (n m : ℕ) (rest : List ℕ) → FollowsArcs arcs n (m ∷ rest) → (arc : Arc)
+    × Contains arcs arc × (arc.to ≡ last_node_from m rest)
 arc_into arcs n m [] follows = let listed = joining arcs n m follows.0 in
     (listed.0, listed.1, listed.3)
 arc_into arcs n m (q ∷ rest) follows = arc_into arcs m q rest follows.1
 
 -- no way leads to an operation that is not forced
 nowhere : (node : Node) (arcs : List Arc) (o : Op) (n m : ℕ) (rest : List ℕ) → AreArcsOf node arcs
-    → HasOperation node.problem o → (IsForced node o → ⊥) → Follows arcs n (m ∷ rest)
-    → last_from m rest ≡ number_of node.problem o → ⊥
+    → HasOperation node.problem o → (IsForced node o → ⊥) → FollowsArcs arcs n (m ∷ rest)
+    → last_node_from m rest ≡ number_of node.problem o → ⊥
 nowhere node arcs o n m rest are there not follows last =
     let listed = arc_into arcs n m rest follows in
     let arc = All-contains (IsArcOf node) arcs listed.0 are.sound listed.1 in
@@ -44,7 +44,7 @@ nowhere node arcs o n m rest are there not follows last =
 
 alone : (node : Node) (arcs : List Arc) (lowers : List ℕ) (o : Op) (found : ℕ) → AreArcsOf node arcs
     → AreLowersOf node lowers → HasOperation node.problem o → (IsForced node o → ⊥)
-    → IsLongest lowers arcs (number_of node.problem o) found
+    → IsLongestLength lowers arcs (number_of node.problem o) found
     → found ≡ lower_of node.problem node.fixings o
 alone node arcs lowers o found are_arcs are_lowers there not longest = by longest.reached.0
     longest.reached.1 longest.reached.3
@@ -60,7 +60,7 @@ alone node arcs lowers o found are_arcs are_lowers there not longest = by longes
 pub base_found : (node : Node) (arcs : List Arc) (lowers : List ℕ) (o : Op) (number found : ℕ)
     → AreArcsOf node arcs → AreLowersOf node lowers → (HasCycle node → ⊥)
     → HasOperation node.problem o → number ≡ number_of node.problem o
-    → IsLongest lowers arcs number found → IsBase node o found
+    → IsLongestLength lowers arcs number found → IsBase node o found
 base_found node arcs lowers o number found are_arcs are_lowers no_cycle there is longest = elim
     (is_forced_or_not node o) [
       | inl forced ↦ inl (
@@ -70,5 +70,5 @@ base_found node arcs lowers o number found are_arcs are_lowers no_cycle there is
       | inr not ↦ inr (not, alone node arcs lowers o found are_arcs are_lowers there not own)
     ]
   where
-    own : IsLongest lowers arcs (number_of node.problem o) found
-    own = subst (λ (n : ℕ). IsLongest lowers arcs n found) is longest
+    own : IsLongestLength lowers arcs (number_of node.problem o) found
+    own = subst (λ (n : ℕ). IsLongestLength lowers arcs n found) is longest

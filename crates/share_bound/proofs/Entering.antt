@@ -7,7 +7,7 @@ use Rattle.std.proofs.lemmas.List.{length-set, length-replicate}
 use Rattle.disp_model.specs.declared.train.Operation.{Operation}
 use Rattle.disp_model.specs.Train.{duration_of}
 use Rattle.train_orders.proofs.Places.{set_at, set_elsewhere, same_number}
-use Rattle.route_marks.specs.Ways.{Steps, Chain, last_of}
+use Rattle.route_marks.specs.Ways.{StepsAlong, Chain, last_of}
 use Rattle.route_marks.specs.Marks.{IsLaid, Relaxes}
 use Rattle.share_bound.proofs.Stepping.{chain_more, chain_last, steps_row, row_steps, last_here}
 use Rattle.share_bound.specs.Times.{left_after, AreTimes, IsEntering}
@@ -189,7 +189,7 @@ leaves train base order rows place at time through row times new is relaxed = re
     before = is.before
 
     own : (k p s : ℕ) (front : List ℕ) → slice_get order k ≡ Some p → k ≡ place
-        → Chain order rows (last_of order) front p → Steps order rows p s → (x : ℕ)
+        → Chain order rows (last_of order) front p → StepsAlong order rows p s → (x : ℕ)
         × (slice_get new s ≡ Some (Some x)) × (x ≤ left_after base train 0 (front ++ p ∷ []))
     own k p s front on same chain step =
         let e : p ≡ at = same_Some p at (sym (subst (λ (n : ℕ). slice_get order n ≡ Some p) same on)
@@ -202,7 +202,7 @@ leaves train base order rows place at time through row times new is relaxed = re
         in
         let lower = relaxed.lower s
         (steps_row train order rows place at s row is.laid is.here is.row_is
-        (subst (λ (x : ℕ). Steps order rows x s) e step)) in
+        (subst (λ (x : ℕ). StepsAlong order rows x s) e step)) in
         let whole = left_push base train 0 front p in
         let bases = ap base e in
         let lasts = ap (duration_of train) e in (

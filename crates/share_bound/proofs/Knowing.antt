@@ -11,7 +11,7 @@ use Rattle.event_arcs.specs.Owned.{train_of_decision}
 use Rattle.event_arcs.proofs.Extending.{allowed_before, allowed_still}
 use Rattle.share_bound.specs.declared.known.KnownShare.{KnownShare}
 use Rattle.share_bound.specs.declared.known.KnownShares.{KnownShares}
-use Rattle.share_bound.specs.Known.{known_of, HoldsFor, HoldFor, IsAboutNone, IsCurrentShare, IsCurrent}
+use Rattle.share_bound.specs.Known.{known_of, HoldsFor, HoldFor, IsAboutNone, IsCurrentShare, IsShareCurrent}
 
 -- ---- one train, whose routes the decision is not about
 
@@ -163,7 +163,7 @@ back_holds node decision old new u put there about is long hold one_holds = reco
 
 -- what is known is what is read
 pub current_one : (node : Node) (t : ℕ) (known : KnownShares) (one : KnownShare)
-    → IsCurrent node t known → known_of known.each.items t ≡ Some one → IsCurrentShare node t one
+    → IsShareCurrent node t known → known_of known.each.items t ≡ Some one → IsCurrentShare node t one
 current_one node t known one is there = subst (IsCurrentShare node t)
     (same_Some is.one one (sym is.known_is ∙ there)) is.current
 

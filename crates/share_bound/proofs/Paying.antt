@@ -7,7 +7,7 @@ use Rattle.std.proofs.lemmas.List.{length-set, get_or-set_same, get_or-set_other
 use Rattle.disp_model.specs.declared.train.Operation.{Operation}
 use Rattle.train_orders.proofs.Places.{contains_none}
 use Rattle.train_orders.proofs.Ordered.{contains_here}
-use Rattle.route_marks.specs.Ways.{Steps, Goes, last_of}
+use Rattle.route_marks.specs.Ways.{StepsAlong, Goes, last_of}
 use Rattle.route_marks.specs.Marks.{IsLaid}
 use Rattle.share_bound.proofs.Stepping.{steps_row, row_steps, last_here}
 use Rattle.share_bound.specs.Prices.{fitted, priced_along}
@@ -28,7 +28,7 @@ pub record IsPaying (train : List Operation) (order : List ℕ) (rows : List (Li
 step_paid : (train : List Operation) (order : List ℕ) (rows : List (List ℕ)) (price : ℕ → ℕ)
     (place at s : ℕ) (costs : List ℕ) → IsLaid train order rows → slice_get order place ≡ Some at
     → ArePaidTo train order rows price place costs
-    → Steps order rows at s → IsCheapest order rows price s (slice_index costs s)
+    → StepsAlong order rows at s → IsCheapest order rows price s (slice_index costs s)
 step_paid train order rows price place at s costs laid here before step = let down = laid.down place
     at s here step in before.each down.0 s down.1 down.2
 
@@ -38,7 +38,7 @@ own_cheapest : (train : List Operation) (order : List ℕ) (rows : List (List �
     → IsCheapest order rows price at cost
 own_cheapest train order rows price place at own behind cost row costs is = by is.least
   where
-    steps : (s : ℕ) → Contains row s → Steps order rows at s
+    steps : (s : ℕ) → Contains row s → StepsAlong order rows at s
     steps s has = row_steps order rows place at s row is.here is.row_is has
 
     paid : (s : ℕ) → Contains row s → IsCheapest order rows price s (slice_index costs s)

@@ -10,7 +10,7 @@ use Rattle.disp_model.specs.Node.{Node}
 use Rattle.disp_model.specs.Shares.{reached_from, IsReach}
 use Rattle.disp_laws.proofs.Paths.{IsIn}
 use Rattle.disp_laws.proofs.Shares.{reached_in}
-use Rattle.route_marks.specs.Ways.{Goes, IsWalk, Chain, last_of}
+use Rattle.route_marks.specs.Ways.{Goes, IsRowWalk, Chain, last_of}
 use Rattle.route_marks.specs.Marks.{IsLaid}
 use Rattle.route_sets.specs.Sets.{AreAllowedRows}
 use Rattle.share_bound.proofs.Stepping.{goes_on, goes_below, last_here}
@@ -83,7 +83,7 @@ chain_reaches train order rows base k p time (q ∷ front) o back laid here chai
 
 -- the first operation of an allowed route and what comes behind it
 pub begins : (order : List ℕ) (rows : List (List ℕ)) (e : ℕ) (route : List ℕ)
-    → IsWalk order rows e route → (rest : List ℕ) × (route ≡ e ∷ rest) × Goes order rows e rest
+    → IsRowWalk order rows e route → (rest : List ℕ) × (route ≡ e ∷ rest) × Goes order rows e rest
 begins order rows e [] walk = absurd walk
 begins order rows e (p ∷ rest) walk = (
   rest,

@@ -11,13 +11,13 @@ use Rattle.disp_model.specs.Train.{duration_of}
 use Rattle.disp_laws.proofs.Paths.{IsIn}
 use Rattle.train_orders.proofs.Places.{contains_none, set_at, set_elsewhere, same_number}
 use Rattle.train_orders.proofs.Ordered.{contains_here}
-use Rattle.route_marks.specs.Ways.{Steps, Goes, Chain, last_of}
+use Rattle.route_marks.specs.Ways.{StepsAlong, Goes, Chain, last_of}
 use Rattle.route_marks.specs.Marks.{IsLaid, lowered, Relaxes, IsLowest}
 
 -- ---- chains and ways
 
 pub chain_more : (order : List ℕ) (rows : List (List ℕ)) (o : ℕ) (front : List ℕ) (z s : ℕ)
-    → Chain order rows o front z → Steps order rows z s → Chain order rows o (front ++ z ∷ []) s
+    → Chain order rows o front z → StepsAlong order rows z s → Chain order rows o (front ++ z ∷ []) s
 chain_more order rows o [] z s chain step = (chain, (s, step, refl))
 chain_more order rows o (p ∷ front) z s chain step = (
   chain.0,
@@ -30,7 +30,7 @@ pub record LastStep (order : List ℕ) (rows : List (List ℕ)) (o : ℕ) (front
   pub op : ℕ
   pub is : front ≡ before ++ op ∷ []
   pub chain : Chain order rows o before op
-  pub steps : Steps order rows op z
+  pub steps : StepsAlong order rows op z
 
 pub chain_last : (order : List ℕ) (rows : List (List ℕ)) (o : ℕ) (front : List ℕ) (z : ℕ)
     → Chain order rows o front z → ((front ≡ []) × (o ≡ z)) ⊎ LastStep order rows o front z
@@ -45,7 +45,7 @@ chain_last order rows o (p ∷ front) z chain = by (chain_last order rows chain.
           op = p;
           is = ap (λ (l : List ℕ). p ∷ l) h.0;
           chain = chain.0;
-          steps = subst (λ (x : ℕ). Steps order rows p x) h.1 chain.1.1;
+          steps = subst (λ (x : ℕ). StepsAlong order rows p x) h.1 chain.1.1;
         })
     by (inr last) = inr
         (record {
@@ -58,7 +58,7 @@ chain_last order rows o (p ∷ front) z chain = by (chain_last order rows chain.
 
 pub steps_row : (train : List Operation) (order : List ℕ) (rows : List (List ℕ)) (k o s : ℕ)
     (row : List ℕ) → IsLaid train order rows → slice_get order k ≡ Some o
-    → slice_get rows k ≡ Some row → Steps order rows o s → Contains row s
+    → slice_get rows k ≡ Some row → StepsAlong order rows o s → Contains row s
 steps_row train order rows k o s row laid here row_is step =
     let place : step.place ≡ k = laid.one_place step.place k o step.here here in
     let same : step.row ≡ row = same_Some step.row row (sym step.row_is
@@ -67,7 +67,7 @@ steps_row train order rows k o s row laid here row_is step =
 
 pub row_steps : (order : List ℕ) (rows : List (List ℕ)) (k o s : ℕ) (row : List ℕ)
     → slice_get order k ≡ Some o → slice_get rows k ≡ Some row → Contains row s
-    → Steps order rows o s
+    → StepsAlong order rows o s
 row_steps order rows k o s row here row_is has = record {
   place = k;
   row = row;

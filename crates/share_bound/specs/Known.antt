@@ -35,7 +35,7 @@ pub record IsCurrentShare (node : Node) (t : ℕ) (known : KnownShare) : Type 0 
   pub share : IsFittedShare node t (base_in known.bases.items) known.share
 
 -- it is known
-pub record IsCurrent (node : Node) (t : ℕ) (known : KnownShares) : Type 0 where
+pub record IsShareCurrent (node : Node) (t : ℕ) (known : KnownShares) : Type 0 where
   pub there : t < length known.each.items
   pub one : KnownShare
   pub known_is : known_of known.each.items t ≡ Some one

@@ -3,7 +3,7 @@
 use Rattle.std.specs.Prelude.{◌≡◌, ℕ, ◌+◌, ◌*◌, ◌^◌, ◌≤◌, max, List, [], ◌∷◌, ◌++◌, length, Option, Some, None, slice_get, slice_index, slice_index_or, unwrap_or}
 use Rattle.disp_model.specs.declared.train.Operation.{Operation}
 use Rattle.disp_model.specs.Train.{duration_of}
-use Rattle.route_marks.specs.Ways.{Steps, Chain, last_of}
+use Rattle.route_marks.specs.Ways.{StepsAlong, Chain, last_of}
 
 -- the base of an operation that is kept in a list
 abbrev pub base_in : List ℕ → ℕ → ℕ
@@ -31,7 +31,7 @@ pub record IsEntering (train : List Operation) (base : ℕ → ℕ) (order : Lis
   pub sound : (o x : ℕ) → slice_get times o ≡ Some (Some x) → (front : List ℕ)
       × Chain order rows (last_of order) front o × (x ≡ left_after base train 0 front)
   pub known : (k p s : ℕ) (front : List ℕ) → slice_get order k ≡ Some p → left ≤ k
-      → Chain order rows (last_of order) front p → Steps order rows p s
+      → Chain order rows (last_of order) front p → StepsAlong order rows p s
       → (x : ℕ) × (slice_get times s ≡ Some (Some x))
       × (x ≤ left_after base train 0 (front ++ p ∷ []))
   pub small : (o x : ℕ) → slice_get times o ≡ Some (Some x)

@@ -7,7 +7,7 @@ ghost use Rattle.event_arcs.specs.Owned.{train_of_decision};
 ghost use Rattle.share_bound.specs.declared.known.KnownShare.{KnownShare as KnownShareOf};
 ghost use Rattle.share_bound.specs.Bases.{AreBasesTo, IsShareWithin};
 ghost use Rattle.share_bound.specs.Components.{AreOwnOf};
-ghost use Rattle.share_bound.specs.Known.{known_of, HoldsFor, HoldFor, IsAboutNone, IsCurrentShare, IsCurrent};
+ghost use Rattle.share_bound.specs.Known.{known_of, HoldsFor, HoldFor, IsAboutNone, IsCurrentShare, IsShareCurrent};
 
 use crate::bases::{base_of, bases_of};
 use crate::components::OwnComponents;
@@ -114,7 +114,7 @@ impl KnownShares {
         requires node { graph.now.problem ≡ problem.now }
         requires train { train < length problem.now.trains }
         requires known { HoldFor graph.now self.now }
-        ensures { IsTrue result → IsCurrent graph.now train self.now }
+        ensures { IsTrue result → IsShareCurrent graph.now train self.now }
     {
         match &self.each[train as usize] {
             Some(known) => known.is_current(problem, graph, train),
@@ -137,7 +137,7 @@ impl KnownShares {
         requires known { HoldFor graph.now self.old }
         requires current { IsCurrentShare graph.now train known }
         ensures known { HoldFor graph.now self.new }
-        ensures current { IsCurrent graph.now train self.new }
+        ensures current { IsShareCurrent graph.now train self.new }
     {
         let _paths = graph.paths();
         let _old = self.put(train, Some(known));
@@ -162,7 +162,7 @@ impl KnownShares {
         requires train { train < length problem.now.trains }
         requires known { HoldFor graph.now self.old }
         ensures known { HoldFor graph.now self.new }
-        ensures current { OnOk result (IsCurrent graph.now train self.new) }
+        ensures current { OnOk result (IsShareCurrent graph.now train self.new) }
     {
         if self.knows(problem, graph, train) {
             return Ok(());

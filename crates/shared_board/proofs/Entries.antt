@@ -12,14 +12,14 @@ use Rattle.dispatch_core.specs.declared.event.CoreEvent.{CoreEvent}
 use Rattle.dispatch_core.specs.declared.event.CoreEvent.TheVariants as event
 use Rattle.dispatch_core.specs.declared.event.CoreReply.{CoreReply}
 use Rattle.dispatch_core.specs.declared.event.CoreReply.TheVariants as reply
-use Rattle.dispatch_core.specs.Replies.{IsAsk, IsShow, IsTake, IsGrow, IsGiveBack, IsPublish, IsSettle, IsStopped, Steps}
+use Rattle.dispatch_core.specs.Replies.{IsAsk, IsShow, IsTake, IsGrow, IsGiveBack, IsPublish, IsSettle, IsStopReply, Steps}
 use Rattle.dispatch_core.specs.States.{Core}
 use Rattle.turn_lock.specs.Known.{Known, StartsWith}
 use Rattle.turn_lock.specs.Section.{Knows}
 use Rattle.shared_board.specs.declared.terms.Terms.{Terms}
 use Rattle.shared_board.specs.Callers.{caller_of}
 use Rattle.shared_board.specs.Calls.{Enters, Looks}
-use Rattle.shared_board.specs.Standing.{SameRole, Stands, EntersAs}
+use Rattle.shared_board.specs.Standing.{SameRole, StandsEntered, EntersAs}
 use Rattle.shared_board.proofs.Running.{seen_after}
 
 same_role : (v w : Known Entry Terms) (before after : List Entry) → Knows caller_of v before after w → SameRole v w
@@ -37,10 +37,10 @@ longer : (before after : List Entry) (one : Entry) → after ≡ before ++ one �
 longer before after one is same = let l = length-append before (one ∷ []) in let m : length after ≡ length (before ++ one ∷ []) = ap length is in let n : length after ≡ length before = ap length same in omega arith
 
 module _ (v w : Known Entry Terms) (core after : Core) (knows : Knows caller_of v core.history after.history w) (starts : StartsWith core.history v.seen) where
-  stands : (one : Entry) → after.history ≡ core.history ++ one ∷ [] → Stands v one w
+  stands : (one : Entry) → after.history ≡ core.history ++ one ∷ [] → StandsEntered v one w
   stands one is = by_knows knows
     where
-      by_knows : Knows caller_of v core.history after.history w → Stands v one w
+      by_knows : Knows caller_of v core.history after.history w → StandsEntered v one w
       by_knows (inl k) = absurd (longer core.history after.history one is k.0)
       by_knows (inr k) = record { front = core.history; starts = starts; seen = seen_after v w core.history after.history knows ∙ is; mine = ap (λ (z : Known Entry Terms). z.mine) k.1 }
 
@@ -95,7 +95,7 @@ module _ (v w : Known Entry Terms) (core after : Core) (knows : Knows caller_of 
   settle_as edition (reply.Settled verdict) is = (_, stands _ (ap (λ (c : Core). c.history) is.2))
   settle_as edition told is = none (ap (λ (c : Core). c.history) is.1)
 
-  stop_as : (edition : ℕ) (told : CoreReply) → IsStopped core edition told after → EntersAs (event.Stop edition) told v w
+  stop_as : (edition : ℕ) (told : CoreReply) → IsStopReply core edition told after → EntersAs (event.Stop edition) told v w
   stop_as edition (reply.NotSpent spent) is = none (ap (λ (c : Core). c.history) is.3)
   stop_as edition reply.Ripe is = none (ap (λ (c : Core). c.history) is.3)
   stop_as edition (reply.Unexamined node) is = none (ap (λ (c : Core). c.history) is.3)

@@ -13,7 +13,7 @@ use Rattle.dispatch_core.specs.declared.event.CoreEvent.{CoreEvent}
 use Rattle.dispatch_core.specs.declared.event.CoreEvent.TheVariants as event
 use Rattle.dispatch_core.specs.declared.event.CoreReply.{CoreReply}
 use Rattle.dispatch_core.specs.declared.event.CoreReply.TheVariants as reply
-use Rattle.dispatch_core.specs.Replies.{with_ended, with_left, IsTake, IsGrow, IsGiveBack, IsPublish, IsSettle, IsStopped, IsAsk, IsShow, Steps}
+use Rattle.dispatch_core.specs.Replies.{with_ended, with_left, IsTake, IsGrow, IsGiveBack, IsPublish, IsSettle, IsStopReply, IsAsk, IsShow, Steps}
 use Rattle.dispatch_core.specs.States.{Core, entered, with_nodes}
 use Rattle.turn_lock.specs.Section.{IsOf, AddsOne}
 use Rattle.shared_board.specs.Callers.{terms_of, caller_of, lines_of}
@@ -74,7 +74,7 @@ module _ (caller : ℕ) (core after : Core) where
   settle_goes edition (reply.Settled verdict) is = on_entry 0 _ core.nodes (inl refl) refl is.2
   settle_goes edition told is = on_same is.1
 
-  stop_goes : (edition : ℕ) (told : CoreReply) → IsStopped core edition told after → Goes caller 0 core after
+  stop_goes : (edition : ℕ) (told : CoreReply) → IsStopReply core edition told after → Goes caller 0 core after
   stop_goes edition (reply.NotSpent spent) is = on_same is.3
   stop_goes edition reply.Ripe is = on_same is.3
   stop_goes edition (reply.Unexamined node) is = on_same is.3

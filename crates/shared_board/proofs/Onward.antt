@@ -24,8 +24,8 @@ use Rattle.shared_board.specs.declared.terms.Terms.{Terms}
 use Rattle.shared_board.specs.Board.{own_board, known, fetched}
 use Rattle.shared_board.specs.Callers.{caller_of, is_line_of}
 use Rattle.shared_board.specs.Calls.{Enters, Looks, Looked, SeesOnly, IsFeed, IsSearcher}
-use Rattle.shared_board.specs.Standing.{SameRole, EntersAs, Stands}
-use Rattle.shared_board.specs.Onward.{entries_by, GoesOn}
+use Rattle.shared_board.specs.Standing.{SameRole, EntersAs, StandsEntered}
+use Rattle.shared_board.specs.Onward.{entries_by, PassGoesOn}
 use Rattle.shared_board.proofs.Entries.{role_entered, role_looked, enters_as}
 use Rattle.shared_board.proofs.LineCounts.{named_line, behind_get}
 use Rattle.shared_board.proofs.Running.{seen_after}
@@ -70,7 +70,7 @@ searcher_on v w role is = record {
 
 -- ---- one call after the other
 
-pub goes_refl : (pass : Pass) → GoesOn pass pass
+pub goes_refl : (pass : Pass) → PassGoesOn pass pass
 goes_refl pass = record {
   board_is = refl;
   fetched_is = refl;
@@ -79,7 +79,7 @@ goes_refl pass = record {
   owns = λ own. own;
 }
 
-pub goes_goes : (one two three : Pass) → GoesOn one two → GoesOn two three → GoesOn one three
+pub goes_goes : (one two three : Pass) → PassGoesOn one two → PassGoesOn two three → PassGoesOn one three
 goes_goes one two three first second = record {
   board_is = second.board_is ∙ first.board_is;
   fetched_is = second.fetched_is ∙ first.fetched_is;
@@ -99,7 +99,7 @@ module _ (before after : Pass) (same : own_board after ≡ own_board before) (fe
       subst (λ (l : List Entry). StartsWith l (known before).seen) (sym (ap (λ (k : Known Entry Terms). k.seen) knows ∙ added.1))
       (starts_more core.history (known before).seen (added.0 ∷ []) starts)
 
-  pub entered_goes : (asked : CoreEvent) (told : CoreReply) → Enters (known before) asked told (known after) → GoesOn before after
+  pub entered_goes : (asked : CoreEvent) (told : CoreReply) → Enters (known before) asked told (known after) → PassGoesOn before after
   entered_goes asked told enters = record {
     board_is = same;
     fetched_is = fetches;
@@ -108,7 +108,7 @@ module _ (before after : Pass) (same : own_board after ≡ own_board before) (fe
     owns = λ own. enters.ran.owns;
   }
 
-  pub looked_goes : Looked (known before) (known after) → GoesOn before after
+  pub looked_goes : Looked (known before) (known after) → PassGoesOn before after
   looked_goes (core, looks) = record {
     board_is = same;
     fetched_is = fetches;
@@ -117,7 +117,7 @@ module _ (before after : Pass) (same : own_board after ≡ own_board before) (fe
     owns = λ own. looks.owns;
   }
 
-  pub seen_only_goes : SeesOnly (known before) (known after) → GoesOn before after
+  pub seen_only_goes : SeesOnly (known before) (known after) → PassGoesOn before after
   seen_only_goes (inl is) = record {
     board_is = same;
     fetched_is = fetches;

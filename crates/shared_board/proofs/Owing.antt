@@ -15,13 +15,13 @@ use Rattle.disp_model.specs.History.{changes_of, fixings_after, newest}
 use Rattle.history_laws.proofs.Appended.{changes_append}
 use Rattle.open_nodes.specs.declared.work.Work.{Work}
 use Rattle.open_nodes.specs.declared.work.Fragment.{Fragment}
-use Rattle.tree_growth.specs.Grown.{Grows}
+use Rattle.tree_growth.specs.Grown.{GrowsBelow}
 use Rattle.dispatch_core.specs.declared.event.CoreEvent.TheVariants as event
 use Rattle.dispatch_core.specs.States.{Core, IsExamined}
 use Rattle.turn_lock.specs.Known.{Known, StartsWith}
 use Rattle.shared_board.specs.declared.terms.Terms.{Terms}
 use Rattle.shared_board.specs.Callers.{terms_of, searcher_caller, searcher_of}
-use Rattle.shared_board.specs.Calls.{Finds, MayEnter, IsFeed, IsSearcher, IsGrowthOf, IsExaminedFor, IsPlanFor}
+use Rattle.shared_board.specs.Calls.{FindsCore, MayEnter, IsFeed, IsSearcher, IsGrowthOf, IsExaminedFor, IsPlanFor}
 
 -- the fixings of an edition that a history has are the same in one that begins with it
 pub fixings_on : (history seen : List Entry) (number : ℕ) → StartsWith history seen → number ≤ newest seen → fixings_after number history ≡ fixings_after number seen
@@ -30,7 +30,7 @@ fixings_on history seen number (rest, is) within =
 
 module _ (v : Known Entry Terms) where
   -- the core that is found has the pass's terms
-  same_terms : (terms : Terms) → v.terms ≡ Some terms → (core : Core) → Finds v core → terms ≡ terms_of core
+  same_terms : (terms : Terms) → v.terms ≡ Some terms → (core : Core) → FindsCore v core → terms ≡ terms_of core
   same_terms terms is core found = same_Some terms (terms_of core) (sym is ∙ found.agrees)
 
   pub may_ask : (feed line : ℕ) (change : Change) → feed ≡ v.caller → MayEnter v (event.Ask feed line change)
@@ -64,8 +64,8 @@ module _ (v : Known Entry Terms) where
   may_grow searcher fragment by is = record {
     by = by;
     may = λ core found. let same = same_terms is.terms is.terms_are core found in record {
-      grows = subst (λ (t : Terms). Grows t.settings.rule fragment.work.best (node_at t.problem (fixings_after fragment.work.edition core.history) fragment.work.decisions ∷ []) fragment.subtree fragment.bounds) same
-          (subst (λ (f : List Fixing). Grows is.terms.settings.rule fragment.work.best (node_at is.terms.problem f fragment.work.decisions ∷ []) fragment.subtree fragment.bounds)
+      grows = subst (λ (t : Terms). GrowsBelow t.settings.rule fragment.work.best (node_at t.problem (fixings_after fragment.work.edition core.history) fragment.work.decisions ∷ []) fragment.subtree fragment.bounds) same
+          (subst (λ (f : List Fixing). GrowsBelow is.terms.settings.rule fragment.work.best (node_at is.terms.problem f fragment.work.decisions ∷ []) fragment.subtree fragment.bounds)
           (sym (fixings_on core.history v.seen fragment.work.edition found.begins.starts is.edition)) is.grows);
       few = is.few;
     };

@@ -8,7 +8,7 @@ use Rattle.disp_model.specs.History.{fixings_after, newest}
 use Rattle.disp_model.specs.Legal.{IsLegal}
 use Rattle.open_nodes.specs.declared.work.Work.{Work}
 use Rattle.open_nodes.specs.declared.work.Fragment.{Fragment}
-use Rattle.tree_growth.specs.Grown.{Grows, branches}
+use Rattle.tree_growth.specs.Grown.{GrowsBelow, branches}
 use Rattle.dispatch_core.specs.declared.event.CoreEvent.{CoreEvent}
 use Rattle.dispatch_core.specs.declared.event.CoreEvent.TheVariants as event
 use Rattle.dispatch_core.specs.declared.event.CoreReply.{CoreReply}
@@ -27,8 +27,8 @@ use Rattle.shared_board.specs.Callers.{terms_of, searcher_caller, caller_of}
 
 -- the core may be behind the lock when the pass gets the turn: it has the pass's terms, is sound, and its history begins with
 -- what the pass has seen, past which it names the pass's caller nowhere
-abbrev pub Finds : Known Entry Terms → Core → Type 0
-Finds v core = MayFindAt (λ (s : Stored). s.core.history) caller_of (λ (s : Stored). terms_of s.core) (λ (s : Stored). IsSound s.core) v.caller v.terms v.seen v.count (record { core = core })
+abbrev pub FindsCore : Known Entry Terms → Core → Type 0
+FindsCore v core = MayFindAt (λ (s : Stored). s.core.history) caller_of (λ (s : Stored). terms_of s.core) (λ (s : Stored). IsSound s.core) v.caller v.terms v.seen v.count (record { core = core })
 
 -- what was seen is a legal history for the pass's terms
 abbrev pub IsLegalSeen : Known Entry Terms → Type 0
@@ -65,7 +65,7 @@ pub record IsGrowthOf (v : Known Entry Terms) (fragment : Fragment) : Type 0 whe
   pub terms : Terms
   pub terms_are : v.terms ≡ Some terms
   pub edition : fragment.work.edition ≤ newest v.seen
-  pub grows : Grows terms.settings.rule fragment.work.best (node_at terms.problem (fixings_after fragment.work.edition v.seen) fragment.work.decisions ∷ []) fragment.subtree fragment.bounds
+  pub grows : GrowsBelow terms.settings.rule fragment.work.best (node_at terms.problem (fixings_after fragment.work.edition v.seen) fragment.work.decisions ∷ []) fragment.subtree fragment.bounds
   pub few : branches fragment.subtree ≤ fragment.work.allowance
 
 -- under the fixings of its edition, which the pass has seen, the work's node is examined
@@ -114,7 +114,7 @@ lines_in (event.Stop edition) = 0
 -- each core that the pass may find takes the event
 pub record MayEnter (v : Known Entry Terms) (event : CoreEvent) : Type 0 where
   pub by : IsBy v.caller event
-  pub may : (core : Core) → Finds v core → MayStep core event
+  pub may : (core : Core) → FindsCore v core → MayStep core event
 
 -- ---- what a call does
 
@@ -127,7 +127,7 @@ pub record Enters (v : Known Entry Terms) (event : CoreEvent) (told : CoreReply)
 
 -- this core was found, and all its history is seen; nothing else has changed
 pub record Looks (v : Known Entry Terms) (core : Core) (w : Known Entry Terms) : Type 0 where
-  pub found : Finds v core
+  pub found : FindsCore v core
   pub knows : w ≡ record v { seen = core.history; count = w.count; tries = w.tries }
   pub count : v.count ≤ w.count
   pub tries : v.tries ≤ w.tries

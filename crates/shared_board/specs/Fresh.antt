@@ -2,14 +2,14 @@
 use Rattle.std.specs.Prelude.{◌≡◌, ◌↔◌, ℕ, List, IsTrue, drop, length}
 use Rattle.disp_model.specs.declared.entry.Entry.{Entry}
 use Rattle.disp_model.specs.History.{edition_of, newest}
-use Rattle.dispatch_core.specs.Replies.{open_count}
+use Rattle.dispatch_core.specs.Replies.{open_feed_count}
 use Rattle.dispatch_core.specs.States.{Core}
 use Rattle.shared_board.specs.declared.news.Edition.{Edition}
 use Rattle.shared_board.specs.declared.news.News.{News}
 
 -- all feeds of the core have ended, and all its searchers have left
 abbrev pub IsEnded : Core → Type 0
-IsEnded core = (open_count core.ended ≡ 0) × (open_count core.left ≡ 0)
+IsEnded core = (open_feed_count core.ended ≡ 0) × (open_feed_count core.left ≡ 0)
 
 -- the entries behind the first ones, whether all is ended, and how many entries there are
 pub record IsNewsOf (core : Core) (fetched : ℕ) (found : News × ℕ) : Type 0 where

@@ -11,7 +11,7 @@ use Rattle.disp_model.specs.Train.{IsExit}
 use Rattle.disp_model.specs.Valid.{train_at}
 use Rattle.solution_verifier.specs.declared.clash.Clash.{Clash}
 use Rattle.solution_verifier.specs.Judged.{IsLast}
-use Rattle.solution_verifier.specs.Held.{IsSound}
+use Rattle.solution_verifier.specs.Held.{IsEventSound}
 use Rattle.solution_verifier.specs.First.{IsFirstHeld, IsComplete}
 use Rattle.solution_verifier.specs.Answered.{RisesUntil, LetsThrough, IsFirstHeldOf, IsLeastClash, IsFirstHeldClash, KeepsEventRules}
 use Rattle.solution_verifier.specs.Rules.{time_rises}
@@ -60,7 +60,7 @@ rises_until problem plan bound rules j k e f le lt at_j at_k =
     let at : slice_get plan (j + (k - j)) ≡ Some f = rw steps at_k in
     rises_by problem plan bound rules (k - j) j e f (omega (arith, le, lt)) at_j at
 
-pub sound_at : (problem : Problem) (plan : List Event) (k : ℕ) → KeepsEventRules problem plan k → ((h : ℕ) → h < k → LetsThrough problem plan h k) → IsSound problem plan k
+pub sound_at : (problem : Problem) (plan : List Event) (k : ℕ) → KeepsEventRules problem plan k → ((h : ℕ) → h < k → LetsThrough problem plan h k) → IsEventSound problem plan k
 sound_at problem plan k rules pass e at = record { rules = λ rule. rules e rule at; free = λ i d less there. pass i less d e there at }
 
 pub clash_is_held : (problem : Problem) (plan : List Event) (bound : ℕ) (clash : Clash) → ((k : ℕ) → k < bound → KeepsEventRules problem plan k) → IsFirstHeldClash problem plan bound clash

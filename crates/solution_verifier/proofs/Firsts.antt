@@ -14,7 +14,7 @@ use Rattle.solution_verifier.specs.declared.fault.Fault.{Fault}
 use Rattle.solution_verifier.specs.declared.fault.Fault.TheVariants.{UnknownTrain, UnknownOperation, TimeBackwards, NotEntry, NotSuccessor, TooEarly, TooLate, TooShort, Held, Incomplete, FixingUnmet, WrongCost}
 use Rattle.solution_verifier.specs.Rules.{Rule, rank, KeepsRule, IsFirstBroken, train_there, operation_there, time_rises, first_is_entry, next_is_successor, from_lower, until_upper, lasts_its_duration}
 use Rattle.solution_verifier.specs.Judged.{fault_of}
-use Rattle.solution_verifier.specs.Held.{LetsBy, LetsPass, IsHeldBy, IsSound, listings_at}
+use Rattle.solution_verifier.specs.Held.{LetsBy, LetsPass, IsHeldBy, IsEventSound, listings_at}
 use Rattle.solution_verifier.specs.First.{BreaksRuleFirst, IsFirstHeld, IsComplete, IsFirstFault, IsRight}
 use Rattle.solution_verifier.specs.Answered.{IsEventFault, IsOpenFault}
 use Rattle.solution_verifier.specs.Unmet.{IsUnmetFault}
@@ -33,7 +33,7 @@ first_once Good m n below_m bad_m below_n bad_n =
 
 -- ---- of events
 
-break_unsound : (problem : Problem) (plan : List Event) (rule : Rule) (j : ℕ) → BreaksRuleFirst problem plan rule j → IsSound problem plan j → ⊥
+break_unsound : (problem : Problem) (plan : List Event) (rule : Rule) (j : ℕ) → BreaksRuleFirst problem plan rule j → IsEventSound problem plan j → ⊥
 break_unsound problem plan rule j b sound = b.first.broken ((sound b.event b.there).rules rule)
 
 -- on the listing that is held the holder does not let the event by
@@ -42,7 +42,7 @@ held_stays problem stood i d e resource h pass =
     h.held (subst (LetsBy problem stood i d e) (get_or_from_slice_get (listings_at problem d) h.place h.listing h.listing h.listed)
     (pass h.trains h.place h.listing (slice_get_within (listings_at problem d) h.place h.listing h.listed)))
 
-held_unsound : (problem : Problem) (plan : List Event) (i j resource : ℕ) → IsFirstHeld problem plan i j resource → IsSound problem plan j → ⊥
+held_unsound : (problem : Problem) (plan : List Event) (i j resource : ℕ) → IsFirstHeld problem plan i j resource → IsEventSound problem plan j → ⊥
 held_unsound problem plan i j resource h sound = held_stays problem (take j plan) i h.holder h.event resource h.held ((sound h.event h.there).free i h.holder h.order h.holder_there)
 
 broken_once : (problem : Problem) (stood : List Event) (e : Event) (rule other : Rule) → IsFirstBroken problem stood e rule → IsFirstBroken problem stood e other → rule ≡ other
@@ -53,7 +53,7 @@ broken_once problem stood e rule other a b =
     ]
 
 breaks_once : (problem : Problem) (plan : List Event) (rule other : Rule) (i j : ℕ) → BreaksRuleFirst problem plan rule i → BreaksRuleFirst problem plan other j → fault_of rule i ≡ fault_of other j
-breaks_once problem plan rule other i j a b = at_one i j (first_once (IsSound problem plan) i j a.before (break_unsound problem plan rule i a) b.before (break_unsound problem plan other j b)) a b
+breaks_once problem plan rule other i j a b = at_one i j (first_once (IsEventSound problem plan) i j a.before (break_unsound problem plan rule i a) b.before (break_unsound problem plan other j b)) a b
   where
     at_one : (i j : ℕ) → i ≡ j → BreaksRuleFirst problem plan rule i → BreaksRuleFirst problem plan other j → fault_of rule i ≡ fault_of other j
     at_one i j same a b =
@@ -64,7 +64,7 @@ breaks_once problem plan rule other i j a b = at_one i j (first_once (IsSound pr
 
 breaks_not_held : (problem : Problem) (plan : List Event) (rule : Rule) (i h j resource : ℕ) → BreaksRuleFirst problem plan rule i → IsFirstHeld problem plan h j resource → ⊥
 breaks_not_held problem plan rule i h j resource a b =
-    let same : i ≡ j = first_once (IsSound problem plan) i j a.before (break_unsound problem plan rule i a) b.before (held_unsound problem plan h j resource b) in
+    let same : i ≡ j = first_once (IsEventSound problem plan) i j a.before (break_unsound problem plan rule i a) b.before (held_unsound problem plan h j resource b) in
     let moved : BreaksRuleFirst problem plan rule j = subst (BreaksRuleFirst problem plan rule) same a in
     let event : b.event ≡ moved.event = same_Some b.event moved.event (sym b.there ∙ moved.there) in
     moved.first.broken (subst (λ (x : Event). KeepsRule problem (take j plan) x rule) event (b.rules rule))
@@ -92,7 +92,7 @@ held_once_at problem plan h i j r s a b =
 
 held_once : (problem : Problem) (plan : List Event) (h i j k r s : ℕ) → IsFirstHeld problem plan h j r → IsFirstHeld problem plan i k s → Held h j r ≡ Held i k s
 held_once problem plan h i j k r s a b =
-    let same : j ≡ k = first_once (IsSound problem plan) j k a.before (held_unsound problem plan h j r a) b.before (held_unsound problem plan i k s b) in
+    let same : j ≡ k = first_once (IsEventSound problem plan) j k a.before (held_unsound problem plan h j r a) b.before (held_unsound problem plan i k s b) in
     let both = held_once_at problem plan h i k r s (subst (λ (x : ℕ). IsFirstHeld problem plan h x r) same a) b in
     ap (λ (x : ℕ). Held x j r) both.0 ∙ ap (λ (x : ℕ). Held i x r) same ∙ ap (λ (x : ℕ). Held i k x) both.1
 

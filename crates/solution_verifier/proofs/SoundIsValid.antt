@@ -16,14 +16,14 @@ use Rattle.disp_model.specs.Valid.{train_at, operation_of, IsValid, MayStart, Ke
 use Rattle.disp_model.specs.Fixing.{IsMet}
 use Rattle.disp_laws.proofs.Runs.{Spaced, lasts_from_runs}
 use Rattle.solution_verifier.specs.Rules.{EndsWith, Rule, KeepsRule, train_there, operation_there, time_rises, first_is_entry, next_is_successor, from_lower, until_upper, lasts_its_duration}
-use Rattle.solution_verifier.specs.Held.{IsSound, LetsBy, listings_at, HasPassed, ended_in}
+use Rattle.solution_verifier.specs.Held.{IsEventSound, LetsBy, listings_at, HasPassed, ended_in}
 use Rattle.solution_verifier.specs.First.{IsComplete}
 use Rattle.solution_verifier.proofs.Holding.{take_one_more}
 use Rattle.solution_verifier.proofs.Ways.{IsWay, run_induction, way_step, way_out, spaced_step}
 use Rattle.solution_verifier.proofs.Agreed.{agrees}
 
 abbrev pub AllSound : Problem → List Event → Type 0
-AllSound problem plan = (k : ℕ) → IsSound problem plan k
+AllSound problem plan = (k : ℕ) → IsEventSound problem plan k
 
 abbrev pub AllComplete : Problem → List Event → Type 0
 AllComplete problem plan = (t : ℕ) → t < length problem.trains → IsComplete problem plan t

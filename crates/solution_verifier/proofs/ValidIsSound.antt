@@ -17,7 +17,7 @@ use Rattle.disp_laws.proofs.Branching.{named_train, route_from}
 use Rattle.disp_laws.proofs.Runs.{Spaced}
 use Rattle.disp_laws.proofs.Positions.{named_at, valid_spaced}
 use Rattle.solution_verifier.specs.Rules.{EndsWith, Rule, KeepsRule, train_there, operation_there, time_rises, first_is_entry, next_is_successor, from_lower, until_upper, lasts_its_duration}
-use Rattle.solution_verifier.specs.Held.{IsSound, LetsBy, listings_at}
+use Rattle.solution_verifier.specs.Held.{IsEventSound, LetsBy, listings_at}
 use Rattle.solution_verifier.specs.First.{IsComplete}
 use Rattle.solution_verifier.proofs.Ends.{run_split}
 use Rattle.solution_verifier.proofs.Ways.{end_or_none}
@@ -116,7 +116,7 @@ pass_at problem plan i j d e (Some o) (Some p) is_d is_e some_d some_e at lt wit
     (agrees problem plan i j d at lt within route (slice_index_or o.listings k l).release e.time).0 (free.position, free.time) in
     subst (λ (ls : List Listing). All (LetsBy problem (take j plan) i d e) ls) (sym mine) each
 
-pub valid_is_sound : (problem : Problem) (fixings : List Fixing) (plan : List Event) → IsValid problem fixings plan → (j : ℕ) → IsSound problem plan j
+pub valid_is_sound : (problem : Problem) (fixings : List Fixing) (plan : List Event) → IsValid problem fixings plan → (j : ℕ) → IsEventSound problem plan j
 valid_is_sound problem fixings plan valid j e at = record {
   rules = rules problem fixings plan j e valid at;
   free = λ i d lt there trains.

@@ -11,18 +11,18 @@ use Rattle.disp_model.specs.Cost.{cost_of}
 use Rattle.solution_verifier.specs.declared.fault.Fault.{Fault}
 use Rattle.solution_verifier.specs.declared.fault.Fault.TheVariants.{UnknownTrain, UnknownOperation, TimeBackwards, NotEntry, NotSuccessor, TooEarly, TooLate, TooShort, Held, Incomplete, FixingUnmet, WrongCost}
 use Rattle.solution_verifier.specs.Rules.{EndsWith, Rule, train_there, operation_there, time_rises, first_is_entry, next_is_successor, from_lower, until_upper, lasts_its_duration, KeepsRule, IsFirstBroken}
-use Rattle.solution_verifier.specs.Held.{LetsPass, IsHeldBy, IsSound}
+use Rattle.solution_verifier.specs.Held.{LetsPass, IsHeldBy, IsEventSound}
 
 -- the first event that is not sound is at j, and the first rule that it breaks is this one
 pub record BreaksRuleFirst (problem : Problem) (plan : List Event) (rule : Rule) (j : ℕ) : Type 0 where
-  pub before : (k : ℕ) → k < j → IsSound problem plan k
+  pub before : (k : ℕ) → k < j → IsEventSound problem plan k
   pub event : Event
   pub there : slice_get plan j ≡ Some event
   pub first : IsFirstBroken problem (take j plan) event rule
 
 -- the first event that is not sound is at j, it keeps the rules, and the first event that does not let it pass is at i, by a resource
 pub record IsFirstHeld (problem : Problem) (plan : List Event) (i j resource : ℕ) : Type 0 where
-  pub before : (k : ℕ) → k < j → IsSound problem plan k
+  pub before : (k : ℕ) → k < j → IsEventSound problem plan k
   pub event : Event
   pub there : slice_get plan j ≡ Some event
   pub rules : (rule : Rule) → KeepsRule problem (take j plan) event rule
@@ -38,7 +38,7 @@ IsComplete problem plan t = (d : Event) × EndsWith (run_of t plan) d × IsExit 
 
 -- each event is sound, and t is the first train whose run does not end at an exit
 pub record IsFirstOpen (problem : Problem) (plan : List Event) (t : ℕ) : Type 0 where
-  pub sound : (k : ℕ) → IsSound problem plan k
+  pub sound : (k : ℕ) → IsEventSound problem plan k
   pub there : t < length problem.trains
   pub earlier : (u : ℕ) → u < t → IsComplete problem plan u
   pub incomplete : IsComplete problem plan t → ⊥

@@ -57,5 +57,5 @@ pub record IsSoundAt (problem : Problem) (plan : List Event) (j : ℕ) (e : Even
   pub free : (i : ℕ) (d : Event) → i < j → slice_get plan i ≡ Some d → LetsPass problem (take j plan) i d e
 
 -- what stands at position j, if anything, is sound
-abbrev pub IsSound : Problem → List Event → ℕ → Type 0
-IsSound problem plan j = (e : Event) → slice_get plan j ≡ Some e → IsSoundAt problem plan j e
+abbrev pub IsEventSound : Problem → List Event → ℕ → Type 0
+IsEventSound problem plan j = (e : Event) → slice_get plan j ≡ Some e → IsSoundAt problem plan j e

@@ -1,6 +1,6 @@
 ghost use Rattle.std.specs.Prelude.{◌≡◌, ℕ, ◌<◌, ◌≤◌, ◌↔◌, IsTrue, MatchOption, MatchResult, length};
 ghost use Rattle.disp_model.specs.Train.{IsExit};
-ghost use Rattle.solution_verifier.specs.Held.{IsSound};
+ghost use Rattle.solution_verifier.specs.Held.{IsEventSound};
 ghost use Rattle.solution_verifier.specs.First.{IsComplete, IsFirstHeld};
 ghost use Rattle.solution_verifier.specs.Answered.{KeepsEventRules, IsEventFault, IsOpenFault};
 
@@ -13,7 +13,7 @@ use disp_model::{Event, Operation, Problem};
 fn judge_clashes(problem: &Problem, events: &[Event], bound: usize) -> Result<(), Fault>
     requires bound { bound ≤ length events.now }
     requires rules { (k : ℕ) → k < bound → KeepsEventRules problem.now events.now k }
-    ensures { MatchResult result (λ _. (k : ℕ) → k < bound → IsSound problem.now events.now k)
+    ensures { MatchResult result (λ _. (k : ℕ) → k < bound → IsEventSound problem.now events.now k)
         (IsEventFault problem.now events.now) }
 {
     match first_clash(problem, events, bound) {
@@ -24,7 +24,7 @@ fn judge_clashes(problem: &Problem, events: &[Event], bound: usize) -> Result<()
 
 /// Judges each event by the events before it.
 pub(crate) fn judge_events(problem: &Problem, events: &[Event]) -> Result<(), Fault>
-    ensures { MatchResult result (λ _. (k : ℕ) → IsSound problem.now events.now k)
+    ensures { MatchResult result (λ _. (k : ℕ) → IsEventSound problem.now events.now k)
         (IsEventFault problem.now events.now) }
 {
     for (place, event) in events.iter().enumerate() {

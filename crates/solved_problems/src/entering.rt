@@ -3,7 +3,7 @@ ghost use Rattle.turn_lock.specs.Section.{OwnsPlaces};
 ghost use Rattle.shared_board.specs.Board.{board_of, own_board, known, fetched, lines};
 ghost use Rattle.shared_board.specs.Callers.{caller_of};
 ghost use Rattle.shared_board.specs.Calls.{HasLines};
-ghost use Rattle.shared_board.specs.Onward.{entries_by, GoesOn};
+ghost use Rattle.shared_board.specs.Onward.{entries_by, PassGoesOn};
 ghost use Rattle.shared_board.specs.Standing.{SameRole};
 ghost use Rattle.solved_problems.specs.Solved.{AreLinesFor, AsksNext};
 
@@ -22,7 +22,7 @@ fn enter_line<W: Wait>(
 ) -> Result<(), Memory>
     requires board { own_board pass.old ≡ board_of board.now }
     requires lines { HasLines (known pass.old) }
-    ensures on { GoesOn pass.old pass.new }
+    ensures on { PassGoesOn pass.old pass.new }
     ensures asks { OnOk result (AsksNext pass.old pass.new change) }
 {
     board.ask(rt, alloc, pass, change)?;
@@ -41,7 +41,7 @@ fn enter_lines<W: Wait>(
     requires lines { HasLines (known pass.old) }
     requires none { (lines pass.old ≡ 0)
         × (entries_by (known pass.old).caller (known pass.old).seen ≡ []) }
-    ensures on { GoesOn pass.old pass.new }
+    ensures on { PassGoesOn pass.old pass.new }
     ensures asks { OnOk result (AreLinesFor (known pass.old).caller 1 asked.now
         (entries_by (known pass.old).caller (known pass.new).seen)) }
 {

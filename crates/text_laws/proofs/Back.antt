@@ -14,7 +14,7 @@ use Rattle.disp_model.specs.declared.train.Operation.{Operation}
 use Rattle.disp_model.specs.declared.train.Component.{Component}
 use Rattle.displib_reader.specs.ProblemOf.{once, listing_of, operation_read, train_read_as, trains_with, component_of, components_of, names_in}
 use Rattle.displib_reader.specs.ProblemOf as read
-use Rattle.text_laws.specs.Listed.{name_of, names_of_operation, names_of_train, names_listed}
+use Rattle.text_laws.specs.Listed.{name_of, listed_names_of_operation, listed_names_of_train, names_listed}
 use Rattle.text_laws.proofs.Data.{number_data, items_data, listing_data, operation_parts, operation_data, train_data, component_data, problem_data}
 
 -- ---- lists
@@ -113,11 +113,11 @@ names_back : (names : List (List ℕ)) (ls : List Listing) → filter_map (text_
 names_back names [] = refl
 names_back names (l ∷ ls) = ap (λ (rest : List (List ℕ)). name_of names l ∷ rest) (names_back names ls)
 
-operation_names : (names : List (List ℕ)) (o : Operation) → read.names_of_operation (operation_data names o) ≡ names_of_operation names o
+operation_names : (names : List (List ℕ)) (o : Operation) → read.names_of_operation (operation_data names o) ≡ listed_names_of_operation names o
 operation_names names o = names_back names o.listings
 
-train_names : (names : List (List ℕ)) (train : List Operation) → read.names_of_train (train_data names train) ≡ names_of_train names train
-train_names names train = flat_back read.names_of_operation (operation_data names) (names_of_operation names) (operation_names names) train
+train_names : (names : List (List ℕ)) (train : List Operation) → read.names_of_train (train_data names train) ≡ listed_names_of_train names train
+train_names names train = flat_back read.names_of_operation (operation_data names) (listed_names_of_operation names) (operation_names names) train
 
 pub names_are : (names : List (List ℕ)) (trains : List (List Operation)) (components : List Component) → names_in (problem_data names trains components) ≡ once bytes_eq (names_listed names trains)
-names_are names trains components = ap (once bytes_eq) (flat_back read.names_of_train (train_data names) (names_of_train names) (train_names names) trains)
+names_are names trains components = ap (once bytes_eq) (flat_back read.names_of_train (train_data names) (listed_names_of_train names) (train_names names) trains)

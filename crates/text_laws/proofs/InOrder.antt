@@ -21,7 +21,7 @@ use Rattle.displib_reader.specs.ProblemOf as read
 use Rattle.displib_reader.proofs.Parts.{IsGoodOperation}
 use Rattle.displib_reader.proofs.Trains.{IsGoodTrain, trains_each, good_trains}
 use Rattle.problem_text.specs.Texts.{problem_text}
-use Rattle.text_laws.specs.Listed.{name_of, names_of_operation, names_of_train, names_listed, HasNamesInOrder}
+use Rattle.text_laws.specs.Listed.{name_of, listed_names_of_operation, listed_names_of_train, names_listed, HasNamesInOrder}
 use Rattle.text_laws.proofs.TextNames.{read_texts}
 use Rattle.text_laws.proofs.Whole.{read_again}
 
@@ -78,7 +78,7 @@ listings_named names (d ∷ ds) ls all e =
     ∙ ap (λ l. name_of names p.0 ∷ l) (listings_named names ds p.1 parts.1 p.3)
     ∙ ap (λ found. cons_option found (filter_map (text_at (codes "resource")) ds)) (sym (listing_name names d p.0 parts.0 p.2))
 
-operation_named : (names : List (List ℕ)) (d : Data) (o : Operation) → AllByRecursion (λ l. l.resource < length names) o.listings → operation_read names d ≡ Some o → names_of_operation names o ≡ read.names_of_operation d
+operation_named : (names : List (List ℕ)) (d : Data) (o : Operation) → AllByRecursion (λ l. l.resource < length names) o.listings → operation_read names d ≡ Some o → listed_names_of_operation names o ≡ read.names_of_operation d
 unfolding operation_read
 operation_named names d o all e =
     let members = bind_some (as_object d) _ o e in
@@ -103,10 +103,10 @@ all_listed : (names : List (List ℕ)) (count : ℕ) (os : List Operation) → A
 all_listed names count [] all = tt
 all_listed names count (o ∷ os) all = (recursion_from_All (λ (l : Listing). l.resource < length names) o.listings all.0.refers.listings, all_listed names count os all.1)
 
-train_named : (names : List (List ℕ)) (d : Data) (train : List Operation) → IsGoodTrain (length names) train → train_read_as names d ≡ Some train → names_of_train names train ≡ read.names_of_train d
+train_named : (names : List (List ℕ)) (d : Data) (train : List Operation) → IsGoodTrain (length names) train → train_read_as names d ≡ Some train → listed_names_of_train names train ≡ read.names_of_train d
 train_named names d train good e =
     let p = bind_some (option_map values_of (as_array d)) (each (operation_read names)) train e in
-    flat_each (operation_read names) (names_of_operation names) read.names_of_operation (IsListed names) (operation_named names) p.0 train (all_listed names (length train) train good) p.2
+    flat_each (operation_read names) (listed_names_of_operation names) read.names_of_operation (IsListed names) (operation_named names) p.0 train (all_listed names (length train) train good) p.2
     ∙ ap (flat_map read.names_of_operation) (sym (members_of (as_array d) p.0 p.1))
 
 listed_in_order : (bytes : List ℕ) (problem : Problem) → IsReadAs bytes problem → once bytes_eq (names_listed problem.names problem.trains) ≡ problem.names
@@ -115,7 +115,7 @@ listed_in_order bytes problem r =
     let linked = r.keeps.has_trains.linked in
     let good = good_trains d linked problem.trains r.problem_is.trains in
     let listed : names_listed (names_in d) problem.trains ≡ flat_map read.names_of_train (members_at (codes "trains") d) =
-    flat_each (train_read_as (names_in d)) (names_of_train (names_in d)) read.names_of_train (IsGoodTrain (length (names_in d))) (train_named (names_in d)) (members_at (codes "trains") d) problem.trains good
+    flat_each (train_read_as (names_in d)) (listed_names_of_train (names_in d)) read.names_of_train (IsGoodTrain (length (names_in d))) (train_named (names_in d)) (members_at (codes "trains") d) problem.trains good
     (trains_each d linked problem.trains r.problem_is.trains)
     in
     subst (λ names. once bytes_eq (names_listed names problem.trains) ≡ names) r.problem_is.names (ap (once bytes_eq) listed)

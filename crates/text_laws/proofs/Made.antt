@@ -19,9 +19,9 @@ use Rattle.displib_reader.specs.Names.{with_name, with_names}
 use Rattle.displib_reader.proofs.Once.{gathered_names, with_both}
 use Rattle.displib_reader.specs.Outcome.{IsReadAs}
 use Rattle.instance_maker.specs.Draws.{pair_at}
-use Rattle.instance_maker.specs.Made.{first_train, second_train, train_at, trains_of, names_of, pair_count, IsMade}
+use Rattle.instance_maker.specs.Made.{first_train, second_train, made_train, made_trains, names_of, pair_count, IsMade}
 use Rattle.problem_text.specs.Texts.{problem_text}
-use Rattle.text_laws.specs.Listed.{names_of_train, names_listed, HasNamesInOrder}
+use Rattle.text_laws.specs.Listed.{listed_names_of_train, names_listed, HasNamesInOrder}
 use Rattle.text_laws.proofs.Graphs.{not_true}
 use Rattle.text_laws.proofs.Whole.{read_again, line_again}
 
@@ -38,14 +38,14 @@ names_long : (n : ℕ) → length (names_of n) ≡ n
 names_long zero = refl
 names_long (suc n) = length-append (names_of n) (label n ∷ []) ∙ omega (arith, names_long n)
 
-trains_long : (number n : ℕ) → length (trains_of number n) ≡ n
+trains_long : (number n : ℕ) → length (made_trains number n) ≡ n
 trains_long number zero = refl
-trains_long number (suc n) = length-append (trains_of number n) (train_at number n ∷ []) ∙ omega (arith, trains_long number n)
+trains_long number (suc n) = length-append (made_trains number n) (made_train number n ∷ []) ∙ omega (arith, trains_long number n)
 
 -- ---- what the trains list
 
 train_lists : (names : List (List ℕ)) (number k : ℕ) (first : Bool)
-    → names_of_train names (if first then first_train k (pair_at number k) else second_train k (pair_at number k)) ≡ slice_index_or names k [] ∷ []
+    → listed_names_of_train names (if first then first_train k (pair_at number k) else second_train k (pair_at number k)) ≡ slice_index_or names k [] ∷ []
 train_lists names number k true = refl
 train_lists names number k false = refl
 
@@ -53,12 +53,12 @@ flat_push : {X : Type 0} (f : X → List (List ℕ)) (xs : List X) (y : X) → f
 flat_push f [] y = append-nil (f y)
 flat_push f (x ∷ xs) y = ap (λ l. f x ++ l) (flat_push f xs y) ∙ sym (append_assoc (f x) (flat_map f xs) (f y))
 
-trains_list : (names : List (List ℕ)) (number n : ℕ) → ((t : ℕ) → t < n → slice_index_or names (t / 2) [] ≡ label (t / 2)) → names_listed names (trains_of number n) ≡ labels n
+trains_list : (names : List (List ℕ)) (number n : ℕ) → ((t : ℕ) → t < n → slice_index_or names (t / 2) [] ≡ label (t / 2)) → names_listed names (made_trains number n) ≡ labels n
 trains_list names number zero named = refl
 trains_list names number (suc t) named =
-    flat_push (names_of_train names) (trains_of number t) (train_at number t)
-    ∙ ap (λ l. names_listed names (trains_of number t) ++ l) (train_lists names number (t / 2) (t % 2 == 0))
-    ∙ ap (λ name. names_listed names (trains_of number t) ++ name ∷ []) (named t (omega arith))
+    flat_push (listed_names_of_train names) (made_trains number t) (made_train number t)
+    ∙ ap (λ l. names_listed names (made_trains number t) ++ l) (train_lists names number (t / 2) (t % 2 == 0))
+    ∙ ap (λ name. names_listed names (made_trains number t) ++ name ∷ []) (named t (omega arith))
     ∙ ap (λ l. l ++ label (t / 2) ∷ []) (trains_list names number t (λ u lt. named u (omega (arith, lt))))
 
 -- ---- each once

@@ -9,7 +9,7 @@ use Rattle.disp_model.specs.declared.train.Listing.{Listing}
 use Rattle.disp_model.specs.declared.train.Operation.{Operation}
 use Rattle.disp_model.specs.declared.train.Component.{Component}
 use Rattle.disp_model.specs.declared.problem.Problem.{Problem}
-use Rattle.problem_text.specs.Texts.{behind_comma, listed, name_text, listing_text, upper_text, operation_text, train_text, component_text, problem_text}
+use Rattle.problem_text.specs.Texts.{behind_comma, listed, name_text, written_listing, upper_text, written_operation, written_train, written_component, problem_text}
 use Rattle.text_laws.specs.Listed.{name_of}
 use Rattle.text_laws.proofs.Data.{number_data, items_data, list_data, listing_data, operation_parts, operation_data, train_data, component_data, problem_data}
 
@@ -45,7 +45,7 @@ pub listing_spelled : (names : List (List ℕ)) (l : Listing) → compact_text (
 unfolding escape_byte
 listing_spelled names l = refl
 
-pub listing_written : (names : List (List ℕ)) (l : Listing) → compact_text (listing_data names l) ≡ listing_text names l
+pub listing_written : (names : List (List ℕ)) (l : Listing) → compact_text (listing_data names l) ≡ written_listing names l
 listing_written names l =
     listing_spelled names l
     ∙ sym (five_to_the_right (codes "{\"release_time\":") (decimal l.release) (codes ",\"resource\":") (name_text names l.resource) (codes "}"))
@@ -67,15 +67,15 @@ ten_to_the_right a b c d e f g h i j = simp append_assoc
 numbers_written : (ns : List ℕ) → compact_text (list_data number_data ns) ≡ listed decimal ns
 numbers_written ns = list_written number_data decimal (λ n. refl) ns
 
-pub operation_written : (names : List (List ℕ)) (o : Operation) → compact_text (operation_data names o) ≡ operation_text names o
+pub operation_written : (names : List (List ℕ)) (o : Operation) → compact_text (operation_data names o) ≡ written_operation names o
 operation_written names o =
     operation_spelled names o.lower o.upper o.min o.listings o.next
-    ∙ ap (λ t. operation_pieces o.lower o.upper o.min t (compact_text (list_data number_data o.next))) (list_written (listing_data names) (listing_text names) (listing_written names) o.listings)
-    ∙ ap (λ t. operation_pieces o.lower o.upper o.min (listed (listing_text names) o.listings) t) (numbers_written o.next)
-    ∙ sym (ten_to_the_right (codes "{\"min_duration\":") (decimal o.min) (codes ",\"resources\":") (listed (listing_text names) o.listings) (codes ",\"start_lb\":") (decimal o.lower) (upper_text o.upper) (codes ",\"successors\":") (listed decimal o.next) (codes "}"))
+    ∙ ap (λ t. operation_pieces o.lower o.upper o.min t (compact_text (list_data number_data o.next))) (list_written (listing_data names) (written_listing names) (listing_written names) o.listings)
+    ∙ ap (λ t. operation_pieces o.lower o.upper o.min (listed (written_listing names) o.listings) t) (numbers_written o.next)
+    ∙ sym (ten_to_the_right (codes "{\"min_duration\":") (decimal o.min) (codes ",\"resources\":") (listed (written_listing names) o.listings) (codes ",\"start_lb\":") (decimal o.lower) (upper_text o.upper) (codes ",\"successors\":") (listed decimal o.next) (codes "}"))
 
-pub train_written : (names : List (List ℕ)) (train : List Operation) → compact_text (train_data names train) ≡ train_text names train
-train_written names train = list_written (operation_data names) (operation_text names) (operation_written names) train
+pub train_written : (names : List (List ℕ)) (train : List Operation) → compact_text (train_data names train) ≡ written_train names train
+train_written names train = list_written (operation_data names) (written_operation names) (operation_written names) train
 
 -- ---- components
 
@@ -90,7 +90,7 @@ component_spelled c = refl
 eleven_to_the_right : (a b c d e f g h i j k : List ℕ) → a ++ b ++ c ++ d ++ e ++ f ++ g ++ h ++ i ++ j ++ k ≡ a ++ (b ++ (c ++ (d ++ (e ++ (f ++ (g ++ (h ++ (i ++ (j ++ k)))))))))
 eleven_to_the_right a b c d e f g h i j k = simp append_assoc
 
-pub component_written : (c : Component) → compact_text (component_data c) ≡ component_text c
+pub component_written : (c : Component) → compact_text (component_data c) ≡ written_component c
 component_written c =
     component_spelled c
     ∙ sym (eleven_to_the_right (codes "{\"coeff\":") (decimal c.coeff) (codes ",\"increment\":") (decimal c.increment) (codes ",\"operation\":") (decimal c.operation) (codes ",\"threshold\":") (decimal c.threshold) (codes ",\"train\":") (decimal c.train) (codes ",\"type\":\"op_delay\"}"))
@@ -108,6 +108,6 @@ problem_spelled names trains components = refl
 pub problem_written : (problem : Problem) → compact_text (problem_data problem.names problem.trains problem.components) ≡ problem_text problem
 problem_written problem =
     problem_spelled problem.names problem.trains problem.components
-    ∙ ap (λ t. problem_pieces t (compact_text (list_data (train_data problem.names) problem.trains))) (list_written component_data component_text component_written problem.components)
-    ∙ ap (λ t. problem_pieces (listed component_text problem.components) t) (list_written (train_data problem.names) (train_text problem.names) (train_written problem.names) problem.trains)
-    ∙ sym (five_to_the_right (codes "{\"objective\":") (listed component_text problem.components) (codes ",\"trains\":") (listed (train_text problem.names) problem.trains) (codes "}"))
+    ∙ ap (λ t. problem_pieces t (compact_text (list_data (train_data problem.names) problem.trains))) (list_written component_data written_component component_written problem.components)
+    ∙ ap (λ t. problem_pieces (listed written_component problem.components) t) (list_written (train_data problem.names) (written_train problem.names) (train_written problem.names) problem.trains)
+    ∙ sym (five_to_the_right (codes "{\"objective\":") (listed written_component problem.components) (codes ",\"trains\":") (listed (written_train problem.names) problem.trains) (codes "}"))

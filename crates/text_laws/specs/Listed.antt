@@ -12,15 +12,15 @@ abbrev pub name_of : List (List ℕ) → Listing → List ℕ
 name_of names l = slice_index_or names l.resource []
 
 -- the names that an operation lists, in order
-abbrev pub names_of_operation : List (List ℕ) → Operation → List (List ℕ)
-names_of_operation names o = map (name_of names) o.listings
+abbrev pub listed_names_of_operation : List (List ℕ) → Operation → List (List ℕ)
+listed_names_of_operation names o = map (name_of names) o.listings
 
-abbrev pub names_of_train : List (List ℕ) → List Operation → List (List ℕ)
-names_of_train names train = flat_map (names_of_operation names) train
+abbrev pub listed_names_of_train : List (List ℕ) → List Operation → List (List ℕ)
+listed_names_of_train names train = flat_map (listed_names_of_operation names) train
 
 -- the names that the trains list, in order, each as often as it is listed
 abbrev pub names_listed : List (List ℕ) → List (List Operation) → List (List ℕ)
-names_listed names trains = flat_map (names_of_train names) trains
+names_listed names trains = flat_map (listed_names_of_train names) trains
 
 -- each name is a text, and they stand in the order of their first listing, each that is listed and no other
 pub record HasNamesInOrder (problem : Problem) : Type 0 where

@@ -9,7 +9,7 @@ use Rattle.plain_values.proofs.Lists.{contains_none}
 use Rattle.incremental_paths.specs.declared.arc.Arc.{Arc}
 use Rattle.incremental_paths.specs.Network.{Network, HasLength, TellsChanged}
 use Rattle.incremental_paths.proofs.Members.{Contains-here, Contains-there, Contains-cons_cases}
-use Rattle.timed_paths.specs.Above.{IsAbove, TellsAbove, TellsAmong, TellsBelow}
+use Rattle.timed_paths.specs.Above.{IsAboveUpper, TellsAbove, TellsAmong, TellsBelow}
 use Rattle.timed_paths.specs.Timed.{AreLates}
 
 -- ---- what changes
@@ -26,7 +26,7 @@ is_there (n ∷ nodes) node = elim (cases_eq n node) [
 
 module _ (uppers : List (Option ℕ)) (old new : Network) (tells : TellsChanged old new) where
   -- a node that was above its upper still is
-  pub still_above : All (λ node. (longest : ℕ) × HasLength new node longest) new.changed → (node : ℕ) → IsAbove old.lowers old.arcs uppers node → IsAbove new.lowers new.arcs uppers node
+  pub still_above : All (λ node. (longest : ℕ) × HasLength new node longest) new.changed → (node : ℕ) → IsAboveUpper old.lowers old.arcs uppers node → IsAboveUpper new.lowers new.arcs uppers node
   still_above lengths node is = elim (is_there new.changed node) [
     | inl has ↦
         let length = All-contains (λ n. (longest : ℕ) × HasLength new n longest) new.changed node lengths has in
@@ -35,14 +35,14 @@ module _ (uppers : List (Option ℕ)) (old new : Network) (tells : TellsChanged 
   ]
 
   -- where none was, only those are whose lengths grew
-  pub none_above : ((node : ℕ) → IsAbove old.lowers old.arcs uppers node → ⊥) → ((node : ℕ) → Contains new.changed node → IsAbove new.lowers new.arcs uppers node → ⊥) → (node : ℕ) → IsAbove new.lowers new.arcs uppers node → ⊥
+  pub none_above : ((node : ℕ) → IsAboveUpper old.lowers old.arcs uppers node → ⊥) → ((node : ℕ) → Contains new.changed node → IsAboveUpper new.lowers new.arcs uppers node → ⊥) → (node : ℕ) → IsAboveUpper new.lowers new.arcs uppers node → ⊥
   none_above none among node is = elim (is_there new.changed node) [
     | inl has ↦ among node has is
     | inr has_not ↦ none node (record { upper = is.upper; upper_is = is.upper_is; longest = is.longest; longest_is = (tells.kept node is.longest has_not).1 is.longest_is; above = is.above })
   ]
 
   -- what is told of those whose lengths grew is told of all
-  pub told_now : (found : Option ℕ) → ((node : ℕ) → IsAbove old.lowers old.arcs uppers node → ⊥) → TellsAmong new.changed new.lowers new.arcs uppers found → TellsAbove new.lowers new.arcs uppers found
+  pub told_now : (found : Option ℕ) → ((node : ℕ) → IsAboveUpper old.lowers old.arcs uppers node → ⊥) → TellsAmong new.changed new.lowers new.arcs uppers found → TellsAbove new.lowers new.arcs uppers found
   told_now (Some node) none among = among
   told_now None none among = none_above none among
 

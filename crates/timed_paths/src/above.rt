@@ -1,6 +1,6 @@
 ghost use Rattle.std.specs.Prelude.{◌≡◌, ◌↔◌, List, IsTrue, All, length};
 ghost use Rattle.incremental_paths.specs.Network.{Network, IsNode, TellsChanged};
-ghost use Rattle.timed_paths.specs.Above.{IsAbove, TellsAbove, TellsAmong, TellsBelow};
+ghost use Rattle.timed_paths.specs.Above.{IsAboveUpper, TellsAbove, TellsAmong, TellsBelow};
 
 use incremental_paths::Paths;
 
@@ -8,7 +8,7 @@ use incremental_paths::Paths;
 fn is_above(paths: &Paths, uppers: &[Option<u64>], node: u32) -> bool
     requires nodes { length uppers.now ≡ length paths.now.lowers }
     requires node { IsNode paths.now node }
-    ensures { IsTrue result ↔ IsAbove paths.now.lowers paths.now.arcs uppers.now node }
+    ensures { IsTrue result ↔ IsAboveUpper paths.now.lowers paths.now.arcs uppers.now node }
 {
     match uppers[node as usize] {
         Some(upper) => upper < paths.length(node),

@@ -1,8 +1,8 @@
 ghost use Rattle.std.specs.Prelude.{◌≡◌, ◌≢◌, ◌<◌, ◌≤◌, ◌↔◌, ◌^◌, ◌++◌, [], length, All, IfOk, IfErr, IfSome, IfNone, OnOk, OnErr, IsErrOf};
-ghost use Rattle.incremental_paths.specs.Walks.{IsCycle, HasCycle};
+ghost use Rattle.incremental_paths.specs.Walks.{IsArcCycle, ArcsHaveCycle};
 ghost use Rattle.incremental_paths.specs.Network.{IsNode, IsShort};
 ghost use Rattle.timed_paths.specs.Above.{TellsAbove};
-ghost use Rattle.timed_paths.specs.Timed.{without, with_one, network_of};
+ghost use Rattle.timed_paths.specs.Timed.{without_last_timed, with_one, network_of};
 
 use crate::above::{above_now, first_above};
 use incremental_paths::{AddNo, Arc, Paths};
@@ -71,7 +71,7 @@ impl TimedPaths {
         requires short { IsShort (network_of (with_one self.old from to length)) }
         ensures ok { OnOk result (self.new ≡ with_one self.old from to length) }
         ensures closes { IsErrOf result (AddNo.Closes from to)
-            ↔ HasCycle (with_one self.old from to length).arcs }
+            ↔ ArcsHaveCycle (with_one self.old from to length).arcs }
         ensures faults { IfErr result (λ no. no ≢ AddNo.Memory → no ≡ AddNo.Closes from to) }
         ensures err { OnErr result (self.new ≡ self.old) }
     {
@@ -88,7 +88,7 @@ impl TimedPaths {
     /// Takes the last `count` arcs away.
     pub fn withdraw(&mut self, count: usize)
         requires { let kept = self.old.arcs in count ≤ length kept }
-        ensures { self.new ≡ without self.old count }
+        ensures { self.new ≡ without_last_timed self.old count }
     {
         let left = self.lates.len() - count;
         for _ in 0..count {
@@ -105,9 +105,9 @@ impl TimedPaths {
             × IsNode (network_of self.old) arc.to) more.now }
         ensures same { self.new ≡ self.old }
         ensures cycle { IfOk result
-            (λ found. IfSome found (λ nodes. IsCycle (self.old.arcs ++ more.now) nodes.items)) }
+            (λ found. IfSome found (λ nodes. IsArcCycle (self.old.arcs ++ more.now) nodes.items)) }
         ensures none { IfOk result
-            (λ found. IfNone found (HasCycle (self.old.arcs ++ more.now) → ⊥)) }
+            (λ found. IfNone found (ArcsHaveCycle (self.old.arcs ++ more.now) → ⊥)) }
     {
         self.paths.cycle_with(more)
     }

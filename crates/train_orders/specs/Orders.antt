@@ -77,7 +77,7 @@ pub record Closes (o : ℕ) (old new : Search) : Type 0 where
   pub order : new.order.items ≡ old.order.items ++ o ∷ []
 
 -- the search goes on, and less is left
-pub record Steps (train : List Operation) (old new : Search) : Type 0 where
+pub record SearchSteps (train : List Operation) (old new : Search) : Type 0 where
   pub searches : Searches train new
   pub opened : (o : ℕ) → IsOpened old.opened.items o → IsOpened new.opened.items o
   pub less : toil_of train new < toil_of train old

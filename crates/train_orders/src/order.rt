@@ -1,6 +1,6 @@
 ghost use Rattle.std.specs.Prelude.{◌≡◌, ◌+◌, ◌<◌, ◌^◌, ℕ, ◌∷◌, ◌++◌, [], true, IfOk, IfSome, OnOk, length, slice_get, Some};
 ghost use Rattle.disp_model.specs.WellFormed.{IsAcyclic};
-ghost use Rattle.train_orders.specs.Orders.{IsInside, IsOrder, Searches, IsAt, IsOpened, Opens, Closes, Steps};
+ghost use Rattle.train_orders.specs.Orders.{IsInside, IsOrder, Searches, IsAt, IsOpened, Opens, Closes, SearchSteps};
 
 use disp_model::{Memory, Operation};
 use std::alloc::Global;
@@ -52,7 +52,7 @@ fn step(search: &mut Search, train: &[Operation], at: u32) -> Result<(), Memory>
     requires acyclic { IsAcyclic train.now }
     requires searches { Searches train.now search.old }
     requires at { IsAt search.old.path.items at }
-    ensures { OnOk result (Steps train.now search.old search.new) }
+    ensures { OnOk result (SearchSteps train.now search.old search.new) }
 {
     let passed = search.passed[at as usize];
     match successor(&train[at as usize], passed) {

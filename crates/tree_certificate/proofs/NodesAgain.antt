@@ -20,7 +20,7 @@ use Rattle.tree_certificate.specs.Reading.{◌>>=◌}
 use Rattle.tree_certificate.specs.FieldsRead.{HasNone, op_at, line_ended}
 use Rattle.tree_certificate.specs.LinesRead.{line_at, items_at, last_count, walk_at, train_read}
 use Rattle.tree_certificate.specs.NodesRead.{node_word_at, not_none, route_at, order_at, run_at, no_route_at, cycle_at, late_at, costs_at, shares_at, node_by, node_read, places_opened, nodes_at}
-use Rattle.tree_certificate.specs.Versions.{Completes}
+use Rattle.tree_certificate.specs.Versions.{CompletesTree}
 use Rattle.tree_certificate.proofs.FieldsAgain.{none_by, none_in_number, none_in_op, none_in_ops, field_again, last_again, op_again, all_ops_again}
 use Rattle.tree_certificate.proofs.LinesAgain.{NotEnd, line_again, items_again, count_again, walk_again, train_again, three, four, five, six, eight, none_in_two}
 
@@ -135,7 +135,7 @@ node_again false (Leaf (Shares walks trains)) rest fits (inl e) = absurd cc
 node_again false (Leaf (Shares walks trains)) rest fits (inr e) = absurd cc
 
 -- the nodes that complete a tree are read again
-pub nodes_again : (third : Bool) (most places : ℕ) (tree : List TreeNode) (rest : List ℕ) → length tree ≤ most → Completes places tree → All FitsNode tree → All (HasLine third) tree
+pub nodes_again : (third : Bool) (most places : ℕ) (tree : List TreeNode) (rest : List ℕ) → length tree ≤ most → CompletesTree places tree → All FitsNode tree → All (HasLine third) tree
     → nodes_at third most places (flat_map node_text tree ++ rest) ≡ Ok (tree, rest)
 unfolding nodes_at
 nodes_again third most zero [] rest le complete fits has = refl

@@ -23,7 +23,7 @@ use Rattle.tree_certificate.specs.Reading.{◌>>=◌}
 use Rattle.tree_certificate.specs.FieldsRead.{behind, field_number, op_at, ops_at, line_ended, or_word}
 use Rattle.tree_certificate.specs.LinesRead.{line_at, items_at, last_count, walk_at, train_read}
 use Rattle.tree_certificate.specs.NodesRead.{node_word_at, not_none, only_third, route_at, order_at, run_at, no_route_at, cycle_at, late_at, costs_at, shares_at, and_rest, node_by, node_read, places_opened, nodes_at}
-use Rattle.tree_certificate.specs.Versions.{Completes}
+use Rattle.tree_certificate.specs.Versions.{CompletesTree}
 use Rattle.tree_certificate.proofs.FieldsTaken.{bind_ok, done, ok_is, parts, field_taken, op_taken, ops_taken, end_taken, behind_taken, or_word_taken}
 use Rattle.tree_certificate.proofs.LinesAgain.{three, four, five, six, eight}
 use Rattle.tree_certificate.proofs.LinesTaken.{line_taken, items_taken, count_taken, walk_taken, train_taken}
@@ -227,10 +227,10 @@ node_taken third bytes x e =
 
 -- what was read of the nodes
 abbrev Taken : Bool → ℕ → List ℕ → (List TreeNode × List ℕ) → Type 0
-Taken third places bytes x = (bytes ≡ flat_map node_text x.0 ++ x.1) × All FitsNode x.0 × All (HasLine third) x.0 × Completes places x.0
+Taken third places bytes x = (bytes ≡ flat_map node_text x.0 ++ x.1) × All FitsNode x.0 × All (HasLine third) x.0 × CompletesTree places x.0
 
 pub nodes_taken : (third : Bool) (most places : ℕ) (bytes : List ℕ) (x : List TreeNode × List ℕ) → nodes_at third most places bytes ≡ Ok x
-    → (bytes ≡ flat_map node_text x.0 ++ x.1) × All FitsNode x.0 × All (HasLine third) x.0 × Completes places x.0
+    → (bytes ≡ flat_map node_text x.0 ++ x.1) × All FitsNode x.0 × All (HasLine third) x.0 × CompletesTree places x.0
 unfolding nodes_at
 nodes_taken third most zero bytes x e = subst (Taken third 0 bytes) (ok_is {A = List TreeNode × List ℕ} ([], bytes) x e) (refl, All-nil FitsNode, All-nil (HasLine third), tt)
 nodes_taken third zero (suc places) bytes x e = absurd cc

@@ -23,7 +23,7 @@ use Rattle.tree_certificate.specs.FieldsRead.{HasNone, line_ended}
 use Rattle.tree_certificate.specs.LinesRead.{line_at}
 use Rattle.tree_certificate.specs.NodesRead.{nodes_at}
 use Rattle.tree_certificate.specs.TreesRead.{TreeRead, version_word_at, version_at, edition_line_at, edition_at, optimal_at, infeasible_at, verdict_at, end_at, is_third_version, tree_at, read_of, AnswersTree}
-use Rattle.tree_certificate.specs.Versions.{version_line, edition_head, version_text, FitsEdition, HasLines, Completes, IsText, later_version}
+use Rattle.tree_certificate.specs.Versions.{version_line, edition_head, version_text, FitsEdition, VersionHasLines, CompletesTree, IsText, later_version}
 use Rattle.tree_certificate.proofs.FieldsAgain.{none_by, none_in_number, last_again}
 use Rattle.tree_certificate.proofs.FieldsTaken.{ok_is}
 use Rattle.tree_certificate.proofs.LinesAgain.{NotEnd, line_again, three}
@@ -92,7 +92,7 @@ none_third (n ∷ tree) none = All-cons (HasLine false) n tree (inr (left_false 
 all_third : (tree : List TreeNode) → All (HasLine true) tree
 all_third tree k d lt = inl refl
 
-have_lines : (version : Version) (tree : List TreeNode) → HasLines version tree → All (HasLine (is_third_version version)) tree
+have_lines : (version : Version) (tree : List TreeNode) → VersionHasLines version tree → All (HasLine (is_third_version version)) tree
 have_lines First tree lines = none_third tree lines
 have_lines Second tree lines = none_third tree lines
 have_lines Third tree lines = all_third tree
@@ -128,7 +128,7 @@ only_text bytes version read (Err no.Truncated) exact is = let t = tree_again by
 only_text bytes version read (Err (no.Trailing n)) exact is = let t = tree_again bytes version read is in let e = sym exact.1 ∙ t in absurd cc
 
 -- what is written is a text of the version that the nodes need
-written_by : (third : Bool) (edition : ℕ) (verdict : Verdict) (tree : List TreeNode) → needs_third tree ≡ third → edition ≤ 65535 → FitsVerdict verdict → All FitsNode tree → Completes 1 tree
+written_by : (third : Bool) (edition : ℕ) (verdict : Verdict) (tree : List TreeNode) → needs_third tree ≡ third → edition ≤ 65535 → FitsVerdict verdict → All FitsNode tree → CompletesTree 1 tree
     → IsText (later_text third edition ++ body_text verdict tree) (later_version third) (read_of (Some edition) verdict tree)
 written_by true edition verdict tree is within verdict_fits fits complete = record {
   edition_fits = within;
@@ -147,11 +147,11 @@ written_by false edition verdict tree is within verdict_fits fits complete = rec
   text = ap (λ (l : List ℕ). l ++ body_text verdict tree) (start (codes "displib-tree 2\n") (codes "edition ") (decimal edition) (codes "\n"));
 }
 
-pub written_text : (edition : ℕ) (verdict : Verdict) (tree : List TreeNode) → edition ≤ 65535 → FitsVerdict verdict → All FitsNode tree → Completes 1 tree
+pub written_text : (edition : ℕ) (verdict : Verdict) (tree : List TreeNode) → edition ≤ 65535 → FitsVerdict verdict → All FitsNode tree → CompletesTree 1 tree
     → IsText (tree_text edition verdict tree) (later_version (needs_third tree)) (read_of (Some edition) verdict tree)
 written_text edition verdict tree within verdict_fits fits complete = written_by (needs_third tree) edition verdict tree refl within verdict_fits fits complete
 
-pub written_again : (edition : ℕ) (verdict : Verdict) (tree : List TreeNode) → edition ≤ 65535 → FitsVerdict verdict → All FitsNode tree → Completes 1 tree
+pub written_again : (edition : ℕ) (verdict : Verdict) (tree : List TreeNode) → edition ≤ 65535 → FitsVerdict verdict → All FitsNode tree → CompletesTree 1 tree
     → tree_at (tree_text edition verdict tree) ≡ Ok (read_of (Some edition) verdict tree)
 written_again edition verdict tree within verdict_fits fits complete =
     tree_again (tree_text edition verdict tree) (later_version (needs_third tree)) (read_of (Some edition) verdict tree) (written_text edition verdict tree within verdict_fits fits complete)

@@ -20,7 +20,7 @@ use Rattle.tree_certificate.specs.FieldsRead.{behind, field_number, line_ended, 
 use Rattle.tree_certificate.specs.LinesRead.{line_at}
 use Rattle.tree_certificate.specs.NodesRead.{nodes_at}
 use Rattle.tree_certificate.specs.TreesRead.{TreeRead, version_word_at, version_at, edition_line_at, edition_at, optimal_at, infeasible_at, verdict_by, verdict_at, nothing_behind, end_at, is_third_version, tree_at, read_of, AnswersTree}
-use Rattle.tree_certificate.specs.Versions.{version_line, edition_head, version_text, FitsEdition, HasLines, Completes, IsText}
+use Rattle.tree_certificate.specs.Versions.{version_line, edition_head, version_text, FitsEdition, VersionHasLines, CompletesTree, IsText}
 use Rattle.tree_certificate.proofs.FieldsTaken.{bind_ok, done, ok_is, parts, field_taken, end_taken, behind_taken, word_taken, or_word_taken}
 use Rattle.tree_certificate.proofs.LinesAgain.{three}
 use Rattle.tree_certificate.proofs.LinesTaken.{line_taken}
@@ -166,7 +166,7 @@ none_needs (n ∷ tree) have = neither (is_third n) (needs_third tree) (not_thir
     not_third m (inl e) = absurd cc
     not_third m (inr e) = e
 
-have_lines : (version : Version) (tree : List TreeNode) → All (HasLine (is_third_version version)) tree → HasLines version tree
+have_lines : (version : Version) (tree : List TreeNode) → All (HasLine (is_third_version version)) tree → VersionHasLines version tree
 have_lines First tree have = none_needs tree have
 have_lines Second tree have = none_needs tree have
 have_lines Third tree have = tt

@@ -36,23 +36,23 @@ FitsEdition Third None = ⊥
 FitsEdition Third (Some edition) = edition ≤ 65535
 
 -- the version has lines for the nodes
-abbrev pub HasLines : Version → List TreeNode → Type 0
-HasLines First tree = needs_third tree ≡ false
-HasLines Second tree = needs_third tree ≡ false
-HasLines Third tree = Unit {0}
+abbrev pub VersionHasLines : Version → List TreeNode → Type 0
+VersionHasLines First tree = needs_third tree ≡ false
+VersionHasLines Second tree = needs_third tree ≡ false
+VersionHasLines Third tree = Unit {0}
 
 -- the nodes, in preorder, fill so many open places: each has its children, and no node is left
-abbrev pub Completes : ℕ → List TreeNode → Type 0
-Completes zero [] = Unit {0}
-Completes (suc places) [] = ⊥
-Completes zero (n ∷ tree) = ⊥
-Completes (suc places) (n ∷ tree) = Completes (places + places_opened n) tree
+abbrev pub CompletesTree : ℕ → List TreeNode → Type 0
+CompletesTree zero [] = Unit {0}
+CompletesTree (suc places) [] = ⊥
+CompletesTree zero (n ∷ tree) = ⊥
+CompletesTree (suc places) (n ∷ tree) = CompletesTree (places + places_opened n) tree
 
 -- the bytes are the text of a tree within the limits, each of whose branches has its children
 pub record IsText (bytes : List ℕ) (version : Version) (read : TreeRead) : Type 0 where
   pub edition_fits : FitsEdition version read.edition
   pub verdict_fits : FitsVerdict read.verdict
   pub nodes_fit : All FitsNode read.tree
-  pub complete : Completes 1 read.tree
-  pub lines : HasLines version read.tree
+  pub complete : CompletesTree 1 read.tree
+  pub lines : VersionHasLines version read.tree
   pub text : bytes ≡ version_text version read

@@ -5,17 +5,17 @@ ghost use Rattle.disp_model.specs.Trees.{FitsNode, FitsVerdict};
 ghost use Rattle.tree_certificate.specs.declared.word.Version.{Version};
 ghost use Rattle.tree_certificate.specs.TreeTexts.{tree_text, needs_third};
 ghost use Rattle.tree_certificate.specs.TreesRead.{TreeRead, tree_at, read_of};
-ghost use Rattle.tree_certificate.specs.Versions.{Completes, IsText, later_version};
+ghost use Rattle.tree_certificate.specs.Versions.{CompletesTree, IsText, later_version};
 
 /// What is written of a tree within the limits, each of whose branches has its children, is the
 /// text of its edition, its verdict and its nodes, and is read again as these.
 pub fn written_is_read()
     ensures is_text { (edition : ℕ) (verdict : Verdict) (tree : List TreeNode) → edition ≤ 65535
-        → FitsVerdict verdict → All FitsNode tree → Completes 1 tree
+        → FitsVerdict verdict → All FitsNode tree → CompletesTree 1 tree
         → IsText (tree_text edition verdict tree) (later_version (needs_third tree))
         (read_of (Some edition) verdict tree) }
     ensures is_read { (edition : ℕ) (verdict : Verdict) (tree : List TreeNode) → edition ≤ 65535
-        → FitsVerdict verdict → All FitsNode tree → Completes 1 tree
+        → FitsVerdict verdict → All FitsNode tree → CompletesTree 1 tree
         → tree_at (tree_text edition verdict tree) ≡ Ok (read_of (Some edition) verdict tree) }
 {}
 

@@ -11,14 +11,14 @@ use Rattle.disp_model.specs.Node.{Node}
 use Rattle.disp_model.specs.Arcs.{HasArc}
 use Rattle.disp_model.specs.Walks.{EndsIn}
 use Rattle.disp_model.specs.Shares.{AreOfOthers}
-use Rattle.tree_checker.specs.Rules.{EndsOn, IsOfOther, IsJoinedBack}
+use Rattle.tree_checker.specs.Rules.{EndsOn, IsOfOtherTrain, IsJoinedBack}
 
 at_place : {X : Type 0} (P : X → Type 0) (xs : List X) → All P xs → (i : ℕ) (x : X) → slice_get xs i ≡ Some x → P x
 at_place P xs all i x at = subst P (get_or_from_slice_get xs i x x at) (all i x (slice_get_within xs i x at))
 
-pub of_others : (problem : Problem) (walks : List ComponentWalk) (trains : List TrainWalks) → All (IsOfOther problem trains) walks ↔ AreOfOthers problem walks trains
+pub of_others : (problem : Problem) (walks : List ComponentWalk) (trains : List TrainWalks) → All (IsOfOtherTrain problem trains) walks ↔ AreOfOthers problem walks trains
 of_others problem walks trains = (
-  λ all i j w listed c at there component same. at_place (λ t. t.train ≡ c.train → ⊥) trains (at_place (IsOfOther problem trains) walks all i w at c component) j listed there (sym same),
+  λ all i j w listed c at there component same. at_place (λ t. t.train ≡ c.train → ⊥) trains (at_place (IsOfOtherTrain problem trains) walks all i w at c component) j listed there (sym same),
   λ are i d lt c component j e within same. are i j (get_or walks i d) (get_or trains j e) c (slice_get-get_or walks i d lt) (slice_get-get_or trains j e within) component (sym same),
 )
 

@@ -15,7 +15,7 @@ use Rattle.node_facts.specs.declared.demands.Demand.{Demand}
 use Rattle.node_facts.specs.Ways.{MayGo, lesser, sum_at}
 use Rattle.route_marks.specs.Marks.{ArePlaces}
 use Rattle.node_facts.proofs.Placing.{falls, apart, place_within}
-use Rattle.tree_checker.specs.TrainCosts.{Comes, Enters, Leaves, AreEntered, base_by}
+use Rattle.tree_checker.specs.TrainCosts.{Comes, EntersNexts, LeavesCosts, AreEntered, base_by}
 use Rattle.tree_checker.proofs.Coming.{comes_more, comes_last}
 
 -- ---- one step
@@ -38,7 +38,7 @@ lesser_is (Some n) time = (
 
 -- an operation that may come next is entered
 pub enters_one : (places : List ℕ) (demands : List Demand) (o s time : ℕ) (old new : List (Option ℕ)) → s < length old → MayGo places demands o (Some s) → new ≡ set old s (lesser (sum_at old s) (Some time))
-    → Enters places demands o (s ∷ []) time old new
+    → EntersNexts places demands o (s ∷ []) time old new
 enters_one places demands o s time old new there may is = rw is (record {
   long = length-set old s value;
   sooner = λ p x at. elim (same_number p s) [
@@ -70,7 +70,7 @@ enters_one places demands o s time old new there may is = rw is (record {
     here p y e same (inr before) = inl (subst (λ (q : ℕ). sum_at old q ≡ Some y) (sym e) (before ∙ ap (λ (n : ℕ). Some n) same))
 
 -- one that may not is not
-pub enters_not : (places : List ℕ) (demands : List Demand) (o s time : ℕ) (old : List (Option ℕ)) → (MayGo places demands o (Some s) → ⊥) → Enters places demands o (s ∷ []) time old old
+pub enters_not : (places : List ℕ) (demands : List Demand) (o s time : ℕ) (old : List (Option ℕ)) → (MayGo places demands o (Some s) → ⊥) → EntersNexts places demands o (s ∷ []) time old old
 enters_not places demands o s time old not = record {
   long = refl;
   sooner = λ p x at. (x, at, omega arith);
@@ -80,11 +80,11 @@ enters_not places demands o s time old not = record {
 
 -- ---- all steps from an operation
 
-pub enters_none : (places : List ℕ) (demands : List Demand) (o time : ℕ) (old : List (Option ℕ)) → Enters places demands o [] time old old
+pub enters_none : (places : List ℕ) (demands : List Demand) (o time : ℕ) (old : List (Option ℕ)) → EntersNexts places demands o [] time old old
 enters_none places demands o time old = record { long = refl; sooner = λ p x at. (x, at, omega arith); each = λ p among goes. absurd (contains_none p among); only = λ p y at. inl at }
 
-pub enters_more : (places : List ℕ) (demands : List Demand) (o time : ℕ) (nexts : List ℕ) (i d : ℕ) (old middle new : List (Option ℕ)) → i < length nexts → Enters places demands o (take i nexts) time old middle
-    → Enters places demands o (get_or nexts i d ∷ []) time middle new → Enters places demands o (take (i + 1) nexts) time old new
+pub enters_more : (places : List ℕ) (demands : List Demand) (o time : ℕ) (nexts : List ℕ) (i d : ℕ) (old middle new : List (Option ℕ)) → i < length nexts → EntersNexts places demands o (take i nexts) time old middle
+    → EntersNexts places demands o (get_or nexts i d ∷ []) time middle new → EntersNexts places demands o (take (i + 1) nexts) time old new
 enters_more places demands o time nexts i d old middle new lt before step = rw (take_more nexts i d lt) (record {
   long = step.long ∙ before.long;
   sooner = λ p x at. let first = before.sooner p x at in let second = step.sooner p first.0 first.1 in (second.0, second.1, omega (arith, first.2, second.2));
@@ -107,8 +107,8 @@ enters_more places demands o time nexts i d old middle new lt before step = rw (
     last : (p : ℕ) → Contains (s ∷ []) p → Contains (take i nexts ++ s ∷ []) p
     last p there = elim (contains_cases s p [] there) [ inl e ↦ subst (λ (q : ℕ). Contains (take i nexts ++ s ∷ []) q) e (Contains-push (take i nexts) s) | inr none ↦ absurd (contains_none p none) ]
 
-pub enters_all : (places : List ℕ) (demands : List Demand) (o time : ℕ) (nexts : List ℕ) (i : ℕ) (old new : List (Option ℕ)) → length nexts ≤ i → Enters places demands o (take i nexts) time old new → Enters places demands o nexts time old new
-enters_all places demands o time nexts i old new past is = subst (λ (l : List ℕ). Enters places demands o l time old new) (take_all i nexts past) is
+pub enters_all : (places : List ℕ) (demands : List Demand) (o time : ℕ) (nexts : List ℕ) (i : ℕ) (old new : List (Option ℕ)) → length nexts ≤ i → EntersNexts places demands o (take i nexts) time old new → EntersNexts places demands o nexts time old new
+enters_all places demands o time nexts i old new past is = subst (λ (l : List ℕ). EntersNexts places demands o l time old new) (take_all i nexts past) is
 
 -- ---- the operations left so far
 
@@ -171,7 +171,7 @@ none_left train order places demands bases e empty ordered placed there none = r
 -- ---- one more operation
 
 pub left_more : (train : List Operation) (order places : List ℕ) (demands : List Demand) (bases : List ℕ) (e i op : ℕ) (entered after : List (Option ℕ)) → IsOrder train order → ArePlaces train order places → i < length order
-    → slice_get order (length order - 1 - i) ≡ Some op → ((o : ℕ) → slice_index bases o ≤ 2 ^ 127) → duration_of train op < 2 ^ 32 → AreLeft train order places demands bases e i entered → Leaves train places demands bases op entered after
+    → slice_get order (length order - 1 - i) ≡ Some op → ((o : ℕ) → slice_index bases o ≤ 2 ^ 127) → duration_of train op < 2 ^ 32 → AreLeft train order places demands bases e i entered → LeavesCosts train places demands bases op entered after
     → AreLeft train order places demands bases e (i + 1) after
 left_more train order places demands bases e i op entered after ordered placed lt at small short before leaves = by (sum_at entered op) refl leaves
   where
@@ -191,7 +191,7 @@ left_more train order places demands bases e i op entered after ordered placed l
     in_time : (n : ℕ) (rest : List ℕ) → Comes train places demands (base_by bases) e 0 rest op n → (x : ℕ) × (sum_at entered op ≡ Some x) × (max x (base_by bases op) ≤ n)
     in_time n rest comes = entered_in_time train order places demands bases e i entered ordered placed before op n rest (omega (arith, place, lt)) comes
 
-    by : (found : Option ℕ) → sum_at entered op ≡ found → MatchOption found (after ≡ entered) (λ x. Enters places demands op (next_of train op) (max x (slice_index bases op) + duration_of train op) entered after)
+    by : (found : Option ℕ) → sum_at entered op ≡ found → MatchOption found (after ≡ entered) (λ x. EntersNexts places demands op (next_of train op) (max x (slice_index bases op) + duration_of train op) entered after)
         → AreLeft train order places demands bases e (i + 1) after
     by None none same = rw same (record {
       long = before.long;

@@ -22,7 +22,7 @@ use Rattle.disp_laws.proofs.LongestArcs.{longest_arc}
 use Rattle.disp_laws.proofs.RouteSearch.{has_route_or_not}
 use Rattle.disp_laws.proofs.Shares.{share_exists}
 use Rattle.tree_checker.specs.declared.why.Why.TheVariants.{BadName, HasRoute as SaysNothing, NotCycle, EmptyWalk, NotForced, BadArc, NotLate, RepeatedComponent, RepeatedTrain, WrongTrain, WrongEnd, NoVerdict, BelowCost}
-use Rattle.tree_checker.specs.Rules.{HasArcs, IsJoinedBack, EndsRight, EndsOn, ShowsCosts, HasCost, KeepsRules, IsFirstRule, component_walks, listed_trains, rank, rule_at}
+use Rattle.tree_checker.specs.Rules.{HasArcs, IsJoinedBack, EndsRight, EndsOn, ShowsCosts, HasCost, KeepsAllRules, IsFirstRule, component_walks, listed_trains, rank_of_why, rule_at}
 use Rattle.tree_checker.specs.Bounds.{IsCappedBound}
 use Rattle.tree_checker.proofs.Ranking.{kept_unbroken}
 
@@ -128,7 +128,7 @@ shares_cost node (t ∷ trains) routes named some forced arcs on =
 -- ---- leaves
 
 -- walks and listed trains of a leaf that keeps all rules have costs
-pub kept_costs : (node : Node) (verdict : Verdict) (leaf : Leaf) → (HasNoRoute node → ⊥) → KeepsRules node verdict leaf → (sum : ℕ) × (shares : ℕ) × WalksCost node (component_walks leaf) sum × SharesCost node (listed_trains leaf) shares
+pub kept_costs : (node : Node) (verdict : Verdict) (leaf : Leaf) → (HasNoRoute node → ⊥) → KeepsAllRules node verdict leaf → (sum : ℕ) × (shares : ℕ) × WalksCost node (component_walks leaf) sum × SharesCost node (listed_trains leaf) shares
 kept_costs node verdict leaf routes keeps =
     let names = keeps BadName in
     let some = keeps EmptyWalk in
@@ -139,7 +139,7 @@ kept_costs node verdict leaf routes keeps =
     (sum.0, shares.0, sum.1, shares.1)
 
 -- a leaf that keeps all rules and yet shows nothing is one of costs, under a verdict with a cost
-pub kept_shows : (node : Node) (verdict : Verdict) (leaf : Leaf) → KeepsRules node verdict leaf → (Shows node verdict leaf → ⊥) → ShowsCosts leaf × HasCost verdict
+pub kept_shows : (node : Node) (verdict : Verdict) (leaf : Leaf) → KeepsAllRules node verdict leaf → (Shows node verdict leaf → ⊥) → ShowsCosts leaf × HasCost verdict
 kept_shows node verdict NoRoute keeps not = absurd (keeps SaysNothing)
 kept_shows node verdict (Cycle nodes) keeps not = absurd (not (cycle_closes node nodes (keeps NotCycle) ((keeps BadArc).0.own 0 nodes (omega arith)) (keeps BadArc).1))
 kept_shows node verdict (Late walk) keeps not = absurd (not (keeps NotLate))
@@ -147,7 +147,7 @@ kept_shows node verdict (Costs walks) keeps not = (tt, keeps NoVerdict)
 kept_shows node verdict (Shares walks trains) keeps not = (tt, keeps NoVerdict)
 
 -- costs that reach a verdict's show it
-pub costs_show : (node : Node) (cost : ℕ) (leaf : Leaf) (sum shares : ℕ) → KeepsRules node (Optimal cost) leaf → ShowsCosts leaf → WalksCost node (component_walks leaf) sum → SharesCost node (listed_trains leaf) shares → cost ≤ sum + shares → Shows node (Optimal cost) leaf
+pub costs_show : (node : Node) (cost : ℕ) (leaf : Leaf) (sum shares : ℕ) → KeepsAllRules node (Optimal cost) leaf → ShowsCosts leaf → WalksCost node (component_walks leaf) sum → SharesCost node (listed_trains leaf) shares → cost ≤ sum + shares → Shows node (Optimal cost) leaf
 costs_show node cost NoRoute sum shares keeps costs sum_is shares_is enough = absurd costs
 costs_show node cost (Cycle nodes) sum shares keeps costs sum_is shares_is enough = absurd costs
 costs_show node cost (Late walk) sum shares keeps costs sum_is shares_is enough = absurd costs
@@ -164,12 +164,12 @@ costs_show node cost (Shares walks trains) sum shares keeps costs sum_is shares_
 }
 
 -- what it costs is the first rule that it breaks
-pub below_first : (node : Node) (verdict : Verdict) (leaf : Leaf) (bound cost : ℕ) → verdict ≡ Optimal cost → cost < 2 ^ 64 → KeepsRules node verdict leaf → (Shows node verdict leaf → ⊥) → IsCappedBound node (component_walks leaf) (listed_trains leaf) bound
+pub below_first : (node : Node) (verdict : Verdict) (leaf : Leaf) (bound cost : ℕ) → verdict ≡ Optimal cost → cost < 2 ^ 64 → KeepsAllRules node verdict leaf → (Shows node verdict leaf → ⊥) → IsCappedBound node (component_walks leaf) (listed_trains leaf) bound
     → IsFirstRule node verdict leaf (BelowCost bound cost)
 below_first node verdict leaf bound cost same small keeps not capped =
-    subst (λ (v : Verdict). IsFirstRule node v leaf (BelowCost bound cost)) (sym same) (by (subst (λ (v : Verdict). KeepsRules node v leaf) same keeps) (subst (λ (v : Verdict). Shows node v leaf → ⊥) same not))
+    subst (λ (v : Verdict). IsFirstRule node v leaf (BelowCost bound cost)) (sym same) (by (subst (λ (v : Verdict). KeepsAllRules node v leaf) same keeps) (subst (λ (v : Verdict). Shows node v leaf → ⊥) same not))
   where
-    by : KeepsRules node (Optimal cost) leaf → (Shows node (Optimal cost) leaf → ⊥) → IsFirstRule node (Optimal cost) leaf (BelowCost bound cost)
+    by : KeepsAllRules node (Optimal cost) leaf → (Shows node (Optimal cost) leaf → ⊥) → IsFirstRule node (Optimal cost) leaf (BelowCost bound cost)
     by keeps not = record {
       broken = (
         shown,
@@ -183,7 +183,7 @@ below_first node verdict leaf bound cost same small keeps not capped =
           below = omega (arith, capped.found_is, less, small);
         },
       );
-      first = λ other lower breaks. kept_unbroken node (Optimal cost) leaf other lower (keeps (rule_at (rank other))) breaks;
+      first = λ other lower breaks. kept_unbroken node (Optimal cost) leaf other lower (keeps (rule_at (rank_of_why other))) breaks;
     }
       where
         shown : ShowsCosts leaf

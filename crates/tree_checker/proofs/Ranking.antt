@@ -6,10 +6,10 @@ use Rattle.disp_model.specs.declared.tree.Verdict.{Verdict}
 use Rattle.disp_model.specs.Node.{Node}
 use Rattle.tree_checker.specs.declared.why.Why.{Why}
 use Rattle.tree_checker.specs.declared.why.Why.TheVariants.{BadName, BadChoice, HasRoute, NotCycle, EmptyWalk, NotForced, BadArc, NotLate, RepeatedComponent, RepeatedTrain, WrongTrain, WrongEnd, NoVerdict, BelowCost}
-use Rattle.tree_checker.specs.Rules.{rank, rule_at, Keeps, Breaks, KeepsRules, IsFirstRule}
+use Rattle.tree_checker.specs.Rules.{rank_of_why, rule_at, KeepsListRule, BreaksRule, KeepsAllRules, IsFirstRule}
 
 -- the rule of a place has that place
-rank_at : (p : ℕ) → p < 13 → rank (rule_at p) ≡ p
+rank_at : (p : ℕ) → p < 13 → rank_of_why (rule_at p) ≡ p
 rank_at zero lt = refl
 rank_at (suc zero) lt = refl
 rank_at (suc (suc zero)) lt = refl
@@ -26,7 +26,7 @@ rank_at (suc (suc (suc (suc (suc (suc (suc (suc (suc (suc (suc (suc zero))))))))
 rank_at (suc (suc (suc (suc (suc (suc (suc (suc (suc (suc (suc (suc (suc p))))))))))))) lt = absurd (omega (arith, lt))
 
 -- where a rule that no cost breaks is kept, it is not broken
-pub kept_unbroken : (node : Node) (verdict : Verdict) (leaf : Leaf) (why : Why) → rank why < 13 → Keeps node verdict leaf (rule_at (rank why)) → Breaks node verdict leaf why → ⊥
+pub kept_unbroken : (node : Node) (verdict : Verdict) (leaf : Leaf) (why : Why) → rank_of_why why < 13 → KeepsListRule node verdict leaf (rule_at (rank_of_why why)) → BreaksRule node verdict leaf why → ⊥
 kept_unbroken node verdict leaf BadName lt keeps breaks = breaks keeps
 kept_unbroken node verdict leaf BadChoice lt keeps breaks = breaks keeps
 kept_unbroken node verdict leaf HasRoute lt keeps breaks = breaks keeps
@@ -42,7 +42,7 @@ kept_unbroken node verdict leaf WrongEnd lt keeps breaks = breaks keeps
 kept_unbroken node verdict leaf NoVerdict lt keeps breaks = breaks keeps
 kept_unbroken node verdict leaf (BelowCost bound cost) lt keeps breaks = absurd (omega (arith, lt))
 
-pub kept_all : (node : Node) (verdict : Verdict) (leaf : Leaf) → ((k : ℕ) → k < 13 → Keeps node verdict leaf (rule_at k)) → KeepsRules node verdict leaf
+pub kept_all : (node : Node) (verdict : Verdict) (leaf : Leaf) → ((k : ℕ) → k < 13 → KeepsListRule node verdict leaf (rule_at k)) → KeepsAllRules node verdict leaf
 kept_all node verdict leaf keeps BadName = keeps 0 (omega arith)
 kept_all node verdict leaf keeps BadChoice = keeps 1 (omega arith)
 kept_all node verdict leaf keeps HasRoute = keeps 2 (omega arith)
@@ -59,7 +59,7 @@ kept_all node verdict leaf keeps NoVerdict = keeps 12 (omega arith)
 kept_all node verdict leaf keeps (BelowCost bound cost) = tt
 
 -- what is not kept is broken
-unkept_broken : (node : Node) (verdict : Verdict) (leaf : Leaf) (why : Why) → (Keeps node verdict leaf why → ⊥) → Breaks node verdict leaf why
+unkept_broken : (node : Node) (verdict : Verdict) (leaf : Leaf) (why : Why) → (KeepsListRule node verdict leaf why → ⊥) → BreaksRule node verdict leaf why
 unkept_broken node verdict leaf BadName not = not
 unkept_broken node verdict leaf BadChoice not = not
 unkept_broken node verdict leaf HasRoute not = not
@@ -75,17 +75,17 @@ unkept_broken node verdict leaf WrongEnd not = not
 unkept_broken node verdict leaf NoVerdict not = not
 unkept_broken node verdict leaf (BelowCost bound cost) not = absurd (not tt)
 
-pub first_at : (node : Node) (verdict : Verdict) (leaf : Leaf) (p : ℕ) (why : Why) → p < 13 → why ≡ rule_at p → (Keeps node verdict leaf why → ⊥) → ((k : ℕ) → k < p → Keeps node verdict leaf (rule_at k)) → IsFirstRule node verdict leaf why
+pub first_at : (node : Node) (verdict : Verdict) (leaf : Leaf) (p : ℕ) (why : Why) → p < 13 → why ≡ rule_at p → (KeepsListRule node verdict leaf why → ⊥) → ((k : ℕ) → k < p → KeepsListRule node verdict leaf (rule_at k)) → IsFirstRule node verdict leaf why
 first_at node verdict leaf p why lt is not before = record {
   broken = unkept_broken node verdict leaf why not;
-  first = λ other less. let low : rank other < p = subst (λ (n : ℕ). rank other < n) at less in kept_unbroken node verdict leaf other (omega (arith, low, lt)) (before (rank other) low);
+  first = λ other less. let low : rank_of_why other < p = subst (λ (n : ℕ). rank_of_why other < n) at less in kept_unbroken node verdict leaf other (omega (arith, low, lt)) (before (rank_of_why other) low);
 }
   where
-    at : rank why ≡ p
-    at = subst (λ (w : Why). rank w ≡ p) (sym is) (rank_at p lt)
+    at : rank_of_why why ≡ p
+    at = subst (λ (w : Why). rank_of_why w ≡ p) (sym is) (rank_at p lt)
 
-pub kept_more : (node : Node) (verdict : Verdict) (leaf : Leaf) (p : ℕ) (why : Why) → why ≡ rule_at p → Keeps node verdict leaf why → ((k : ℕ) → k < p → Keeps node verdict leaf (rule_at k)) → (k : ℕ) → k < p + 1 → Keeps node verdict leaf (rule_at k)
+pub kept_more : (node : Node) (verdict : Verdict) (leaf : Leaf) (p : ℕ) (why : Why) → why ≡ rule_at p → KeepsListRule node verdict leaf why → ((k : ℕ) → k < p → KeepsListRule node verdict leaf (rule_at k)) → (k : ℕ) → k < p + 1 → KeepsListRule node verdict leaf (rule_at k)
 kept_more node verdict leaf p why is keeps before k within = elim (cases_lt k p) [
   | inl early ↦ before k early
-  | inr ge ↦ let same : p ≡ k = omega (arith, within, ge) in subst (λ (n : ℕ). Keeps node verdict leaf (rule_at n)) same (subst (Keeps node verdict leaf) is keeps)
+  | inr ge ↦ let same : p ≡ k = omega (arith, within, ge) in subst (λ (n : ℕ). KeepsListRule node verdict leaf (rule_at n)) same (subst (KeepsListRule node verdict leaf) is keeps)
 ]

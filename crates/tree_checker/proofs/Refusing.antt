@@ -9,7 +9,7 @@ use Rattle.disp_model.specs.Node.{Node}
 use Rattle.disp_model.specs.Routes.{HasNoRoute}
 use Rattle.disp_model.specs.Trees.{Shows, LeafHolds}
 use Rattle.tree_checker.specs.declared.why.Why.{Why}
-use Rattle.tree_checker.specs.Rules.{KeepsRules, IsFirstRule, IsRefusedFor, component_walks, listed_trains}
+use Rattle.tree_checker.specs.Rules.{KeepsAllRules, IsFirstRule, IsRefusedFor, component_walks, listed_trains}
 use Rattle.tree_checker.specs.Bounds.{IsBoundOfAll}
 use Rattle.tree_checker.proofs.Kept.{kept_costs, kept_shows}
 
@@ -24,9 +24,9 @@ refused_for node verdict leaf why routes not first = record {
 }
 
 -- a leaf of all rules has costs
-pub has_bound : (node : Node) (verdict : Verdict) (leaf : Leaf) → (HasNoRoute node → ⊥) → KeepsRules node verdict leaf → IsBoundOfAll node (component_walks leaf) (listed_trains leaf) None → ⊥
+pub has_bound : (node : Node) (verdict : Verdict) (leaf : Leaf) → (HasNoRoute node → ⊥) → KeepsAllRules node verdict leaf → IsBoundOfAll node (component_walks leaf) (listed_trains leaf) None → ⊥
 has_bound node verdict leaf routes keeps none = let found = kept_costs node verdict leaf routes keeps in none found.0 found.1 found.2 found.3
 
 -- a leaf that keeps all rules under 'infeasible' shows something
-pub no_cost : (node : Node) (leaf : Leaf) → KeepsRules node Infeasible leaf → (Shows node Infeasible leaf → ⊥) → ⊥
+pub no_cost : (node : Node) (leaf : Leaf) → KeepsAllRules node Infeasible leaf → (Shows node Infeasible leaf → ⊥) → ⊥
 no_cost node leaf keeps not = (kept_shows node Infeasible leaf keeps not).1

@@ -17,8 +17,9 @@ use Rattle.node_facts.specs.Known.{IsKnown}
 use Rattle.node_facts.specs.Orders.{AreKnown}
 use Rattle.node_facts.proofs.Demanding.{all_parts}
 use Rattle.tree_checker.specs.declared.places.Place.{Place}
-use Rattle.tree_checker.specs.Places.{last_decision, decisions_of}
-use Rattle.tree_checker.specs.Descents.{train_about, Covers, Notes, AreNoted, RenewsOne, AreRenewed}
+use Rattle.tree_checker.specs.Places.{last_decision, decisions_at}
+use Rattle.tree_checker.specs.Descents.{Covers, Notes, AreNoted, RenewsOne, AreRenewed}
+use Rattle.decision_paths.specs.Kept.{train_about}
 
 -- ---- decisions on the routes of other trains
 
@@ -37,7 +38,7 @@ all_agree t route changed (decision ∷ decisions) other covers =
 
 -- of a train that no changed decision speaks of the same is known
 carried : (problem : Problem) (fixings : List Fixing) (path : List Decision) (place : Place) (changed : List ℕ) (t : ℕ) (known : TrainKnowledge) → All (λ decision. Covers decision changed) (drop place.depth path ++ last_decision place.decision)
-    → (Contains changed t → ⊥) → IsKnown (node_at problem fixings path) t known → IsKnown (node_at problem fixings (decisions_of path place)) t known
+    → (Contains changed t → ⊥) → IsKnown (node_at problem fixings path) t known → IsKnown (node_at problem fixings (decisions_at path place)) t known
 carried problem fixings path place changed t known covers other is = record {
   there = is.there;
   order_is = is.order_is;
@@ -56,13 +57,13 @@ carried problem fixings path place changed t known covers other is = record {
     parts : All (λ decision. Covers decision changed) (drop place.depth path) × All (λ decision. Covers decision changed) (last_decision place.decision)
     parts = all_parts (λ decision. Covers decision changed) (drop place.depth path) (last_decision place.decision) covers
 
-    onward : (route : List ℕ) → All (AgreesWithDecision t route) path → All (AgreesWithDecision t route) (decisions_of path place)
+    onward : (route : List ℕ) → All (AgreesWithDecision t route) path → All (AgreesWithDecision t route) (decisions_at path place)
     onward route all =
         All-append (AgreesWithDecision t route) (take place.depth path) (last_decision place.decision)
         (all_parts (AgreesWithDecision t route) (take place.depth path) (drop place.depth path) (subst (All (AgreesWithDecision t route)) (sym (take-append-drop place.depth path)) all)).0
         (all_agree t route changed (last_decision place.decision) other parts.1)
 
-    back : (route : List ℕ) → All (AgreesWithDecision t route) (decisions_of path place) → All (AgreesWithDecision t route) path
+    back : (route : List ℕ) → All (AgreesWithDecision t route) (decisions_at path place) → All (AgreesWithDecision t route) path
     back route all =
         subst (All (AgreesWithDecision t route)) (take-append-drop place.depth path)
         (All-append (AgreesWithDecision t route) (take place.depth path) (drop place.depth path) (all_parts (AgreesWithDecision t route) (take place.depth path) (last_decision place.decision) all).0
@@ -104,7 +105,7 @@ pub renewed_all : (node : Node) (changed : List ℕ) (i : ℕ) (old new : List T
 renewed_all node changed i old new past is = subst (λ (l : List ℕ). AreRenewed node l old new) (take_all i changed past) is
 
 -- what is renewed is known at the new place
-pub renewed_known : (problem : Problem) (fixings : List Fixing) (path after : List Decision) (place : Place) (changed : List ℕ) (old new : List TrainKnowledge) → AreKnown (node_at problem fixings path) old → after ≡ decisions_of path place
+pub renewed_known : (problem : Problem) (fixings : List Fixing) (path after : List Decision) (place : Place) (changed : List ℕ) (old new : List TrainKnowledge) → AreKnown (node_at problem fixings path) old → after ≡ decisions_at path place
     → All (λ decision. Covers decision changed) (drop place.depth path ++ last_decision place.decision) → AreRenewed (node_at problem fixings after) changed old new → AreKnown (node_at problem fixings after) new
 renewed_known problem fixings path after place changed old new known is covers renewed = record {
   long = renewed.long ∙ known.long;

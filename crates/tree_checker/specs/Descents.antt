@@ -5,13 +5,7 @@ use Rattle.disp_model.specs.declared.decision.Decision.TheVariants.{Go, First, R
 use Rattle.disp_model.specs.Node.{Node}
 use Rattle.node_facts.specs.declared.train.TrainKnowledge.{TrainKnowledge}
 use Rattle.node_facts.specs.Known.{IsKnown}
-
--- the train of whose routes a decision speaks
-abbrev pub train_about : Decision → Option ℕ
-train_about (Go o next) = Some o.train
-train_about (First a b) = None
-train_about (Run o) = Some o.train
-train_about (Skip o) = Some o.train
+use Rattle.decision_paths.specs.Kept.{train_about}
 
 -- a list has the train of whose routes the decision speaks
 pub record Covers (decision : Decision) (changed : List ℕ) : Type 0 where

@@ -8,20 +8,20 @@ use Rattle.disp_model.specs.declared.tree.TreeNode.{TreeNode}
 use Rattle.disp_model.specs.declared.tree.Verdict.{Verdict}
 use Rattle.tree_checker.specs.declared.places.Place.{Place}
 use Rattle.tree_checker.specs.declared.why.Why.{Why}
-use Rattle.tree_checker.specs.Rules.{Holds}
-use Rattle.tree_checker.specs.Checks.{places_behind, StopsAt}
+use Rattle.tree_checker.specs.Rules.{TreeNodeHolds}
+use Rattle.tree_checker.specs.Checks.{places_behind, StopsAtNode}
 
 abbrev pub last_decision : Option Decision → List Decision
 last_decision None = []
 last_decision (Some decision) = decision ∷ []
 
 -- the decisions that lead to a place, by those on the way to the node that was looked at last
-abbrev pub decisions_of : List Decision → Place → List Decision
-decisions_of path place = take place.depth path ++ last_decision place.decision
+abbrev pub decisions_at : List Decision → Place → List Decision
+decisions_at path place = take place.depth path ++ last_decision place.decision
 
 -- the nodes of places, the next one first
 abbrev pub nodes_of : Problem → List Fixing → List Decision → List Place → List Node
-nodes_of problem fixings path places = map (λ place. node_at problem fixings (decisions_of path place)) (reverse places)
+nodes_of problem fixings path places = map (λ place. node_at problem fixings (decisions_at path place)) (reverse places)
 
 -- the children of the node at a depth
 abbrev pub places_at : ℕ → List Decision → List Place
@@ -37,11 +37,11 @@ pub record HasStepped (problem : Problem) (fixings : List Fixing) (verdict : Ver
   pub node : Node
   pub behind : List Node
   pub entered : nodes_of problem fixings path places ≡ node ∷ behind
-  pub holds : Holds node verdict top
+  pub holds : TreeNodeHolds node verdict top
   pub left : nodes_of problem fixings path_after places_after ≡ places_behind node top behind
   pub nested : IsNested (length path_after) (reverse places_after)
 
 -- one step: on to the places that are left, or why the node of the tree is refused
 abbrev pub IsStep : Problem → List Fixing → Verdict → TreeNode → List Decision → List Decision → List Place → List Place → Option Why → Type 0
 IsStep problem fixings verdict top path path_after places places_after found =
-    MatchOption found (HasStepped problem fixings verdict top path path_after places places_after) (λ why. (tree : List TreeNode) → StopsAt verdict (nodes_of problem fixings path places) (top ∷ tree) 0 why)
+    MatchOption found (HasStepped problem fixings verdict top path path_after places places_after) (λ why. (tree : List TreeNode) → StopsAtNode verdict (nodes_of problem fixings path places) (top ∷ tree) 0 why)

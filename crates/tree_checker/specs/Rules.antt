@@ -27,21 +27,21 @@ use Rattle.tree_checker.specs.declared.why.Why.{Why}
 use Rattle.tree_checker.specs.declared.why.Why.TheVariants.{BadName, BadChoice, HasRoute, NotCycle, EmptyWalk, NotForced, BadArc, NotLate, RepeatedComponent, RepeatedTrain, WrongTrain, WrongEnd, NoVerdict, BelowCost}
 
 -- the place of a rule among those that are asked
-abbrev pub rank : Why → ℕ
-rank BadName = 0
-rank BadChoice = 1
-rank HasRoute = 2
-rank NotCycle = 3
-rank EmptyWalk = 4
-rank NotForced = 5
-rank BadArc = 6
-rank NotLate = 7
-rank RepeatedComponent = 8
-rank RepeatedTrain = 9
-rank WrongTrain = 10
-rank WrongEnd = 11
-rank NoVerdict = 12
-rank (BelowCost bound cost) = 13
+abbrev pub rank_of_why : Why → ℕ
+rank_of_why BadName = 0
+rank_of_why BadChoice = 1
+rank_of_why HasRoute = 2
+rank_of_why NotCycle = 3
+rank_of_why EmptyWalk = 4
+rank_of_why NotForced = 5
+rank_of_why BadArc = 6
+rank_of_why NotLate = 7
+rank_of_why RepeatedComponent = 8
+rank_of_why RepeatedTrain = 9
+rank_of_why WrongTrain = 10
+rank_of_why WrongEnd = 11
+rank_of_why NoVerdict = 12
+rank_of_why (BelowCost bound cost) = 13
 
 -- ---- what a leaf lists
 
@@ -76,29 +76,29 @@ HasArcs node walk = (i : ℕ) (u v : Op) → slice_get walk i ≡ Some u → sli
 -- ---- what is asked of each list
 
 -- a rule of which each list of operations is to be right
-abbrev pub IsRight : Node → ListRule → List Op → Type 0
-IsRight node Named walk = All (IsNamed node.problem) walk
-IsRight node NotEmpty walk = walk ≢ []
-IsRight node Forced walk = All (IsForced node) walk
-IsRight node Joined walk = HasArcs node walk
+abbrev pub IsListRight : Node → ListRule → List Op → Type 0
+IsListRight node Named walk = All (IsNamed node.problem) walk
+IsListRight node NotEmpty walk = walk ≢ []
+IsListRight node Forced walk = All (IsForced node) walk
+IsListRight node Joined walk = HasArcs node walk
 
 -- each list of operations that the leaf has is right
 pub record AreRight (node : Node) (rule : ListRule) (leaf : TreeLeaf) : Type 0 where
-  pub own : All (IsRight node rule) (own_lists leaf)
-  pub components : All (λ w. IsRight node rule w.walk) (component_walks leaf)
-  pub trains : All (λ listed. All (IsRight node rule) listed.walks) (listed_trains leaf)
+  pub own : All (IsListRight node rule) (own_lists leaf)
+  pub components : All (λ w. IsListRight node rule w.walk) (component_walks leaf)
+  pub trains : All (λ listed. All (IsListRight node rule) listed.walks) (listed_trains leaf)
 
 -- an arc leads from the last of the operations to the first
 abbrev pub IsJoinedBack : Node → List Op → Type 0
 IsJoinedBack node nodes = (first last : Op) → slice_get nodes 0 ≡ Some first → EndsIn nodes last → HasArc node last first
 
 -- a cycle is joined back to its first operation
-abbrev pub IsClosed : Node → TreeLeaf → Type 0
-IsClosed node NoRoute = Unit {0}
-IsClosed node (Cycle nodes) = IsJoinedBack node nodes
-IsClosed node (Late walk) = Unit {0}
-IsClosed node (Costs walks) = Unit {0}
-IsClosed node (Shares walks trains) = Unit {0}
+abbrev pub IsLeafClosed : Node → TreeLeaf → Type 0
+IsLeafClosed node NoRoute = Unit {0}
+IsLeafClosed node (Cycle nodes) = IsJoinedBack node nodes
+IsLeafClosed node (Late walk) = Unit {0}
+IsLeafClosed node (Costs walks) = Unit {0}
+IsLeafClosed node (Shares walks trains) = Unit {0}
 
 -- ---- what is asked of a kind of leaf
 
@@ -156,11 +156,11 @@ abbrev pub EndOnTrain : List TrainWalks → Type 0
 EndOnTrain trains = All (λ listed. All (EndsOn listed.train) listed.walks) trains
 
 -- the component of a walk is of no listed train
-abbrev pub IsOfOther : Problem → List TrainWalks → ComponentWalk → Type 0
-IsOfOther problem trains w = (c : Component) → slice_get problem.components w.component ≡ Some c → All (λ listed. listed.train ≢ c.train) trains
+abbrev pub IsOfOtherTrain : Problem → List TrainWalks → ComponentWalk → Type 0
+IsOfOtherTrain problem trains w = (c : Component) → slice_get problem.components w.component ≡ Some c → All (λ listed. listed.train ≢ c.train) trains
 
 -- what walks and shares cost together is so much, and below the verdict's cost
-pub record IsBelow (node : Node) (verdict : Verdict) (leaf : TreeLeaf) (bound cost : ℕ) : Type 0 where
+pub record CostsBelow (node : Node) (verdict : Verdict) (leaf : TreeLeaf) (bound cost : ℕ) : Type 0 where
   pub verdict_is : verdict ≡ Optimal cost
   pub sum : ℕ
   pub sum_is : WalksCost node (component_walks leaf) sum
@@ -177,27 +177,27 @@ ShowsCosts (Late walk) = ⊥
 ShowsCosts (Costs walks) = Unit {0}
 ShowsCosts (Shares walks trains) = Unit {0}
 
--- a leaf in whose place every train has an allowed route keeps a rule; of what costs add up to `Breaks` speaks
-abbrev pub Keeps : Node → Verdict → TreeLeaf → Why → Type 0
-Keeps node verdict leaf BadName = HasNames node leaf
-Keeps node verdict leaf BadChoice = Unit {0}
-Keeps node verdict leaf HasRoute = SaysMore leaf
-Keeps node verdict leaf NotCycle = IsLongCycle leaf
-Keeps node verdict leaf EmptyWalk = AreRight node NotEmpty leaf
-Keeps node verdict leaf NotForced = AreRight node Forced leaf
-Keeps node verdict leaf BadArc = AreRight node Joined leaf × IsClosed node leaf
-Keeps node verdict leaf NotLate = IsLateIfSaid node leaf
-Keeps node verdict leaf RepeatedComponent = HaveDistinct (component_walks leaf)
-Keeps node verdict leaf RepeatedTrain = HaveDistinctTrains (listed_trains leaf)
-Keeps node verdict leaf WrongTrain = AreOfOthers node.problem (component_walks leaf) (listed_trains leaf) × EndOnTrain (listed_trains leaf)
-Keeps node verdict leaf WrongEnd = All (EndsRight node.problem) (component_walks leaf)
-Keeps node verdict leaf NoVerdict = HasVerdict verdict leaf
-Keeps node verdict leaf (BelowCost bound cost) = Unit {0}
+-- a leaf in whose place every train has an allowed route keeps a rule; of what costs add up to `BreaksRule` speaks
+abbrev pub KeepsListRule : Node → Verdict → TreeLeaf → Why → Type 0
+KeepsListRule node verdict leaf BadName = HasNames node leaf
+KeepsListRule node verdict leaf BadChoice = Unit {0}
+KeepsListRule node verdict leaf HasRoute = SaysMore leaf
+KeepsListRule node verdict leaf NotCycle = IsLongCycle leaf
+KeepsListRule node verdict leaf EmptyWalk = AreRight node NotEmpty leaf
+KeepsListRule node verdict leaf NotForced = AreRight node Forced leaf
+KeepsListRule node verdict leaf BadArc = AreRight node Joined leaf × IsLeafClosed node leaf
+KeepsListRule node verdict leaf NotLate = IsLateIfSaid node leaf
+KeepsListRule node verdict leaf RepeatedComponent = HaveDistinct (component_walks leaf)
+KeepsListRule node verdict leaf RepeatedTrain = HaveDistinctTrains (listed_trains leaf)
+KeepsListRule node verdict leaf WrongTrain = AreOfOthers node.problem (component_walks leaf) (listed_trains leaf) × EndOnTrain (listed_trains leaf)
+KeepsListRule node verdict leaf WrongEnd = All (EndsRight node.problem) (component_walks leaf)
+KeepsListRule node verdict leaf NoVerdict = HasVerdict verdict leaf
+KeepsListRule node verdict leaf (BelowCost bound cost) = Unit {0}
 
 -- it breaks a rule where it does not keep it, or where what it shows costs too little
-abbrev pub Breaks : Node → Verdict → TreeLeaf → Why → Type 0
-Breaks node verdict leaf (BelowCost bound cost) = ShowsCosts leaf × IsBelow node verdict leaf bound cost
-Breaks node verdict leaf why = Keeps node verdict leaf why → ⊥
+abbrev pub BreaksRule : Node → Verdict → TreeLeaf → Why → Type 0
+BreaksRule node verdict leaf (BelowCost bound cost) = ShowsCosts leaf × CostsBelow node verdict leaf bound cost
+BreaksRule node verdict leaf why = KeepsListRule node verdict leaf why → ⊥
 
 -- the rules that a leaf may break whatever it costs, in the order in which they are asked
 abbrev pub rule_at : ℕ → Why
@@ -216,13 +216,13 @@ rule_at (suc (suc (suc (suc (suc (suc (suc (suc (suc (suc (suc zero))))))))))) =
 rule_at (suc (suc (suc (suc (suc (suc (suc (suc (suc (suc (suc (suc place)))))))))))) = NoVerdict
 
 -- it keeps all of them
-abbrev pub KeepsRules : Node → Verdict → TreeLeaf → Type 0
-KeepsRules node verdict leaf = (why : Why) → Keeps node verdict leaf why
+abbrev pub KeepsAllRules : Node → Verdict → TreeLeaf → Type 0
+KeepsAllRules node verdict leaf = (why : Why) → KeepsListRule node verdict leaf why
 
 -- the first of them that it breaks
 pub record IsFirstRule (node : Node) (verdict : Verdict) (leaf : TreeLeaf) (why : Why) : Type 0 where
-  pub broken : Breaks node verdict leaf why
-  pub first : (other : Why) → rank other < rank why → Breaks node verdict leaf other → ⊥
+  pub broken : BreaksRule node verdict leaf why
+  pub first : (other : Why) → rank_of_why other < rank_of_why why → BreaksRule node verdict leaf other → ⊥
 
 abbrev pub AreNamed : Problem → Choice → Type 0
 AreNamed problem (Route o) = IsNamed problem o
@@ -238,19 +238,19 @@ BreaksBranch node choice children why = ⊥
 -- a node of a tree breaks a rule in its place
 abbrev pub BreaksNode : Node → Verdict → TreeNode → Why → Type 0
 BreaksNode node verdict (Branch choice children) why = BreaksBranch node choice children why
-BreaksNode node verdict (Leaf leaf) why = (HasNoRoute node → ⊥) × Breaks node verdict leaf why
+BreaksNode node verdict (Leaf leaf) why = (HasNoRoute node → ⊥) × BreaksRule node verdict leaf why
 
 -- the first rule that a node of a tree breaks
-pub record IsFirstBroken (node : Node) (verdict : Verdict) (top : TreeNode) (why : Why) : Type 0 where
+pub record IsFirstBrokenWhy (node : Node) (verdict : Verdict) (top : TreeNode) (why : Why) : Type 0 where
   pub broken : BreaksNode node verdict top why
-  pub first : (other : Why) → rank other < rank why → BreaksNode node verdict top other → ⊥
+  pub first : (other : Why) → rank_of_why other < rank_of_why why → BreaksNode node verdict top other → ⊥
 
 -- a node of a tree holds in its place
-abbrev pub Holds : Node → Verdict → TreeNode → Type 0
-Holds node verdict (Branch choice children) = IsChoice node.problem choice × (children ≡ length (children_of node.problem choice))
-Holds node verdict (Leaf leaf) = LeafHolds node verdict leaf
+abbrev pub TreeNodeHolds : Node → Verdict → TreeNode → Type 0
+TreeNodeHolds node verdict (Branch choice children) = IsChoice node.problem choice × (children ≡ length (children_of node.problem choice))
+TreeNodeHolds node verdict (Leaf leaf) = LeafHolds node verdict leaf
 
 -- a node of a tree does not hold, and this is the first rule that it breaks
 pub record IsRefusedFor (node : Node) (verdict : Verdict) (top : TreeNode) (why : Why) : Type 0 where
-  pub not : Holds node verdict top → ⊥
-  pub is_first : IsFirstBroken node verdict top why
+  pub not : TreeNodeHolds node verdict top → ⊥
+  pub is_first : IsFirstBrokenWhy node verdict top why

@@ -12,7 +12,7 @@ use Rattle.disp_model.specs.Node.{Node}
 use Rattle.disp_model.specs.Walks.{lower_of, IsWalk, EndsIn}
 use Rattle.disp_model.specs.Shares.{Arrival, AreWalksOn, greatest_to, IsShareOver, ShowsShare}
 use Rattle.node_facts.specs.declared.demands.Demand.{Demand}
-use Rattle.node_facts.specs.Ways.{MayGo, IsWay, sum_at, IsLeast, GoesOnward}
+use Rattle.node_facts.specs.Ways.{MayGo, IsWay, sum_at, IsLeastSuch, GoesOnward}
 use Rattle.node_facts.specs.Costs.{capped}
 use Rattle.tree_checker.specs.declared.landings.Landing.{Landing}
 
@@ -25,7 +25,7 @@ Comes train places demands base p time (s ∷ rest) o n =
     IsSuccessor train p s × MayGo places demands p (Some s) × Comes train places demands base s (max time (base p) + duration_of train p) rest o n
 
 -- steps from an operation that is left at a time enter those that come next
-pub record Enters (places : List ℕ) (demands : List Demand) (o : ℕ) (nexts : List ℕ) (time : ℕ) (old new : List (Option ℕ)) : Type 0 where
+pub record EntersNexts (places : List ℕ) (demands : List Demand) (o : ℕ) (nexts : List ℕ) (time : ℕ) (old new : List (Option ℕ)) : Type 0 where
   pub long : length new ≡ length old
   -- nothing is entered later than before
   pub sooner : (s x : ℕ) → sum_at old s ≡ Some x → (y : ℕ) × (sum_at new s ≡ Some y) × (y ≤ x)
@@ -35,9 +35,9 @@ pub record Enters (places : List ℕ) (demands : List Demand) (o : ℕ) (nexts :
   pub only : (s y : ℕ) → sum_at new s ≡ Some y → (sum_at old s ≡ Some y) ⊎ (Contains nexts s × MayGo places demands o (Some s) × (y ≡ time))
 
 -- an operation is left, if it was entered
-abbrev pub Leaves : List Operation → List ℕ → List Demand → List ℕ → ℕ → List (Option ℕ) → List (Option ℕ) → Type 0
-Leaves train places demands bases o old new =
-    MatchOption (sum_at old o) (new ≡ old) (λ x. Enters places demands o (next_of train o) (max x (slice_index bases o) + duration_of train o) old new)
+abbrev pub LeavesCosts : List Operation → List ℕ → List Demand → List ℕ → ℕ → List (Option ℕ) → List (Option ℕ) → Type 0
+LeavesCosts train places demands bases o old new =
+    MatchOption (sum_at old o) (new ≡ old) (λ x. EntersNexts places demands o (next_of train o) (max x (slice_index bases o) + duration_of train o) old new)
 
 -- of each operation the least time at which a way from the entry enters it
 pub record AreEntered (train : List Operation) (places : List ℕ) (demands : List Demand) (base : ℕ → ℕ) (e : ℕ) (entered : List (Option ℕ)) : Type 0 where
@@ -76,7 +76,7 @@ abbrev pub IsCostBy : Operation → List ℕ → List Demand → List (Option �
 IsCostBy operation places demands costs o price None = (operation.next ≡ [] → MayGo places demands o None → ⊥) × ((n : ℕ) → GoesOnward places demands costs o operation.next n → ⊥)
 IsCostBy operation places demands costs o price (Some cost) =
     ((operation.next ≡ []) × MayGo places demands o None × (cost ≡ price))
-    ⊎ ((behind : ℕ) × (operation.next ≢ []) × IsLeast (GoesOnward places demands costs o operation.next) behind × (cost ≡ capped (price + behind)))
+    ⊎ ((behind : ℕ) × (operation.next ≢ []) × IsLeastSuch (GoesOnward places demands costs o operation.next) behind × (cost ≡ capped (price + behind)))
 
 -- of each operation what a way from it on costs at least, as far as 128 bits hold it
 pub record AreCosts (train : List Operation) (places : List ℕ) (demands : List Demand) (price : ℕ → ℕ) (costs : List (Option ℕ)) : Type 0 where

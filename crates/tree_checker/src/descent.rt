@@ -1,8 +1,9 @@
 ghost use Rattle.std.specs.Prelude.{◌≡◌, ◌++◌, All, IfOk, OnOk, drop, length};
 ghost use Rattle.disp_model.specs.Node.{node_at};
 ghost use Rattle.node_facts.specs.Orders.{AreKnown};
-ghost use Rattle.tree_checker.specs.Places.{decisions_of, last_decision};
-ghost use Rattle.tree_checker.specs.Descents.{train_about, Notes, Covers, RenewsOne, AreRenewed};
+ghost use Rattle.tree_checker.specs.Places.{decisions_at, last_decision};
+ghost use Rattle.tree_checker.specs.Descents.{Notes, Covers, RenewsOne, AreRenewed};
+ghost use Rattle.decision_paths.specs.Kept.{train_about};
 
 use crate::places::{Place, go_to};
 use decision_paths::DecisionPath;
@@ -110,7 +111,7 @@ pub(crate) fn descend(
     place: Place,
 ) -> Result<(), Memory>
     requires { AreKnown (node_at problem.now fixings.now path.old) trains.old.items }
-    ensures path { OnOk result (path.new ≡ decisions_of path.old place) }
+    ensures path { OnOk result (path.new ≡ decisions_at path.old place) }
     ensures known { OnOk result
         (AreKnown (node_at problem.now fixings.now path.new) trains.new.items) }
 {

@@ -3,7 +3,7 @@ ghost use Rattle.disp_model.specs.declared.fixing.Fixing.{Fixing};
 ghost use Rattle.disp_model.specs.Node.{node_at};
 ghost use Rattle.disp_model.specs.Shares.{AreOfOthers};
 ghost use Rattle.node_facts.specs.Orders.{AreKnown};
-ghost use Rattle.tree_checker.specs.Rules.{EndsRight, EndsOn, EndOnTrain, IsOfOther, IsJoinedBack, IsClosed, IsLateIfSaid};
+ghost use Rattle.tree_checker.specs.Rules.{EndsRight, EndsOn, EndOnTrain, IsOfOtherTrain, IsJoinedBack, IsLeafClosed, IsLateIfSaid};
 
 use crate::distinct::is_other;
 use decision_paths::DecisionPath;
@@ -58,7 +58,7 @@ pub(crate) fn end_on_train(trains: &[TrainWalks]) -> bool
 
 /// Whether the component of a walk, where it is there, is of no listed train.
 fn is_of_other(problem: &Problem, listed: &ComponentWalk, trains: &[TrainWalks]) -> bool
-    ensures { IsTrue result ↔ IsOfOther problem.now trains.now listed.now }
+    ensures { IsTrue result ↔ IsOfOtherTrain problem.now trains.now listed.now }
 {
     match problem.components.as_slice().get(listed.component as usize) {
         Some(component) => is_other(trains, component.train),
@@ -68,7 +68,7 @@ fn is_of_other(problem: &Problem, listed: &ComponentWalk, trains: &[TrainWalks])
 
 /// Whether the component of each walk is of no listed train.
 fn each_of_other(problem: &Problem, walks: &[ComponentWalk], trains: &[TrainWalks]) -> bool
-    ensures { IsTrue result ↔ All (IsOfOther problem.now trains.now) walks.now }
+    ensures { IsTrue result ↔ All (IsOfOtherTrain problem.now trains.now) walks.now }
 {
     walks
         .iter()
@@ -119,7 +119,7 @@ pub(crate) fn is_closed(
         × AreKnown (node_at problem.now fixings decisions.now) trains.now }
     ensures { (fixings : List Fixing)
         → AreKnown (node_at problem.now fixings decisions.now) trains.now
-        → IsTrue result ↔ IsClosed (node_at problem.now fixings decisions.now) leaf.now }
+        → IsTrue result ↔ IsLeafClosed (node_at problem.now fixings decisions.now) leaf.now }
 {
     match leaf {
         Leaf::NoRoute => true,

@@ -3,7 +3,7 @@ ghost use Rattle.disp_model.specs.Train.{IsSuccessor, duration_of};
 ghost use Rattle.train_orders.specs.Orders.{IsInside, IsOrder};
 ghost use Rattle.node_facts.specs.Ways.{lesser, sum_at};
 ghost use Rattle.route_marks.specs.Marks.{ArePlaces};
-ghost use Rattle.tree_checker.specs.TrainCosts.{Enters, Leaves, AreEntered, base_by, reach_by};
+ghost use Rattle.tree_checker.specs.TrainCosts.{EntersNexts, LeavesCosts, AreEntered, base_by, reach_by};
 
 use disp_model::{Memory, Operation};
 use node_facts::{TrainKnowledge, min_of, nexts_of};
@@ -39,7 +39,7 @@ pub(crate) fn lesser(number: Option<u128>, other: Option<u128>) -> Option<u128>
     }
 }
 
-/// Enters an operation at a time, unless it was entered no later.
+/// EntersNexts an operation at a time, unless it was entered no later.
 fn enter(entered: &mut Vec<Option<u128>>, op: u32, time: u128)
     requires { op < length entered.old.items }
     ensures { entered.new.items
@@ -50,10 +50,10 @@ fn enter(entered: &mut Vec<Option<u128>>, op: u32, time: u128)
     entered[at] = sooner;
 }
 
-/// Enters an operation at a time, if a route may go on to it from another.
+/// EntersNexts an operation at a time, if a route may go on to it from another.
 fn step_to(entered: &mut Vec<Option<u128>>, known: &TrainKnowledge, op: u32, next: u32, time: u128)
     requires { next < length entered.old.items }
-    ensures { Enters known.now.places.items known.now.demands.items op (next ∷ []) time
+    ensures { EntersNexts known.now.places.items known.now.demands.items op (next ∷ []) time
         entered.old.items entered.new.items }
 {
     if known.may_go(op, Some(next)) {
@@ -61,7 +61,7 @@ fn step_to(entered: &mut Vec<Option<u128>>, known: &TrainKnowledge, op: u32, nex
     }
 }
 
-/// Enters at a time those operations to which a route may go on from another.
+/// EntersNexts at a time those operations to which a route may go on from another.
 fn go_on(
     entered: &mut Vec<Option<u128>>,
     known: &TrainKnowledge,
@@ -70,7 +70,7 @@ fn go_on(
     time: u128,
 )
     requires { All (λ s. s < length entered.old.items) nexts.now }
-    ensures { Enters known.now.places.items known.now.demands.items op nexts.now time
+    ensures { EntersNexts known.now.places.items known.now.demands.items op nexts.now time
         entered.old.items entered.new.items }
 {
     for next in nexts {
@@ -86,7 +86,7 @@ fn left_at(time: u128, base: u128, min: u32) -> u128
     time.max(base) + u128::from(min)
 }
 
-/// Leaves an operation, if it was entered, for those to which a route may go on from it.
+/// LeavesCosts an operation, if it was entered, for those to which a route may go on from it.
 fn leave(
     entered: &mut Vec<Option<u128>>,
     operations: &[Operation],
@@ -99,7 +99,7 @@ fn leave(
     requires entered { (o x : ℕ) → sum_at entered.old.items o ≡ Some x
         → x ≤ 2 ^ 127 + 2 ^ 65 }
     requires bases { (o : ℕ) → slice_index bases.now o ≤ 2 ^ 127 }
-    ensures leaves { Leaves operations.now known.now.places.items known.now.demands.items
+    ensures leaves { LeavesCosts operations.now known.now.places.items known.now.demands.items
         bases.now op
         entered.old.items entered.new.items }
     ensures small { duration_of operations.now op < 2 ^ 32 }

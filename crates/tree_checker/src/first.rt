@@ -1,7 +1,7 @@
 ghost use Rattle.std.specs.Prelude.{MatchOption};
 ghost use Rattle.disp_model.specs.Node.{node_at};
 ghost use Rattle.node_facts.specs.Orders.{AreKnown};
-ghost use Rattle.tree_checker.specs.Rules.{KeepsRules, IsFirstRule};
+ghost use Rattle.tree_checker.specs.Rules.{KeepsAllRules, IsFirstRule};
 
 use crate::rules::{keeps, rule_at};
 use crate::why::Why;
@@ -20,7 +20,7 @@ pub(crate) fn first_rule(
 ) -> Option<Why>
     requires { AreKnown (node_at problem.now fixings.now decisions.now) trains.now }
     ensures { MatchOption result
-        (KeepsRules (node_at problem.now fixings.now decisions.now) verdict leaf.now)
+        (KeepsAllRules (node_at problem.now fixings.now decisions.now) verdict leaf.now)
         (IsFirstRule (node_at problem.now fixings.now decisions.now) verdict leaf.now) }
 {
     for place in 0..13 {

@@ -9,7 +9,7 @@ ghost use Rattle.disp_model.specs.Routes.{HasNoRoute};
 ghost use Rattle.disp_model.specs.Trees.{LeafHolds, Shows};
 ghost use Rattle.node_facts.specs.Orders.{AreKnown};
 ghost use Rattle.tree_checker.specs.Components.{AreOwnOf};
-ghost use Rattle.tree_checker.specs.Rules.{KeepsRules, IsFirstRule, Holds, IsRefusedFor};
+ghost use Rattle.tree_checker.specs.Rules.{KeepsAllRules, IsFirstRule, TreeNodeHolds, IsRefusedFor};
 
 use crate::bound::bound_of;
 use crate::branch::is_branch;
@@ -66,7 +66,7 @@ fn below_cost(
     requires routes { HasNoRoute (node_at problem.now fixings.now decisions.now) → ⊥ }
     requires not_shown { Shows (node_at problem.now fixings.now decisions.now) (Optimal cost)
         leaf.now → ⊥ }
-    requires keeps { KeepsRules (node_at problem.now fixings.now decisions.now) (Optimal cost)
+    requires keeps { KeepsAllRules (node_at problem.now fixings.now decisions.now) (Optimal cost)
         leaf.now }
     ensures { IfOk result
         (IsFirstRule (node_at problem.now fixings.now decisions.now) (Optimal cost) leaf.now) }
@@ -97,7 +97,7 @@ fn below_verdict(
     requires routes { HasNoRoute (node_at problem.now fixings.now decisions.now) → ⊥ }
     requires not_shown { Shows (node_at problem.now fixings.now decisions.now) verdict leaf.now
         → ⊥ }
-    requires keeps { KeepsRules (node_at problem.now fixings.now decisions.now) verdict leaf.now }
+    requires keeps { KeepsAllRules (node_at problem.now fixings.now decisions.now) verdict leaf.now }
     ensures { IfOk result
         (IsFirstRule (node_at problem.now fixings.now decisions.now) verdict leaf.now) }
 {
@@ -172,7 +172,7 @@ fn judge_leaf(
 fn judge_branch(problem: &Problem, choice: Choice, children: u32) -> Option<Why>
     ensures { (fixings : List Fixing) (decisions : List Decision) (verdict : Verdict)
         → MatchOption result
-        (Holds (node_at problem.now fixings decisions) verdict (Branch choice children))
+        (TreeNodeHolds (node_at problem.now fixings decisions) verdict (Branch choice children))
         (IsRefusedFor (node_at problem.now fixings decisions) verdict (Branch choice children)) }
 {
     if is_branch(problem, choice, children) {
@@ -198,7 +198,7 @@ pub(crate) fn judge(
     requires known { AreKnown (node_at problem.now fixings.now decisions.now) trains.now }
     requires own { AreOwnOf problem.now own.now }
     ensures { IfOk result (λ found. MatchOption found
-        (Holds (node_at problem.now fixings.now decisions.now) verdict top.now)
+        (TreeNodeHolds (node_at problem.now fixings.now decisions.now) verdict top.now)
         (IsRefusedFor (node_at problem.now fixings.now decisions.now) verdict top.now)) }
 {
     match top {

@@ -3,7 +3,7 @@ ghost use Rattle.disp_model.specs.declared.fixing.Fixing.{Fixing};
 ghost use Rattle.disp_model.specs.Node.{Node, node_at};
 ghost use Rattle.disp_model.specs.Routes.{IsForced};
 ghost use Rattle.node_facts.specs.Orders.{AreKnown};
-ghost use Rattle.tree_checker.specs.Rules.{IsNamed, HasArcs, IsRight};
+ghost use Rattle.tree_checker.specs.Rules.{IsNamed, HasArcs, IsListRight};
 
 use decision_paths::DecisionPath;
 use disp_model::{Op, Problem};
@@ -85,7 +85,7 @@ pub(crate) fn is_right(
         × AreKnown (node_at problem.now fixings decisions.now) trains.now }
     ensures { (fixings : List Fixing)
         → AreKnown (node_at problem.now fixings decisions.now) trains.now
-        → IsTrue result ↔ IsRight (node_at problem.now fixings decisions.now) rule walk.now }
+        → IsTrue result ↔ IsListRight (node_at problem.now fixings decisions.now) rule walk.now }
 {
     match rule {
         ListRule::Named => are_named(problem, walk),

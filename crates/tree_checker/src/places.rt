@@ -1,5 +1,5 @@
 ghost use Rattle.std.specs.Prelude.{◌≡◌, ◌++◌, ◌≤◌, OnOk, reverse, length};
-ghost use Rattle.tree_checker.specs.Places.{decisions_of, places_at};
+ghost use Rattle.tree_checker.specs.Places.{decisions_at, places_at};
 
 use decision_paths::DecisionPath;
 use disp_model::{Decision, Memory};
@@ -15,7 +15,7 @@ pub(crate) struct Place {
 
 /// Goes on to a place: the decisions become those that lead to it.
 pub(crate) fn go_to(path: &mut DecisionPath, place: Place) -> Result<(), Memory>
-    ensures { OnOk result (path.new ≡ decisions_of path.old place) }
+    ensures { OnOk result (path.new ≡ decisions_at path.old place) }
 {
     path.truncate(place.depth);
     if let Some(decision) = place.decision {

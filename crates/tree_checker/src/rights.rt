@@ -2,7 +2,7 @@ ghost use Rattle.std.specs.Prelude.{◌↔◌, List, IsTrue, All};
 ghost use Rattle.disp_model.specs.declared.fixing.Fixing.{Fixing};
 ghost use Rattle.disp_model.specs.Node.{node_at};
 ghost use Rattle.node_facts.specs.Orders.{AreKnown};
-ghost use Rattle.tree_checker.specs.Rules.{own_lists, IsRight, AreRight};
+ghost use Rattle.tree_checker.specs.Rules.{own_lists, IsListRight, AreRight};
 
 use crate::leaf::{component_walks, listed_trains};
 use crate::lists::{ListRule, is_right};
@@ -22,7 +22,7 @@ fn own_is_right(
         × AreKnown (node_at problem.now fixings decisions.now) trains.now }
     ensures { (fixings : List Fixing)
         → AreKnown (node_at problem.now fixings decisions.now) trains.now
-        → IsTrue result ↔ All (IsRight (node_at problem.now fixings decisions.now) rule)
+        → IsTrue result ↔ All (IsListRight (node_at problem.now fixings decisions.now) rule)
         (own_lists leaf.now) }
 {
     match leaf {
@@ -46,7 +46,7 @@ fn components_are_right(
         × AreKnown (node_at problem.now fixings decisions.now) trains.now }
     ensures { (fixings : List Fixing)
         → AreKnown (node_at problem.now fixings decisions.now) trains.now → IsTrue result
-        ↔ All (λ w. IsRight (node_at problem.now fixings decisions.now) rule w.walk) walks.now }
+        ↔ All (λ w. IsListRight (node_at problem.now fixings decisions.now) rule w.walk) walks.now }
 {
     for listed in walks {
         if !is_right(problem, trains, decisions, rule, listed.walk.as_slice()) {
@@ -68,7 +68,7 @@ fn lists_are_right(
         × AreKnown (node_at problem.now fixings decisions.now) trains.now }
     ensures { (fixings : List Fixing)
         → AreKnown (node_at problem.now fixings decisions.now) trains.now → IsTrue result
-        ↔ All (IsRight (node_at problem.now fixings decisions.now) rule) walks.now }
+        ↔ All (IsListRight (node_at problem.now fixings decisions.now) rule) walks.now }
 {
     for walk in walks {
         if !is_right(problem, trains, decisions, rule, walk.as_slice()) {
@@ -90,7 +90,7 @@ fn trains_are_right(
         × AreKnown (node_at problem.now fixings decisions.now) trains.now }
     ensures { (fixings : List Fixing)
         → AreKnown (node_at problem.now fixings decisions.now) trains.now → IsTrue result
-        ↔ All (λ listed. All (IsRight (node_at problem.now fixings decisions.now) rule)
+        ↔ All (λ listed. All (IsListRight (node_at problem.now fixings decisions.now) rule)
         listed.walks)
         shown.now }
 {

@@ -4,7 +4,7 @@ ghost use Rattle.disp_model.specs.Node.{node_at};
 ghost use Rattle.disp_model.specs.Shares.{AreOfOthers};
 ghost use Rattle.node_facts.specs.Orders.{AreKnown};
 ghost use Rattle.tree_checker.specs.declared.lists.ListRule.TheVariants.{Joined};
-ghost use Rattle.tree_checker.specs.Rules.{rule_at, AreRight, IsClosed, EndOnTrain, Keeps};
+ghost use Rattle.tree_checker.specs.Rules.{rule_at, AreRight, IsLeafClosed, EndOnTrain, KeepsListRule};
 
 use crate::distinct::{have_distinct, have_distinct_trains};
 use crate::ends::{are_of_others, end_on_train, end_right, is_closed, is_late_if_said};
@@ -50,7 +50,7 @@ fn has_arcs(
     ensures { (fixings : List Fixing)
         → AreKnown (node_at problem.now fixings decisions.now) trains.now → IsTrue result
         ↔ (AreRight (node_at problem.now fixings decisions.now) Joined leaf.now
-        × IsClosed (node_at problem.now fixings decisions.now) leaf.now) }
+        × IsLeafClosed (node_at problem.now fixings decisions.now) leaf.now) }
 {
     are_right(problem, trains, decisions, ListRule::Joined, leaf)
         && is_closed(problem, trains, decisions, leaf)
@@ -77,7 +77,7 @@ pub(crate) fn keeps(
 ) -> bool
     requires { AreKnown (node_at problem.now fixings.now decisions.now) trains.now }
     ensures { IsTrue result
-        ↔ Keeps (node_at problem.now fixings.now decisions.now) verdict leaf.now rule }
+        ↔ KeepsListRule (node_at problem.now fixings.now decisions.now) verdict leaf.now rule }
 {
     let walks = component_walks(leaf);
     let listed = listed_trains(leaf);

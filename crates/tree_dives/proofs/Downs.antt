@@ -9,7 +9,7 @@ use Rattle.disp_model.specs.declared.tree.TreeNode.TheVariants.{Branch, Leaf}
 use Rattle.disp_model.specs.Node.{Node, with_decision}
 use Rattle.disp_model.specs.Trees.{children_of}
 use Rattle.disp_model.specs.declared.settings.Rule.{Rule}
-use Rattle.tree_growth.specs.Grown.{Grows, KeepsBound, branches}
+use Rattle.tree_growth.specs.Grown.{GrowsBelow, KeepsBound, branches}
 use Rattle.tree_dives.specs.Halves.{Sides}
 use Rattle.tree_dives.specs.Downs.{GoesDown}
 use Rattle.tree_dives.proofs.Growing.{side_by_side, leaf_alone, leaves_at_all, goes_to_child, branches_append, branches_leaf, branches_back}
@@ -19,13 +19,13 @@ module _ (rule : Rule) (choice : Choice) (here below : Node) (old : Sides) (k : 
   one_more left none = omega (arith, branches_append (old.before ++ Branch choice k ∷ []) left, branches_append old.before (Branch choice k ∷ []), none)
 
   -- all children are leaves
-  pub all_leaves : (left : List TreeNode) (left_bounds : List ℕ) → ((best : Option ℕ) → Grows rule best (map (with_decision here) (children_of here.problem choice)) left left_bounds) → branches left ≡ 0
+  pub all_leaves : (left : List TreeNode) (left_bounds : List ℕ) → ((best : Option ℕ) → GrowsBelow rule best (map (with_decision here) (children_of here.problem choice)) left left_bounds) → branches left ≡ 0
       → GoesDown rule choice here old below (record { before = (old.before ++ Branch choice k ∷ []) ++ left; before_bounds = old.before_bounds ++ left_bounds; behind = old.behind; behind_bounds = old.behind_bounds }) false
   all_leaves left left_bounds grows none = ((λ best root helps complete. leaves_at_all rule best root here old choice k helps count complete left left_bounds (grows best)), omega (arith, one_more left none))
 
   -- one child is followed
   pub one_followed : (first last : List Decision) (decision : Decision) (left right : List TreeNode) (left_bounds right_bounds : List ℕ) → below ≡ with_decision here decision → children_of here.problem choice ≡ first ++ decision ∷ last
-      → ((best : Option ℕ) → Grows rule best (map (with_decision here) first) left left_bounds) → ((best : Option ℕ) → Grows rule best (map (with_decision here) last) right right_bounds) → branches left ≡ 0 → branches right ≡ 0
+      → ((best : Option ℕ) → GrowsBelow rule best (map (with_decision here) first) left left_bounds) → ((best : Option ℕ) → GrowsBelow rule best (map (with_decision here) last) right right_bounds) → branches left ≡ 0 → branches right ≡ 0
       → GoesDown rule choice here old below (record { before = (old.before ++ Branch choice k ∷ []) ++ left; before_bounds = old.before_bounds ++ left_bounds; behind = old.behind ++ reverse right; behind_bounds = old.behind_bounds ++ reverse right_bounds }) true
   one_followed first last decision left right left_bounds right_bounds is parts one other none none_right = (
     (λ best root helps complete. rw is (goes_to_child rule best root here old choice k helps count complete first last decision left right left_bounds right_bounds parts (one best) (other best))),
@@ -34,7 +34,7 @@ module _ (rule : Rule) (choice : Choice) (here below : Node) (old : Sides) (k : 
 
   -- no child is followed: the one that would be is refused, and is a leaf too
   pub none_followed : (first last : List Decision) (decision : Decision) (left right : List TreeNode) (leaf : TreeLeaf) (bound : ℕ) (left_bounds right_bounds : List ℕ) → children_of here.problem choice ≡ first ++ decision ∷ last
-      → ((best : Option ℕ) → Grows rule best (map (with_decision here) first) left left_bounds) → KeepsBound rule (with_decision here decision) leaf bound → ((best : Option ℕ) → Grows rule best (map (with_decision here) last) right right_bounds) → branches left ≡ 0 → branches right ≡ 0
+      → ((best : Option ℕ) → GrowsBelow rule best (map (with_decision here) first) left left_bounds) → KeepsBound rule (with_decision here decision) leaf bound → ((best : Option ℕ) → GrowsBelow rule best (map (with_decision here) last) right right_bounds) → branches left ≡ 0 → branches right ≡ 0
       → GoesDown rule choice here old below (record { before = (((old.before ++ Branch choice k ∷ []) ++ left) ++ Leaf leaf ∷ []) ++ right; before_bounds = ((old.before_bounds ++ left_bounds) ++ bound ∷ []) ++ right_bounds; behind = old.behind; behind_bounds = old.behind_bounds }) false
   none_followed first last decision left right leaf bound left_bounds right_bounds parts one keeps other none none_right =
       subst (λ (b : List ℕ). GoesDown rule choice here old below (record { before = (((old.before ++ Branch choice k ∷ []) ++ left) ++ Leaf leaf ∷ []) ++ right; before_bounds = b; behind = old.behind; behind_bounds = old.behind_bounds }) false) (grouped old.before_bounds left_bounds (bound ∷ []) right_bounds)
@@ -44,9 +44,9 @@ module _ (rule : Rule) (choice : Choice) (here below : Node) (old : Sides) (k : 
       grouped : {X : Type 0} → (a b x c : List X) → a ++ ((b ++ x) ++ c) ≡ ((a ++ b) ++ x) ++ c
       grouped a b x c = sym (append_assoc a (b ++ x) c) ∙ ap (λ l. l ++ c) (sym (append_assoc a b x))
 
-      grows : (best : Option ℕ) → Grows rule best (map (with_decision here) (children_of here.problem choice)) ((left ++ Leaf leaf ∷ []) ++ right) ((left_bounds ++ bound ∷ []) ++ right_bounds)
+      grows : (best : Option ℕ) → GrowsBelow rule best (map (with_decision here) (children_of here.problem choice)) ((left ++ Leaf leaf ∷ []) ++ right) ((left_bounds ++ bound ∷ []) ++ right_bounds)
       grows best =
-          subst (λ (l : List Node). Grows rule best l ((left ++ Leaf leaf ∷ []) ++ right) ((left_bounds ++ bound ∷ []) ++ right_bounds))
+          subst (λ (l : List Node). GrowsBelow rule best l ((left ++ Leaf leaf ∷ []) ++ right) ((left_bounds ++ bound ∷ []) ++ right_bounds))
           (append_assoc (map (with_decision here) first) (with_decision here decision ∷ []) (map (with_decision here) last) ∙ sym (ap (map (with_decision here)) parts ∙ map-append (with_decision here) first (decision ∷ last)))
           (side_by_side rule best (map (with_decision here) first ++ with_decision here decision ∷ []) (map (with_decision here) last) (left ++ Leaf leaf ∷ []) right (left_bounds ++ bound ∷ []) right_bounds
           (side_by_side rule best (map (with_decision here) first) (with_decision here decision ∷ []) left (Leaf leaf ∷ []) left_bounds (bound ∷ []) (one best) (leaf_alone rule best (with_decision here decision) leaf bound keeps)) (other best))

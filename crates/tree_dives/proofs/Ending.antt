@@ -17,14 +17,14 @@ use Rattle.disp_laws.proofs.EarliestPlans.{one_earliest}
 use Rattle.node_leaves.specs.declared.leaf.NodeLeaf.{NodeLeaf}
 use Rattle.node_leaves.specs.declared.leaf.NodeLeaf.TheVariants as shows
 use Rattle.node_leaves.specs.Shown.{IsLeafOf}
-use Rattle.open_nodes.specs.States.{IsBelow}
-use Rattle.tree_growth.specs.Grown.{Grows, Helps, branches}
-use Rattle.tree_dives.specs.Leaves.{leaf_in, bound_in}
+use Rattle.open_nodes.specs.States.{IsBoundBelow}
+use Rattle.tree_growth.specs.Grown.{GrowsBelow, Helps, branches}
+use Rattle.tree_dives.specs.Leaves.{leaf_held, bound_in}
 use Rattle.tree_dives.specs.Stages.{IsClosedAt, HasPlan, EndsThere}
-use Rattle.tree_dives.specs.Halves.{Sides, Completes, IsComplete, IsBelowNode}
+use Rattle.tree_dives.specs.Halves.{Sides, Completes, AreSidesComplete, IsBelowNode}
 use Rattle.tree_dives.specs.Downs.{branches_in}
 use Rattle.tree_dives.specs.Dives.{IsDive, IsEndOf, EndsInPlan, StaysOpen}
-use Rattle.tree_dives.specs.Wholes.{IsWhole, with_leaf}
+use Rattle.tree_dives.specs.Wholes.{IsDiveWhole, with_leaf}
 use Rattle.tree_dives.specs.declared.given.Dive.{Dive}
 use Rattle.tree_dives.specs.declared.stage.End.{End}
 use Rattle.tree_dives.specs.declared.stage.End.TheVariants.{Closed, Plan, Open}
@@ -45,7 +45,7 @@ shown_bound rule node (shows.Open leaf other) bound alive is shown = bound_same 
 
 module _ (rule : Rule) (best : Option ℕ) (root : Node) (allowance : ℕ) where
   -- no place is left
-  pub whole_dive : (sides : Sides) (dive : Dive) (count : ℕ) → IsComplete rule best root sides → IsWhole sides Closed dive → branches_in sides ≡ suc count → suc count ≤ allowance → IsDive rule root best allowance dive
+  pub whole_dive : (sides : Sides) (dive : Dive) (count : ℕ) → AreSidesComplete rule best root sides → IsDiveWhole sides Closed dive → branches_in sides ≡ suc count → suc count ≤ allowance → IsDive rule root best allowance dive
   whole_dive sides dive count complete whole counted few = record {
     grows = rw (whole.nodes, whole.bounds) complete;
     few = omega (arith, all, few);
@@ -55,13 +55,13 @@ module _ (rule : Rule) (best : Option ℕ) (root : Node) (allowance : ℕ) where
       all : branches dive.nodes ≡ suc count
       all = ap branches whole.nodes ∙ whole_count sides ∙ counted
 
-  module _ (here : Node) (sides : Sides) (complete : Completes rule best root here sides) (below : IsBelowNode root here) (shown : NodeLeaf) (is : IsLeafOf rule here shown) (end : End) (dive : Dive) (whole : IsWhole (with_leaf sides shown) end dive) where
+  module _ (here : Node) (sides : Sides) (complete : Completes rule best root here sides) (below : IsBelowNode root here) (shown : NodeLeaf) (is : IsLeafOf rule here shown) (end : End) (dive : Dive) (whole : IsDiveWhole (with_leaf sides shown) end dive) where
     leaf_count : branches dive.nodes ≡ branches_in sides
-    leaf_count = ap branches whole.nodes ∙ whole_count (with_leaf sides shown) ∙ ap (λ n. n + branches sides.behind) (branches_leaf sides.before (leaf_in shown))
+    leaf_count = ap branches whole.nodes ∙ whole_count (with_leaf sides shown) ∙ ap (λ n. n + branches sides.behind) (branches_leaf sides.before (leaf_held shown))
 
-    leaf_grows : Grows rule best (root ∷ []) dive.nodes dive.bounds
+    leaf_grows : GrowsBelow rule best (root ∷ []) dive.nodes dive.bounds
     leaf_grows = rw (whole.nodes, whole.bounds)
-        (complete (Leaf (leaf_in shown) ∷ []) (bound_in shown ∷ []) (leaf_alone rule best here (leaf_in shown) (bound_in shown) (keeps rule here shown is)))
+        (complete (Leaf (leaf_held shown) ∷ []) (bound_in shown ∷ []) (leaf_alone rule best here (leaf_held shown) (bound_in shown) (keeps rule here shown is)))
 
     -- the last place is a leaf
     pub ended_dive : branches_in sides ≤ allowance → IsEndOf rule root best allowance dive.nodes dive.bounds end → IsDive rule root best allowance dive
@@ -73,7 +73,7 @@ module _ (rule : Rule) (best : Option ℕ) (root : Node) (allowance : ℕ) where
       valid = subst (λ (p : Problem). IsValid p root.fixings plan) below.problem (subst (λ f. IsValid here.problem f plan) below.fixings valid_here);
       costs = rw whole.bounds (subst (Contains ((sides.before_bounds ++ bound_in shown ∷ []) ++ reverse sides.behind_bounds)) (shown_bound rule here shown has.bound has.alive has.bound_is is ∙ sym cost)
           (Contains-append_left (sides.before_bounds ++ bound_in shown ∷ []) (reverse sides.behind_bounds) (bound_in shown) (Contains-push sides.before_bounds (bound_in shown))));
-      better = subst (λ n. IsBelow n best) (sym cost) has.below;
+      better = subst (λ n. IsBoundBelow n best) (sym cost) has.below;
       here = here;
       below = below;
       alive = has.alive;

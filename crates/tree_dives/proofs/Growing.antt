@@ -13,14 +13,14 @@ use Rattle.disp_model.specs.Trees.{children_of}
 use Rattle.node_leaves.specs.declared.leaf.NodeLeaf.{NodeLeaf}
 use Rattle.node_leaves.specs.declared.leaf.NodeLeaf.TheVariants.{Dead, Open}
 use Rattle.node_leaves.specs.Shown.{ListsBy, IsLeafOf}
-use Rattle.tree_dives.specs.Halves.{Sides, Completes, IsComplete, IsBelowNode}
+use Rattle.tree_dives.specs.Halves.{Sides, Completes, AreSidesComplete, IsBelowNode}
 use Rattle.disp_model.specs.declared.settings.Rule.{Rule}
 use Rattle.disp_model.specs.declared.settings.Rule.TheVariants.{Fixed, Free}
-use Rattle.tree_growth.specs.Grown.{Helps, Counts, KeepsBound, Grows, branches}
-use Rattle.tree_dives.specs.Leaves.{leaf_in, bound_in}
+use Rattle.tree_growth.specs.Grown.{Helps, LeafCounts, KeepsBound, GrowsBelow, branches}
+use Rattle.tree_dives.specs.Leaves.{leaf_held, bound_in}
 
 -- whatever a leaf lists counts for nothing
-counts_none : (rule : Rule) (leaf : TreeLeaf) → Counts rule leaf 0
+counts_none : (rule : Rule) (leaf : TreeLeaf) → LeafCounts rule leaf 0
 counts_none Fixed NoRoute = tt
 counts_none Fixed (Cycle nodes) = tt
 counts_none Fixed (Late walk) = tt
@@ -29,7 +29,7 @@ counts_none Fixed (Shares walks trains) = refl
 counts_none Free leaf = tt
 
 -- what is listed by the rule counts
-counts_listed : (rule : Rule) (leaf : TreeLeaf) (bound : ℕ) → ListsBy rule leaf → Counts rule leaf bound
+counts_listed : (rule : Rule) (leaf : TreeLeaf) (bound : ℕ) → ListsBy rule leaf → LeafCounts rule leaf bound
 counts_listed Fixed NoRoute bound by = tt
 counts_listed Fixed (Cycle nodes) bound by = tt
 counts_listed Fixed (Late walk) bound by = tt
@@ -37,12 +37,12 @@ counts_listed Fixed (Costs walks) bound by = tt
 counts_listed Fixed (Shares walks trains) bound by = absurd by
 counts_listed Free leaf bound by = tt
 
-pub keeps : (rule : Rule) (node : Node) (shown : NodeLeaf) → IsLeafOf rule node shown → KeepsBound rule node (leaf_in shown) (bound_in shown)
+pub keeps : (rule : Rule) (node : Node) (shown : NodeLeaf) → IsLeafOf rule node shown → KeepsBound rule node (leaf_held shown) (bound_in shown)
 keeps rule node (Dead leaf) is = record { holds = is.holds (Optimal 0); counts = counts_none rule leaf; fits = is.fits }
 keeps rule node (Open leaf bound) is = record { holds = is.holds bound (omega arith); counts = counts_listed rule leaf bound is.lists; fits = is.fits }
 
 -- side by side
-pub side_by_side : (rule : Rule) (best : Option ℕ) (places more : List Node) (tree tree_more : List TreeNode) (bounds bounds_more : List ℕ) → Grows rule best places tree bounds → Grows rule best more tree_more bounds_more → Grows rule best (places ++ more) (tree ++ tree_more) (bounds ++ bounds_more)
+pub side_by_side : (rule : Rule) (best : Option ℕ) (places more : List Node) (tree tree_more : List TreeNode) (bounds bounds_more : List ℕ) → GrowsBelow rule best places tree bounds → GrowsBelow rule best more tree_more bounds_more → GrowsBelow rule best (places ++ more) (tree ++ tree_more) (bounds ++ bounds_more)
 side_by_side rule best [] more [] tree_more [] bounds_more one other = other
 side_by_side rule best [] more [] tree_more (bound ∷ bounds) bounds_more one other = absurd one
 side_by_side rule best [] more (top ∷ tree) tree_more bounds bounds_more one other = absurd one
@@ -51,26 +51,26 @@ side_by_side rule best (node ∷ places) more (Leaf leaf ∷ tree) tree_more [] 
 side_by_side rule best (node ∷ places) more (Leaf leaf ∷ tree) tree_more (bound ∷ bounds) bounds_more one other = (one.0, side_by_side rule best places more tree tree_more bounds bounds_more one.1 other)
 side_by_side rule best (node ∷ places) more (Branch choice children ∷ tree) tree_more bounds bounds_more one other =
     let below = map (with_decision node) (children_of node.problem choice) in
-    (one.0, one.1, subst (λ (l : List Node). Grows rule best l (tree ++ tree_more) (bounds ++ bounds_more)) (append_assoc below places more) (side_by_side rule best (below ++ places) more tree tree_more bounds bounds_more one.2 other))
+    (one.0, one.1, subst (λ (l : List Node). GrowsBelow rule best l (tree ++ tree_more) (bounds ++ bounds_more)) (append_assoc below places more) (side_by_side rule best (below ++ places) more tree tree_more bounds bounds_more one.2 other))
 
 -- one leaf
-pub leaf_alone : (rule : Rule) (best : Option ℕ) (node : Node) (leaf : TreeLeaf) (bound : ℕ) → KeepsBound rule node leaf bound → Grows rule best (node ∷ []) (Leaf leaf ∷ []) (bound ∷ [])
+pub leaf_alone : (rule : Rule) (best : Option ℕ) (node : Node) (leaf : TreeLeaf) (bound : ℕ) → KeepsBound rule node leaf bound → GrowsBelow rule best (node ∷ []) (Leaf leaf ∷ []) (bound ∷ [])
 leaf_alone rule best node leaf bound keeps = (keeps, tt)
 
 -- one leaf more
 pub leaf_more : (rule : Rule) (best : Option ℕ) (node : Node) (decisions : List Decision) (i : ℕ) (d : Decision) (shown : NodeLeaf) (tree : List TreeNode) (bounds : List ℕ) → i < length decisions → IsLeafOf rule (with_decision node (get_or decisions i d)) shown
-    → Grows rule best (map (with_decision node) (take i decisions)) tree bounds → Grows rule best (map (with_decision node) (take (i + 1) decisions)) (tree ++ Leaf (leaf_in shown) ∷ []) (bounds ++ bound_in shown ∷ [])
+    → GrowsBelow rule best (map (with_decision node) (take i decisions)) tree bounds → GrowsBelow rule best (map (with_decision node) (take (i + 1) decisions)) (tree ++ Leaf (leaf_held shown) ∷ []) (bounds ++ bound_in shown ∷ [])
 leaf_more rule best node decisions i d shown tree bounds lt is grows =
     let here = with_decision node (get_or decisions i d) in
     let places : map (with_decision node) (take i decisions) ++ here ∷ [] ≡ map (with_decision node) (take (i + 1) decisions) =
     sym (ap (map (with_decision node)) (take_more decisions i d lt) ∙ map-append (with_decision node) (take i decisions) (get_or decisions i d ∷ [])) in
-    subst (λ (l : List Node). Grows rule best l (tree ++ Leaf (leaf_in shown) ∷ []) (bounds ++ bound_in shown ∷ [])) places
-    (side_by_side rule best (map (with_decision node) (take i decisions)) (here ∷ []) tree (Leaf (leaf_in shown) ∷ []) bounds (bound_in shown ∷ []) grows (leaf_alone rule best here (leaf_in shown) (bound_in shown) (keeps rule here shown is)))
+    subst (λ (l : List Node). GrowsBelow rule best l (tree ++ Leaf (leaf_held shown) ∷ []) (bounds ++ bound_in shown ∷ [])) places
+    (side_by_side rule best (map (with_decision node) (take i decisions)) (here ∷ []) tree (Leaf (leaf_held shown) ∷ []) bounds (bound_in shown ∷ []) grows (leaf_alone rule best here (leaf_held shown) (bound_in shown) (keeps rule here shown is)))
 
 -- a branch, with what grows at its children
 pub branch_alone : (rule : Rule) (best : Option ℕ) (node : Node) (choice : Choice) (children : ℕ) (tree : List TreeNode) (bounds : List ℕ) → Helps rule best node choice → children ≡ length (children_of node.problem choice)
-    → Grows rule best (map (with_decision node) (children_of node.problem choice)) tree bounds → Grows rule best (node ∷ []) (Branch choice children ∷ tree) bounds
-branch_alone rule best node choice children tree bounds helps count below = (helps, count, subst (λ (l : List Node). Grows rule best l tree bounds) (sym (append-nil (map (with_decision node) (children_of node.problem choice)))) below)
+    → GrowsBelow rule best (map (with_decision node) (children_of node.problem choice)) tree bounds → GrowsBelow rule best (node ∷ []) (Branch choice children ∷ tree) bounds
+branch_alone rule best node choice children tree bounds helps count below = (helps, count, subst (λ (l : List Node). GrowsBelow rule best l tree bounds) (sym (append-nil (map (with_decision node) (children_of node.problem choice)))) below)
 
 -- ---- the place that is left
 
@@ -85,7 +85,7 @@ below_below root middle here one other = record {
 
 -- nothing stands beside the first place
 pub completes_first : (rule : Rule) (best : Option ℕ) (root : Node) → Completes rule best root root (record { before = []; before_bounds = []; behind = []; behind_bounds = [] })
-completes_first rule best root tree bounds grows = subst (λ (t : List TreeNode). Grows rule best (root ∷ []) t (bounds ++ [])) (sym (append-nil tree)) (subst (Grows rule best (root ∷ []) tree) (sym (append-nil bounds)) grows)
+completes_first rule best root tree bounds grows = subst (λ (t : List TreeNode). GrowsBelow rule best (root ∷ []) t (bounds ++ [])) (sym (append-nil tree)) (subst (GrowsBelow rule best (root ∷ []) tree) (sym (append-nil bounds)) grows)
 
 module _ {X : Type 0} where
   -- what stands beside a place, with what was there
@@ -104,22 +104,22 @@ module _ {X : Type 0} where
 
 module _ (rule : Rule) (best : Option ℕ) (root here : Node) (old : Sides) (choice : Choice) (children : ℕ) (helps : Helps rule best here choice) (count : children ≡ length (children_of here.problem choice)) (complete : Completes rule best root here old) where
   -- what grows at all children of a branch fills the place
-  pub branch_fills : (tree : List TreeNode) (bounds : List ℕ) → Grows rule best (map (with_decision here) (children_of here.problem choice)) tree bounds
-      → Grows rule best (root ∷ []) (old.before ++ (Branch choice children ∷ tree) ++ reverse old.behind) (old.before_bounds ++ bounds ++ reverse old.behind_bounds)
+  pub branch_fills : (tree : List TreeNode) (bounds : List ℕ) → GrowsBelow rule best (map (with_decision here) (children_of here.problem choice)) tree bounds
+      → GrowsBelow rule best (root ∷ []) (old.before ++ (Branch choice children ∷ tree) ++ reverse old.behind) (old.before_bounds ++ bounds ++ reverse old.behind_bounds)
   branch_fills tree bounds grows = complete (Branch choice children ∷ tree) bounds (branch_alone rule best here choice children tree bounds helps count grows)
 
   -- leaves beside one child leave its place to be filled
   pub goes_to_child : (first last : List Decision) (decision : Decision) (left right : List TreeNode) (left_bounds right_bounds : List ℕ) → children_of here.problem choice ≡ first ++ decision ∷ last
-      → Grows rule best (map (with_decision here) first) left left_bounds → Grows rule best (map (with_decision here) last) right right_bounds
+      → GrowsBelow rule best (map (with_decision here) first) left left_bounds → GrowsBelow rule best (map (with_decision here) last) right right_bounds
       → Completes rule best root (with_decision here decision) (record { before = (old.before ++ Branch choice children ∷ []) ++ left; before_bounds = old.before_bounds ++ left_bounds; behind = old.behind ++ reverse right; behind_bounds = old.behind_bounds ++ reverse right_bounds })
   goes_to_child first last decision left right left_bounds right_bounds parts one other tree bounds grows =
       let all = side_by_side rule best (map (with_decision here) first ++ with_decision here decision ∷ []) (map (with_decision here) last) (left ++ tree) right (left_bounds ++ bounds) right_bounds
       (side_by_side rule best (map (with_decision here) first) (with_decision here decision ∷ []) left tree left_bounds bounds one grows) other in
       let places : (map (with_decision here) first ++ with_decision here decision ∷ []) ++ map (with_decision here) last ≡ map (with_decision here) (children_of here.problem choice) =
       append_assoc (map (with_decision here) first) (with_decision here decision ∷ []) (map (with_decision here) last) ∙ sym (ap (map (with_decision here)) parts ∙ map-append (with_decision here) first (decision ∷ last)) in
-      let filled = branch_fills (left ++ tree ++ right) (left_bounds ++ bounds ++ right_bounds) (subst (λ (l : List Node). Grows rule best l (left ++ tree ++ right) (left_bounds ++ bounds ++ right_bounds)) places all) in
-      subst (λ (t : List TreeNode). Grows rule best (root ∷ []) t (((old.before_bounds ++ left_bounds) ++ bounds) ++ reverse (old.behind_bounds ++ reverse right_bounds))) (beside old.before left tree right old.behind (Branch choice children))
-      (subst (λ (b : List ℕ). Grows rule best (root ∷ []) (old.before ++ (Branch choice children ∷ (left ++ tree ++ right)) ++ reverse old.behind) b) (beside_bounds old.before_bounds left_bounds bounds right_bounds old.behind_bounds) filled)
+      let filled = branch_fills (left ++ tree ++ right) (left_bounds ++ bounds ++ right_bounds) (subst (λ (l : List Node). GrowsBelow rule best l (left ++ tree ++ right) (left_bounds ++ bounds ++ right_bounds)) places all) in
+      subst (λ (t : List TreeNode). GrowsBelow rule best (root ∷ []) t (((old.before_bounds ++ left_bounds) ++ bounds) ++ reverse (old.behind_bounds ++ reverse right_bounds))) (beside old.before left tree right old.behind (Branch choice children))
+      (subst (λ (b : List ℕ). GrowsBelow rule best (root ∷ []) (old.before ++ (Branch choice children ∷ (left ++ tree ++ right)) ++ reverse old.behind) b) (beside_bounds old.before_bounds left_bounds bounds right_bounds old.behind_bounds) filled)
 
 -- ---- how many branches
 
@@ -138,8 +138,8 @@ branches_back (Leaf leaf ∷ tree) = let later = branches_back tree in ap branch
 
 module _ (rule : Rule) (best : Option ℕ) (root here : Node) (old : Sides) (choice : Choice) (children : ℕ) (helps : Helps rule best here choice) (count : children ≡ length (children_of here.problem choice)) (complete : Completes rule best root here old) where
   -- leaves at all children leave no place
-  pub leaves_at_all : (left : List TreeNode) (left_bounds : List ℕ) → Grows rule best (map (with_decision here) (children_of here.problem choice)) left left_bounds
-      → IsComplete rule best root (record { before = (old.before ++ Branch choice children ∷ []) ++ left; before_bounds = old.before_bounds ++ left_bounds; behind = old.behind; behind_bounds = old.behind_bounds })
+  pub leaves_at_all : (left : List TreeNode) (left_bounds : List ℕ) → GrowsBelow rule best (map (with_decision here) (children_of here.problem choice)) left left_bounds
+      → AreSidesComplete rule best root (record { before = (old.before ++ Branch choice children ∷ []) ++ left; before_bounds = old.before_bounds ++ left_bounds; behind = old.behind; behind_bounds = old.behind_bounds })
   leaves_at_all left left_bounds grows =
-      subst (λ (t : List TreeNode). Grows rule best (root ∷ []) (t ++ reverse old.behind) ((old.before_bounds ++ left_bounds) ++ reverse old.behind_bounds)) (sym (append_assoc old.before (Branch choice children ∷ []) left))
+      subst (λ (t : List TreeNode). GrowsBelow rule best (root ∷ []) (t ++ reverse old.behind) ((old.before_bounds ++ left_bounds) ++ reverse old.behind_bounds)) (sym (append_assoc old.before (Branch choice children ∷ []) left))
       (branch_fills rule best root here old choice children helps count complete left left_bounds grows)

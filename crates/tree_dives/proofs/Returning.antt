@@ -3,10 +3,10 @@ use Rattle.std.proofs.Common.{◌≡◌, ◌∙◌, ℕ, ◌-◌, ◌+◌, ◌<�
 use Rattle.std.proofs.lemmas.List.{take_more, take_all}
 use Rattle.disp_model.specs.declared.decision.Decision.{Decision}
 use Rattle.disp_model.specs.Node.{Node, node_at, with_decision}
-use Rattle.event_graph.specs.Graphs.{without_last}
+use Rattle.event_graph.specs.Graphs.{without_last_decision}
 
 pub with_last : (node : Node) (d : Decision) → 0 < length node.decisions
-    → node ≡ with_decision (without_last node) (get_or node.decisions (length node.decisions - 1) d)
+    → node ≡ with_decision (without_last_decision node) (get_or node.decisions (length node.decisions - 1) d)
 with_last node d some =
     let n = length node.decisions in
     let on : (n - 1) + 1 ≡ n = omega (arith, some) in

@@ -9,8 +9,8 @@ use Rattle.disp_model.specs.Earliest.{IsEarliest}
 use Rattle.disp_model.specs.Valid.{IsValid}
 use Rattle.disp_model.specs.Cost.{cost_of}
 use Rattle.disp_model.specs.declared.settings.Rule.{Rule}
-use Rattle.open_nodes.specs.States.{IsBelow}
-use Rattle.tree_growth.specs.Grown.{Grows, Helps, branches}
+use Rattle.open_nodes.specs.States.{IsBoundBelow}
+use Rattle.tree_growth.specs.Grown.{GrowsBelow, Helps, branches}
 use Rattle.tree_dives.specs.Halves.{IsBelowNode}
 use Rattle.tree_dives.specs.Stages.{IsClosedAt}
 use Rattle.tree_dives.specs.declared.given.Dive.{Dive}
@@ -22,7 +22,7 @@ use Rattle.tree_dives.specs.declared.stage.End.TheVariants.{Closed, Plan, Open}
 pub record EndsInPlan (root : Node) (best : Option ℕ) (bounds : List ℕ) (plan : List Event) : Type 0 where
   pub valid : IsValid root.problem root.fixings plan
   pub costs : Contains bounds (cost_of root.problem.components plan)
-  pub better : IsBelow (cost_of root.problem.components plan) best
+  pub better : IsBoundBelow (cost_of root.problem.components plan) best
   pub here : Node
   pub below : IsBelowNode root here
   pub alive : IsDead here → ⊥
@@ -41,6 +41,6 @@ IsEndOf rule root best allowance nodes bounds Open = (branches nodes ≡ allowan
 
 -- a subtree for the place of the node, with at most so many branches, and how it ended
 pub record IsDive (rule : Rule) (root : Node) (best : Option ℕ) (allowance : ℕ) (dive : Dive) : Type 0 where
-  pub grows : Grows rule best (root ∷ []) dive.nodes dive.bounds
+  pub grows : GrowsBelow rule best (root ∷ []) dive.nodes dive.bounds
   pub few : branches dive.nodes ≤ allowance
   pub ends : IsEndOf rule root best allowance dive.nodes dive.bounds dive.end

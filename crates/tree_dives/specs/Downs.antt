@@ -5,7 +5,7 @@ use Rattle.disp_model.specs.Node.{Node}
 use Rattle.tree_dives.specs.declared.down.Halves.{Halves}
 use Rattle.disp_model.specs.declared.settings.Rule.{Rule}
 use Rattle.tree_growth.specs.Grown.{Helps, branches}
-use Rattle.tree_dives.specs.Halves.{Sides, Completes, IsComplete}
+use Rattle.tree_dives.specs.Halves.{Sides, Completes, AreSidesComplete}
 
 abbrev pub sides_of : Halves → Sides
 sides_of halves = record { before = halves.before.nodes.items; before_bounds = halves.before.bounds.items; behind = halves.behind.nodes.items; behind_bounds = halves.behind.bounds.items }
@@ -14,12 +14,12 @@ abbrev pub branches_in : Sides → ℕ
 branches_in sides = branches sides.before + branches sides.behind
 
 -- the place of the node below is left to be filled, or none is
-abbrev pub GoesOn : Rule → Option ℕ → Node → Node → Sides → Bool → Type 0
-GoesOn rule best root here sides true = Completes rule best root here sides
-GoesOn rule best root here sides false = IsComplete rule best root sides
+abbrev pub DiveGoesOn : Rule → Option ℕ → Node → Node → Sides → Bool → Type 0
+DiveGoesOn rule best root here sides true = Completes rule best root here sides
+DiveGoesOn rule best root here sides false = AreSidesComplete rule best root sides
 
 -- from the place of a node, by a branch there, to that of a node below it
 abbrev pub GoesDown : Rule → Choice → Node → Sides → Node → Sides → Bool → Type 0
 GoesDown rule choice here old below new more =
-    ((best : Option ℕ) (root : Node) → Helps rule best here choice → Completes rule best root here old → GoesOn rule best root below new more)
+    ((best : Option ℕ) (root : Node) → Helps rule best here choice → Completes rule best root here old → DiveGoesOn rule best root below new more)
     × (branches_in new ≡ branches_in old + 1)

@@ -3,7 +3,7 @@ use Rattle.std.specs.Prelude.{◌≡◌, ℕ, ◌≤◌, List, [], ◌∷◌, �
 use Rattle.disp_model.specs.declared.tree.TreeNode.{TreeNode}
 use Rattle.disp_model.specs.Node.{Node}
 use Rattle.disp_model.specs.declared.settings.Rule.{Rule}
-use Rattle.tree_growth.specs.Grown.{Grows}
+use Rattle.tree_growth.specs.Grown.{GrowsBelow}
 
 -- nodes of a subtree before a place and behind it, these last first, with the bounds of their leaves
 pub record Sides : Type 0 where
@@ -15,12 +15,12 @@ pub record Sides : Type 0 where
 -- what fills the place of the one node makes with the sides what fills that of the other
 abbrev pub Completes : Rule → Option ℕ → Node → Node → Sides → Type 0
 Completes rule best root here sides =
-    (tree : List TreeNode) (bounds : List ℕ) → Grows rule best (here ∷ []) tree bounds
-    → Grows rule best (root ∷ []) (sides.before ++ tree ++ reverse sides.behind) (sides.before_bounds ++ bounds ++ reverse sides.behind_bounds)
+    (tree : List TreeNode) (bounds : List ℕ) → GrowsBelow rule best (here ∷ []) tree bounds
+    → GrowsBelow rule best (root ∷ []) (sides.before ++ tree ++ reverse sides.behind) (sides.before_bounds ++ bounds ++ reverse sides.behind_bounds)
 
 -- the sides alone fill the place
-abbrev pub IsComplete : Rule → Option ℕ → Node → Sides → Type 0
-IsComplete rule best root sides = Grows rule best (root ∷ []) (sides.before ++ reverse sides.behind) (sides.before_bounds ++ reverse sides.behind_bounds)
+abbrev pub AreSidesComplete : Rule → Option ℕ → Node → Sides → Type 0
+AreSidesComplete rule best root sides = GrowsBelow rule best (root ∷ []) (sides.before ++ reverse sides.behind) (sides.before_bounds ++ reverse sides.behind_bounds)
 
 -- a node with the same decisions first
 pub record IsBelowNode (root here : Node) : Type 0 where

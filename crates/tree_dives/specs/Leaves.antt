@@ -4,9 +4,9 @@ use Rattle.disp_model.specs.declared.tree.Leaf.{Leaf as TreeLeaf}
 use Rattle.node_leaves.specs.declared.leaf.NodeLeaf.{NodeLeaf}
 use Rattle.node_leaves.specs.declared.leaf.NodeLeaf.TheVariants.{Dead, Open}
 
-abbrev pub leaf_in : NodeLeaf → TreeLeaf
-leaf_in (Dead leaf) = leaf
-leaf_in (Open leaf bound) = leaf
+abbrev pub leaf_held : NodeLeaf → TreeLeaf
+leaf_held (Dead leaf) = leaf
+leaf_held (Open leaf bound) = leaf
 
 -- the bound that is kept for it
 abbrev pub bound_in : NodeLeaf → ℕ

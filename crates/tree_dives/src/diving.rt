@@ -3,7 +3,7 @@ ghost use Rattle.node_leaves.specs.declared.leaf.NodeLeaf.{NodeLeaf as NodeLeafO
 ghost use Rattle.node_leaves.specs.Reckoned.{ReckonsFor};
 ghost use Rattle.node_leaves.specs.Shown.{IsLeafOf};
 ghost use Rattle.tree_dives.specs.Dives.{IsDive};
-ghost use Rattle.tree_dives.specs.Wholes.{IsWhole, with_leaf};
+ghost use Rattle.tree_dives.specs.Wholes.{IsDiveWhole, with_leaf};
 ghost use Rattle.tree_dives.specs.Downs.{sides_of};
 ghost use Rattle.tree_dives.specs.Halves.{IsBelowNode};
 ghost use Rattle.share_bound.specs.Known.{HoldFor};
@@ -23,7 +23,7 @@ use std::alloc::Global;
 
 /// The subtree, where no place is left to be filled.
 fn whole(halves: Halves, end: End) -> Result<Dive, Memory>
-    ensures { IfOk result (IsWhole (sides_of halves) end) }
+    ensures { IfOk result (IsDiveWhole (sides_of halves) end) }
 {
     let Halves { mut before, behind } = halves;
     append_back(&mut before, behind)?;
@@ -50,7 +50,7 @@ fn ended(
     ensures known { HoldFor graph.now known.new }
     ensures whole { IfOk result (λ dive. (shown : NodeLeafOf)
         × IsLeafOf reckoning.now.rule graph.now shown
-        × IsWhole (with_leaf (sides_of halves) shown) end dive) }
+        × IsDiveWhole (with_leaf (sides_of halves) shown) end dive) }
 {
     let leaf = leaf_of(alloc, problem, reckoning, graph, known)?;
     push_leaf(&mut halves.before, leaf)?;

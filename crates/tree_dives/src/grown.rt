@@ -1,6 +1,6 @@
 ghost use Rattle.std.specs.Prelude.{◌≡◌, ◌++◌, ◌∷◌, [], OnOk, reverse};
 ghost use Rattle.disp_model.specs.declared.tree.TreeNode.TheVariants.{Branch, Leaf as LeafNode};
-ghost use Rattle.tree_dives.specs.Leaves.{leaf_in, bound_in};
+ghost use Rattle.tree_dives.specs.Leaves.{leaf_held, bound_in};
 
 use disp_model::{Choice, Memory, TreeNode};
 use node_leaves::NodeLeaf;
@@ -37,7 +37,7 @@ pub(crate) fn push_branch(grown: &mut Grown, choice: Choice, children: u32) -> R
 /// Adds a leaf behind the others, as its node shows it.
 pub(crate) fn push_leaf(grown: &mut Grown, shown: NodeLeaf) -> Result<(), Memory>
     ensures nodes { OnOk result
-        (grown.new.nodes.items ≡ grown.old.nodes.items ++ LeafNode (leaf_in shown) ∷ []) }
+        (grown.new.nodes.items ≡ grown.old.nodes.items ++ LeafNode (leaf_held shown) ∷ []) }
     ensures bounds { OnOk result
         (grown.new.bounds.items ≡ grown.old.bounds.items ++ bound_in shown ∷ []) }
 {

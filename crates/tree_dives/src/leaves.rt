@@ -1,7 +1,7 @@
 ghost use Rattle.std.specs.Prelude.{◌≡◌, ℕ, Option, map, IfOk};
 ghost use Rattle.disp_model.specs.Node.{with_decision};
 ghost use Rattle.node_leaves.specs.Reckoned.{ReckonsFor};
-ghost use Rattle.tree_growth.specs.Grown.{Grows, branches};
+ghost use Rattle.tree_growth.specs.Grown.{GrowsBelow, branches};
 ghost use Rattle.share_bound.specs.Known.{HoldFor};
 
 use crate::grown::{Grown, nothing, push_leaf};
@@ -26,7 +26,7 @@ pub(crate) fn leaves_of(
     ensures same { graph.new ≡ graph.old }
     ensures known { HoldFor graph.old known.new }
     ensures grows { IfOk result (λ grown. (best : Option ℕ)
-        → Grows reckoning.now.rule best (map (with_decision graph.old) decisions.now)
+        → GrowsBelow reckoning.now.rule best (map (with_decision graph.old) decisions.now)
         grown.nodes.items grown.bounds.items) }
     ensures leaves { IfOk result (λ grown. branches grown.nodes.items ≡ 0) }
 {

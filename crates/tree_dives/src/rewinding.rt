@@ -1,6 +1,6 @@
 ghost use Rattle.std.specs.Prelude.{◌≡◌, ◌<◌, ◌≤◌, length, take};
 ghost use Rattle.disp_model.specs.Node.{node_at, with_decision};
-ghost use Rattle.event_graph.specs.Graphs.{without_last};
+ghost use Rattle.event_graph.specs.Graphs.{without_last_decision};
 ghost use Rattle.share_bound.specs.Known.{HoldFor};
 
 use disp_model::Decision;
@@ -21,7 +21,7 @@ pub fn rewind(graph: &mut Graph, depth: usize)
 /// The last decision.
 fn last_of(graph: &Graph) -> Decision
     requires { 0 < length graph.now.decisions }
-    ensures { graph.now ≡ with_decision (without_last graph.now) result }
+    ensures { graph.now ≡ with_decision (without_last_decision graph.now) result }
 {
     let decisions = graph.decisions();
     decisions[decisions.len() - 1]
@@ -31,7 +31,7 @@ fn last_of(graph: &Graph) -> Decision
 fn go_up(graph: &mut Graph, known: &mut KnownShares)
     requires some { 0 < length graph.old.decisions }
     requires known { HoldFor graph.old known.old }
-    ensures up { graph.new ≡ without_last graph.old }
+    ensures up { graph.new ≡ without_last_decision graph.old }
     ensures known { HoldFor graph.new known.new }
 {
     let decision = last_of(graph);

@@ -2,7 +2,7 @@ ghost use Rattle.std.specs.Prelude.{◌≡◌, ◌↔◌, IsTrue, IfOk};
 ghost use Rattle.disp_model.specs.Nodes.{IsDead};
 ghost use Rattle.free_choices.specs.Picks.{IsPickBy};
 ghost use Rattle.node_leaves.specs.Reckoned.{ReckonsFor};
-ghost use Rattle.open_nodes.specs.States.{IsBelow};
+ghost use Rattle.open_nodes.specs.States.{IsBoundBelow};
 ghost use Rattle.tree_dives.specs.Stages.{IsStageAt};
 ghost use Rattle.share_bound.specs.Known.{HoldFor};
 
@@ -35,7 +35,7 @@ pub(crate) enum Stage {
 
 /// Whether a bound is below the best cost, or there is none.
 fn is_below(bound: u64, best: Option<u64>) -> bool
-    ensures { IsTrue result ↔ IsBelow bound best }
+    ensures { IsTrue result ↔ IsBoundBelow bound best }
 {
     match best {
         Some(cost) => bound < cost,

@@ -7,11 +7,11 @@ use Rattle.disp_model.specs.declared.tree.TreeNode.TheVariants.{Branch, Leaf}
 use Rattle.disp_model.specs.Node.{Node, with_decision}
 use Rattle.disp_model.specs.Trees.{children_of}
 use Rattle.disp_laws.proofs.OpenChoices.{picked_is_choice}
-use Rattle.tree_growth.specs.Grown.{AreHelpful, KeepBounds, Grows}
+use Rattle.tree_growth.specs.Grown.{AreHelpful, KeepBounds, GrowsBelow}
 
 module _ (rule : Rule) (best : Option ℕ) where
   -- what grows helps
-  pub grows_helps : (tree : List TreeNode) (places : List Node) (bounds : List ℕ) → Grows rule best places tree bounds → AreHelpful rule best places tree bounds
+  pub grows_helps : (tree : List TreeNode) (places : List Node) (bounds : List ℕ) → GrowsBelow rule best places tree bounds → AreHelpful rule best places tree bounds
   grows_helps [] [] [] grows = tt
   grows_helps [] [] (bound ∷ bounds) grows = absurd grows
   grows_helps (top ∷ tree) [] bounds grows = absurd grows
@@ -22,7 +22,7 @@ module _ (rule : Rule) (best : Option ℕ) where
       (grows.0, grows.1, grows_helps tree (map (with_decision node) (children_of node.problem choice) ++ places) bounds grows.2)
 
   -- what grows keeps its bounds
-  pub grows_keeps : (tree : List TreeNode) (places : List Node) (bounds : List ℕ) → Grows rule best places tree bounds → KeepBounds rule places tree bounds
+  pub grows_keeps : (tree : List TreeNode) (places : List Node) (bounds : List ℕ) → GrowsBelow rule best places tree bounds → KeepBounds rule places tree bounds
   grows_keeps [] [] [] grows = tt
   grows_keeps [] [] (bound ∷ bounds) grows = absurd grows
   grows_keeps (top ∷ tree) [] bounds grows = absurd grows
@@ -36,7 +36,7 @@ module _ (rule : Rule) (best : Option ℕ) where
   )
 
   -- what does both grows
-  pub both_grow : (tree : List TreeNode) (places : List Node) (bounds : List ℕ) → AreHelpful rule best places tree bounds → KeepBounds rule places tree bounds → Grows rule best places tree bounds
+  pub both_grow : (tree : List TreeNode) (places : List Node) (bounds : List ℕ) → AreHelpful rule best places tree bounds → KeepBounds rule places tree bounds → GrowsBelow rule best places tree bounds
   both_grow [] [] [] helps keeps = tt
   both_grow [] [] (bound ∷ bounds) helps keeps = absurd keeps
   both_grow (top ∷ tree) [] bounds helps keeps = absurd keeps

@@ -11,7 +11,7 @@ use Rattle.disp_model.specs.Nodes.{IsDead}
 use Rattle.disp_model.specs.Shares.{IsBound}
 use Rattle.disp_model.specs.Trees.{CostsEnough, LeafHolds}
 use Rattle.disp_laws.proofs.Bounds.{bound_some, free_is_no_less}
-use Rattle.tree_growth.specs.Grown.{Counts}
+use Rattle.tree_growth.specs.Grown.{LeafCounts}
 use Rattle.tree_growth.proofs.Walked.{late_is_dead, walks_low}
 use Rattle.tree_growth.proofs.Listed.{shares_low}
 
@@ -29,7 +29,7 @@ module _ (node : Node) (alive : IsDead node → ⊥) where
       )
 
   -- nor does any leaf that counts
-  pub kept_low : (rule : Rule) (leaf : TreeLeaf) (kept bound : ℕ) → LeafHolds node (Optimal kept) leaf → Counts rule leaf kept → IsBound node rule bound → kept ≤ bound
+  pub kept_low : (rule : Rule) (leaf : TreeLeaf) (kept bound : ℕ) → LeafHolds node (Optimal kept) leaf → LeafCounts rule leaf kept → IsBound node rule bound → kept ≤ bound
   kept_low rule leaf kept bound (inl none) counts is = absurd (alive (inl none))
   kept_low rule NoRoute kept bound (inr shows) counts is = absurd shows
   kept_low rule (Cycle nodes) kept bound (inr shows) counts is = absurd (alive (inr (inl (nodes, shows))))

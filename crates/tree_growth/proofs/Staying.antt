@@ -24,19 +24,19 @@ use Rattle.open_nodes.specs.declared.work.GiveBack.TheVariants.{Back, Gone}
 use Rattle.open_nodes.specs.declared.work.Take.{Take}
 use Rattle.open_nodes.specs.declared.work.Take.TheVariants.{Ripe, Taken, AllOut, Dry}
 use Rattle.open_nodes.specs.declared.work.Work.{Work}
-use Rattle.open_nodes.specs.States.{State, first_place, one_leaf, with_places, with_out, marked, errand_of, decisions_of, Takes, GivesBack}
+use Rattle.open_nodes.specs.States.{State, first_place, one_open_leaf, with_places, with_out, marked, errand_of, decisions_of, Takes, GivesBack}
 use Rattle.open_nodes.specs.Shown.{leaf_in, fallen, fallen_by, fallen_in, fallen_at}
 use Rattle.open_nodes.specs.Filled.{IsTree}
 use Rattle.open_nodes.proofs.Holding.{decisions_same}
 use Rattle.open_nodes.proofs.Keeping.{same_above}
 use Rattle.open_nodes.proofs.Places.{get_set_same, get_set_other}
-use Rattle.tree_growth.specs.Grown.{Counts, KeepsBound}
+use Rattle.tree_growth.specs.Grown.{LeafCounts, KeepsBound}
 use Rattle.tree_growth.specs.Keeping.{AllKeep}
 
 -- ---- the empty list of walks
 
 -- a list of walks counts by each rule
-costs_count : (rule : Rule) (walks : List ComponentWalk) (bound : ℕ) → Counts rule (Costs walks) bound
+costs_count : (rule : Rule) (walks : List ComponentWalk) (bound : ℕ) → LeafCounts rule (Costs walks) bound
 costs_count Fixed walks bound = tt
 costs_count Free walks bound = tt
 
@@ -53,11 +53,11 @@ empty_read : (rule : Rule) (node : Node) (shown : Option TreeNode) (leaf : TreeL
 empty_read rule node shown leaf empty is = subst (λ (l : TreeLeaf). KeepsBound rule node l 0) (same_Some (Costs []) leaf (ap leaf_in (sym empty ∙ is))) (empty_keeps rule node)
 
 -- the first leaf shows it, with the bound 0
-pub first_keeps : (rule : Rule) (problem : Problem) (fixings : List Fixing) → AllKeep rule problem fixings one_leaf
-first_keeps rule problem fixings n p leaf at shown = subst (λ (q : Place). slice_get one_leaf.kept q.shows ≡ Some (Leaf leaf) → KeepsBound rule (node_at problem fixings (decisions_of one_leaf.places n)) leaf q.bound)
-    (only n at) (λ is. empty_read rule (node_at problem fixings (decisions_of one_leaf.places n)) (Some (Leaf (Costs []))) leaf refl is) shown
+pub first_keeps : (rule : Rule) (problem : Problem) (fixings : List Fixing) → AllKeep rule problem fixings one_open_leaf
+first_keeps rule problem fixings n p leaf at shown = subst (λ (q : Place). slice_get one_open_leaf.kept q.shows ≡ Some (Leaf leaf) → KeepsBound rule (node_at problem fixings (decisions_of one_open_leaf.places n)) leaf q.bound)
+    (only n at) (λ is. empty_read rule (node_at problem fixings (decisions_of one_open_leaf.places n)) (Some (Leaf (Costs []))) leaf refl is) shown
   where
-    only : (m : ℕ) → slice_get one_leaf.places m ≡ Some p → first_place ≡ p
+    only : (m : ℕ) → slice_get one_open_leaf.places m ≡ Some p → first_place ≡ p
     only zero here = same_Some first_place p here
     only (suc m) here = absurd (none-some p here)
 

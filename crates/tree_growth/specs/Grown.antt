@@ -13,7 +13,7 @@ use Rattle.disp_model.specs.Nodes.{IsDead}
 use Rattle.disp_model.specs.Shares.{IsBound}
 use Rattle.disp_model.specs.Earliest.{IsPicked}
 use Rattle.disp_model.specs.Trees.{LeafHolds, FitsLeaf, IsChoice, children_of}
-use Rattle.open_nodes.specs.States.{IsBelow}
+use Rattle.open_nodes.specs.States.{IsBoundBelow}
 
 -- a branch that helps: its node is not dead, its choice is one that is picked there, and its bound is below the best
 pub record Helps (rule : Rule) (best : Option ℕ) (node : Node) (choice : Choice) : Type 0 where
@@ -21,17 +21,17 @@ pub record Helps (rule : Rule) (best : Option ℕ) (node : Node) (choice : Choic
   pub picked : IsPicked node rule (Some choice)
   pub bound : ℕ
   pub bound_is : IsBound node rule bound
-  pub below : IsBelow bound best
+  pub below : IsBoundBelow bound best
 
 -- what the leaf lists counts by the rule: shares count by the free one alone, or for nothing
-abbrev pub Counts : Rule → TreeLeaf → ℕ → Type 0
-Counts Fixed (Shares walks trains) bound = bound ≡ 0
-Counts _ _ bound = Unit {0}
+abbrev pub LeafCounts : Rule → TreeLeaf → ℕ → Type 0
+LeafCounts Fixed (Shares walks trains) bound = bound ≡ 0
+LeafCounts _ _ bound = Unit {0}
 
 -- a leaf that holds for a bound, by what the rule counts, and can be written
 pub record KeepsBound (rule : Rule) (node : Node) (leaf : TreeLeaf) (bound : ℕ) : Type 0 where
   pub holds : LeafHolds node (Optimal bound) leaf
-  pub counts : Counts rule leaf bound
+  pub counts : LeafCounts rule leaf bound
   pub fits : FitsLeaf leaf
 
 -- the nodes fill the places, from the first on: each branch helps, each leaf has a bound
@@ -59,16 +59,16 @@ KeepBounds rule (node ∷ places) (Branch choice children ∷ tree) bounds =
     × KeepBounds rule (map (with_decision node) (children_of node.problem choice) ++ places) tree bounds
 
 -- the nodes fill the places, from the first on: each branch helps, each leaf keeps its bound
-abbrev pub Grows : Rule → Option ℕ → List Node → List TreeNode → List ℕ → Type 0
-Grows rule best [] [] [] = Unit {0}
-Grows rule best [] [] (bound ∷ bounds) = ⊥
-Grows rule best [] (top ∷ tree) bounds = ⊥
-Grows rule best (node ∷ places) [] bounds = ⊥
-Grows rule best (node ∷ places) (Leaf leaf ∷ tree) [] = ⊥
-Grows rule best (node ∷ places) (Leaf leaf ∷ tree) (bound ∷ bounds) = KeepsBound rule node leaf bound × Grows rule best places tree bounds
-Grows rule best (node ∷ places) (Branch choice children ∷ tree) bounds =
+abbrev pub GrowsBelow : Rule → Option ℕ → List Node → List TreeNode → List ℕ → Type 0
+GrowsBelow rule best [] [] [] = Unit {0}
+GrowsBelow rule best [] [] (bound ∷ bounds) = ⊥
+GrowsBelow rule best [] (top ∷ tree) bounds = ⊥
+GrowsBelow rule best (node ∷ places) [] bounds = ⊥
+GrowsBelow rule best (node ∷ places) (Leaf leaf ∷ tree) [] = ⊥
+GrowsBelow rule best (node ∷ places) (Leaf leaf ∷ tree) (bound ∷ bounds) = KeepsBound rule node leaf bound × GrowsBelow rule best places tree bounds
+GrowsBelow rule best (node ∷ places) (Branch choice children ∷ tree) bounds =
     Helps rule best node choice × (children ≡ length (children_of node.problem choice))
-    × Grows rule best (map (with_decision node) (children_of node.problem choice) ++ places) tree bounds
+    × GrowsBelow rule best (map (with_decision node) (children_of node.problem choice) ++ places) tree bounds
 
 -- how many branches there are
 abbrev pub branches : List TreeNode → ℕ

@@ -16,25 +16,25 @@ ghost use Rattle.open_nodes.specs.declared.work.Fragment.{Fragment};
 ghost use Rattle.open_nodes.specs.declared.work.GiveBack.{GiveBack};
 ghost use Rattle.open_nodes.specs.declared.work.Take.{Take};
 ghost use Rattle.open_nodes.specs.declared.work.Work.{Work};
-ghost use Rattle.open_nodes.specs.States.{State, one_leaf, Takes, GivesBack};
+ghost use Rattle.open_nodes.specs.States.{State, one_open_leaf, Takes, GivesBack};
 ghost use Rattle.open_nodes.specs.Grafts.{FillPlaces, Grows as GrowsTo};
 ghost use Rattle.open_nodes.specs.Filled.{IsTree, HaveChoices, AllHold};
 ghost use Rattle.open_nodes.specs.Shown.{fallen_at, with_edition};
-ghost use Rattle.tree_growth.specs.Grown.{Counts, AreHelpful, KeepBounds, Grows, branches};
+ghost use Rattle.tree_growth.specs.Grown.{LeafCounts, AreHelpful, KeepBounds, GrowsBelow, branches};
 ghost use Rattle.tree_growth.specs.Left.{AreLeft};
 ghost use Rattle.tree_growth.specs.Keeping.{AllKeep};
 
 /// What grows at places helps and keeps its bounds, and the other way round.
 pub fn what_grows_helps_and_keeps()
     ensures helps { (rule : Rule) (best : Option ℕ) (places : List Node) (tree : List TreeNode)
-        (bounds : List ℕ) → Grows rule best places tree bounds
+        (bounds : List ℕ) → GrowsBelow rule best places tree bounds
         → AreHelpful rule best places tree bounds }
     ensures keeps { (rule : Rule) (best : Option ℕ) (places : List Node) (tree : List TreeNode)
-        (bounds : List ℕ) → Grows rule best places tree bounds
+        (bounds : List ℕ) → GrowsBelow rule best places tree bounds
         → KeepBounds rule places tree bounds }
     ensures both { (rule : Rule) (best : Option ℕ) (places : List Node) (tree : List TreeNode)
         (bounds : List ℕ) → AreHelpful rule best places tree bounds
-        → KeepBounds rule places tree bounds → Grows rule best places tree bounds }
+        → KeepBounds rule places tree bounds → GrowsBelow rule best places tree bounds }
 {}
 
 /// Nodes that keep their bounds at one node fill its place, each branch has a choice of the
@@ -67,7 +67,7 @@ pub fn grown_leaves_keep_bounds()
 /// back, or the edition is newer.
 pub fn kept_bounds_stay()
     ensures first { (rule : Rule) (problem : Problem) (fixings : List Fixing)
-        → AllKeep rule problem fixings one_leaf }
+        → AllKeep rule problem fixings one_open_leaf }
     ensures takes { (rule : Rule) (problem : Problem) (fixings : List Fixing) (state : State)
         (best : Option ℕ) (free want seen : ℕ) (take : Take) (after : State)
         → IsTree problem state → AllKeep rule problem fixings state
@@ -115,6 +115,6 @@ pub fn what_is_left_keeps_bounds()
 /// counts, has none above the node's bound by that rule.
 pub fn kept_bounds_are_low()
     ensures { (rule : Rule) (node : Node) (leaf : Leaf) (kept bound : ℕ) → (IsDead node → ⊥)
-        → LeafHolds node (Optimal kept) leaf → Counts rule leaf kept → IsBound node rule bound
+        → LeafHolds node (Optimal kept) leaf → LeafCounts rule leaf kept → IsBound node rule bound
         → kept ≤ bound }
 {}

@@ -15,7 +15,7 @@ use Rattle.disp_model.specs.Trees.{children_of}
 use Rattle.open_nodes.specs.declared.place.Place.{Place}
 use Rattle.open_nodes.specs.Preorder.{link_of}
 use Rattle.open_nodes.specs.Grafts.{Graft, FillPlaces, children_at, branch_at, leaf_at, fills, fills_there, grafted}
-use Rattle.open_nodes.specs.Filled.{Leads, Spot, spots_for, HaveChoices}
+use Rattle.open_nodes.specs.Filled.{LinksLead, Spot, spots_for, HaveChoices}
 use Rattle.open_nodes.proofs.Places.{get_set_same, get_set_other}
 use Rattle.open_nodes.proofs.Growing.{get_more}
 use Rattle.open_nodes.proofs.Joining.{IsIn}
@@ -89,7 +89,7 @@ module _ (problem : Problem) (last own : ℕ) (kept : List TreeNode) (behind : O
     pub splits_are : g.splits ≡ splits ++ splits_for problem tree spots unused
     pub unused_is : last + length g.grown ≡ unused_for problem tree spots unused
     pub follows : Follows problem (λ n. slice_get g.grown (n - last)) kept tree spots unused
-    pub leads : Leads (λ n. slice_get g.grown (n - last)) (next_spot behind spots) (numbers_for problem tree spots unused) behind
+    pub leads : LinksLead (λ n. slice_get g.grown (n - last)) (next_spot behind spots) (numbers_for problem tree spots unused) behind
     pub mine : NumbersOwn last own (numbers_for problem tree spots unused)
 
   -- one node more is filled, at the first spot that waits
@@ -155,7 +155,7 @@ module _ (problem : Problem) (last own : ℕ) (kept : List TreeNode) (behind : O
         splits_are = rest.splits_are;
         unused_is = rest.unused_is;
         follows = (record { place = q; there = there; above_is = w.above_is; shown = keeps.0 }, rest.follows);
-        leads = (refl, subst (λ (at : Option ℕ). Leads (λ n. slice_get all (n - last)) at (numbers_for problem tree spots (last + length grown)) behind) (sym (ap link_of there ∙ w.next_is)) rest.leads);
+        leads = (refl, subst (λ (at : Option ℕ). LinksLead (λ n. slice_get all (n - last)) at (numbers_for problem tree spots (last + length grown)) behind) (sym (ap link_of there ∙ w.next_is)) rest.leads);
         mine = (owned.0, rest.mine);
       })
   grafted_comes (Branch choice children ∷ tree) shows grown (s ∷ spots) bounds splits some wait apart owned fill choices keeps =
@@ -194,6 +194,6 @@ module _ (problem : Problem) (last own : ℕ) (kept : List TreeNode) (behind : O
             ∙ append_assoc splits (record { node = n; choice = choice } ∷ []) (splits_for problem tree more (first + length cs));
         unused_is = rest.unused_is;
         follows = (record { place = q; there = there; above_is = w.above_is; shown = keeps.0 }, rest.follows);
-        leads = (refl, subst (λ (at : Option ℕ). Leads (λ n. slice_get all (n - last)) at (numbers_for problem tree more (first + length cs)) behind) (sym (ap link_of there ∙ sym start)) rest.leads);
+        leads = (refl, subst (λ (at : Option ℕ). LinksLead (λ n. slice_get all (n - last)) at (numbers_for problem tree more (first + length cs)) behind) (sym (ap link_of there ∙ sym start)) rest.leads);
         mine = (owned.0, rest.mine);
       })

@@ -18,7 +18,7 @@ use Rattle.disp_model.specs.Trees.{children_of}
 use Rattle.open_nodes.specs.declared.place.Place.{Place}
 use Rattle.open_nodes.specs.declared.place.Above.{Above}
 use Rattle.open_nodes.specs.declared.work.Fragment.{Fragment}
-use Rattle.open_nodes.specs.States.{State, IsBelow, above_at, above_of, HaveSmallerParents}
+use Rattle.open_nodes.specs.States.{State, IsBoundBelow, above_at, above_of, HaveSmallerParents}
 use Rattle.open_nodes.specs.Grafts.{FillPlaces, Grows as GrowsTo}
 use Rattle.open_nodes.specs.Filled.{Spot, spots_for, IsTree, HaveChoices}
 use Rattle.open_nodes.proofs.Paths.{decisions_up}
@@ -54,7 +54,7 @@ named_new parent spots below number (d ∷ cs) named =
 -- ---- each split helps
 
 -- what is below a best cost, if there is one
-below_best : (bound : ℕ) (best : Option ℕ) → IsBelow bound best → MatchOption best (Unit {0}) (λ cost. bound < cost)
+below_best : (bound : ℕ) (best : Option ℕ) → IsBoundBelow bound best → MatchOption best (Unit {0}) (λ cost. bound < cost)
 below_best bound None below = tt
 below_best bound (Some cost) below = below
 

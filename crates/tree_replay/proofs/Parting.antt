@@ -9,7 +9,7 @@ use Rattle.disp_model.specs.Replay.{Place as Grown, branch, leaf}
 use Rattle.open_nodes.specs.declared.place.Place.{Place}
 use Rattle.open_nodes.specs.States.{State, decisions_of}
 use Rattle.open_nodes.specs.Preorder.{link_of}
-use Rattle.open_nodes.specs.Filled.{Leads}
+use Rattle.open_nodes.specs.Filled.{LinksLead}
 use Rattle.open_nodes.proofs.Paths.{no_some}
 use Rattle.open_nodes.proofs.Joining.{IsIn}
 use Rattle.tree_replay.specs.Replayed.{AreShownAt}
@@ -18,25 +18,25 @@ use Rattle.tree_replay.proofs.Splitting.{EachLeaf}
 
 module _ (look : ℕ → Option Place) where
   -- the links lead along the same numbers
-  pub same_leads : (xs ys : List ℕ) (at : Option ℕ) → Leads look at xs None → Leads look at ys None → xs ≡ ys
+  pub same_leads : (xs ys : List ℕ) (at : Option ℕ) → LinksLead look at xs None → LinksLead look at ys None → xs ≡ ys
   same_leads [] [] at f g = refl
   same_leads [] (y ∷ ys) at f g = absurd (no_some y (sym f ∙ g.0))
   same_leads (x ∷ xs) [] at f g = absurd (no_some x (sym g ∙ f.0))
   same_leads (x ∷ xs) (y ∷ ys) at f g =
       let e : x ≡ y = same_Some x y (sym f.0 ∙ g.0) in
       ap (λ (k : ℕ). k ∷ xs) e
-      ∙ ap (λ (l : List ℕ). y ∷ l) (same_leads xs ys (link_of (look y)) (subst (λ (k : ℕ). Leads look (link_of (look k)) xs None) e f.1) g.1)
+      ∙ ap (λ (l : List ℕ). y ∷ l) (same_leads xs ys (link_of (look y)) (subst (λ (k : ℕ). LinksLead look (link_of (look k)) xs None) e f.1) g.1)
 
   -- the numbers along the links are those to one of them, and those behind it
   pub record IsParted (n : ℕ) (xs : List ℕ) (at : Option ℕ) : Type 0 where
     pub front : List ℕ
     pub behind : List ℕ
     pub is : xs ≡ front ++ n ∷ behind
-    pub to_here : Leads look at front (Some n)
-    pub from_here : Leads look (link_of (look n)) behind None
+    pub to_here : LinksLead look at front (Some n)
+    pub from_here : LinksLead look (link_of (look n)) behind None
     pub not_before : IsIn n front → ⊥
 
-  pub parted : (n : ℕ) (xs : List ℕ) (at : Option ℕ) → Leads look at xs None → IsIn n xs → IsParted n xs at
+  pub parted : (n : ℕ) (xs : List ℕ) (at : Option ℕ) → LinksLead look at xs None → IsIn n xs → IsParted n xs at
   parted n [] at f h = absurd h
   parted n (x ∷ xs) at f h = elim (cases_eq x n) [
     | inl e ↦ record {
@@ -44,7 +44,7 @@ module _ (look : ℕ → Option Place) where
       behind = xs;
       is = ap (λ (k : ℕ). k ∷ xs) e;
       to_here = f.0 ∙ ap Some e;
-      from_here = subst (λ (k : ℕ). Leads look (link_of (look k)) xs None) e f.1;
+      from_here = subst (λ (k : ℕ). LinksLead look (link_of (look k)) xs None) e f.1;
       not_before = λ none. none;
     }
     | inr ne ↦

@@ -17,7 +17,7 @@ use Rattle.open_nodes.specs.declared.work.Fragment.{Fragment}
 use Rattle.open_nodes.specs.Preorder.{link_of, preorder}
 use Rattle.open_nodes.specs.States.{State, above_at, above_of, decisions_of, HaveSmallerParents, with_out}
 use Rattle.open_nodes.specs.Grafts.{Graft, AllStand, FillPlaces, placed, grown_at, Grows}
-use Rattle.open_nodes.specs.Filled.{Leads, Spot, IsTree, HaveChoices}
+use Rattle.open_nodes.specs.Filled.{LinksLead, Spot, IsTree, HaveChoices}
 use Rattle.open_nodes.proofs.Paths.{decisions_up, up_is}
 use Rattle.open_nodes.proofs.Growing.{get_more, made_stand, made_some}
 use Rattle.open_nodes.proofs.Filling.{NumbersOwn}
@@ -93,7 +93,7 @@ module _ (problem : Problem) (state : State) (tree : IsTree problem state) (n : 
       not_one : (q : ℕ) → IsIn q xs → q ≢ n
       not_one q h e = not (subst (λ (k : ℕ). IsIn k xs) e h)
 
-      leads_still : (at to : Option ℕ) → Leads (slice_get state.places) at xs to → Leads (slice_get after) at xs to
+      leads_still : (at to : Option ℕ) → LinksLead (slice_get state.places) at xs to → LinksLead (slice_get after) at xs to
       leads_still at to leads = leads_same problem (slice_get state.places) (slice_get after) state.kept more keeps xs at to
           (λ q h. let (p, has) = shown_place state xs gs are q h in others q (not_one q h) (slice_get_within state.places q p has)) leads
 
@@ -116,7 +116,7 @@ module _ (problem : Problem) (state : State) (tree : IsTree problem state) (n : 
 
     -- what is shown to the leaf, of the nodes, and behind them
     joined : (grown : List Place) → 0 < length grown → AllStand last x.above grown → IsTree problem (state_of grown)
-        → Follows problem (λ q. slice_get grown (q - last)) more subtree spots unused → Leads (λ q. slice_get grown (q - last)) (Some n) numbers x.next
+        → Follows problem (λ q. slice_get grown (q - last)) more subtree spots unused → LinksLead (λ q. slice_get grown (q - last)) (Some n) numbers x.next
         → NumbersOwn last n numbers → last + length grown ≡ unused_for problem subtree spots unused → HasGrown problem growth state n x subtree (state_of grown)
     joined [] some all tree_after follows leads mine count = absurd (omega (arith, some))
     joined (root ∷ fresh) some all tree_after follows leads mine count =
@@ -124,18 +124,18 @@ module _ (problem : Problem) (state : State) (tree : IsTree problem state) (n : 
         let made : List Place = set (places ++ fresh) n root in
         let within : n < length places = slice_get_within places n x there in
         let same = λ (q : ℕ) (h : IsIn q numbers). own_same problem places state.kept more n x root fresh there keeps q (numbers_own last n numbers mine q h) in
-        let leads_sub : Leads (slice_get made) (Some n) numbers x.next =
+        let leads_sub : LinksLead (slice_get made) (Some n) numbers x.next =
         leads_same problem (λ q. slice_get (root ∷ fresh) (q - last)) (slice_get made) more more (λ k node e. e) numbers (Some n) x.next same leads in
         let parts = parted (slice_get places) n tree.numbers (Some 0) tree.leads (on_links problem state tree n x there) in
         let shown = shown_parted state n x there (no_branch problem state tree n x there (tree.leaves n x errand there out)) parts.front parts.behind growth.places
         (subst (λ (ns : List ℕ). AreShownAt state ns growth.places) (numbers_are problem state tree ∙ parts.is) replayed.shown) in
         let not_behind : IsIn n parts.behind → ⊥ = no_return (slice_get places) n parts.behind parts.from_here in
-        let leads_front : Leads (slice_get made) (Some 0) parts.front (Some n) =
+        let leads_front : LinksLead (slice_get made) (Some 0) parts.front (Some n) =
         leads_still root fresh all parts.front shown.front shown.before parts.not_before (Some 0) (Some n) parts.to_here in
-        let leads_behind : Leads (slice_get made) x.next parts.behind None =
+        let leads_behind : LinksLead (slice_get made) x.next parts.behind None =
         leads_still root fresh all parts.behind shown.behind shown.after not_behind x.next None
-        (subst (λ (at : Option ℕ). Leads (slice_get places) at parts.behind None) (ap link_of there) parts.from_here) in
-        let leads_all : Leads (slice_get made) (Some 0) (parts.front ++ (numbers ++ parts.behind)) None =
+        (subst (λ (at : Option ℕ). LinksLead (slice_get places) at parts.behind None) (ap link_of there) parts.from_here) in
+        let leads_all : LinksLead (slice_get made) (Some 0) (parts.front ++ (numbers ++ parts.behind)) None =
         leads_append (slice_get made) parts.front (numbers ++ parts.behind) (Some 0) (Some n) None leads_front
         (leads_append (slice_get made) numbers parts.behind (Some n) x.next None leads_sub leads_behind) in
         let decisions : decisions_up x.above made ≡ decisions_of places n =

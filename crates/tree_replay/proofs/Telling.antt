@@ -12,7 +12,7 @@ use Rattle.disp_model.specs.declared.tree.TreeNode.TheVariants.{Branch, Leaf}
 use Rattle.disp_model.specs.Legal.{HasBranchesOf}
 use Rattle.disp_model.specs.Replay.{Place as Grown, branch, leaf, Growth, one_leaf as first_growth, above_leaf}
 use Rattle.open_nodes.specs.declared.place.Place.{Place}
-use Rattle.open_nodes.specs.States.{State, decisions_of, one_leaf, first_place}
+use Rattle.open_nodes.specs.States.{State, decisions_of, one_open_leaf, first_place}
 use Rattle.open_nodes.specs.Preorder.{preorder}
 use Rattle.open_nodes.specs.Filled.{IsTree}
 use Rattle.open_nodes.specs.Shown.{shown_at, shown_by, all_shown, tree_of}
@@ -98,5 +98,5 @@ module _ (problem : Problem) (growth : Growth) (state : State) where
   tells_branches tree replayed = has_branches state (preorder state.places) growth.places replayed.shown
 
 -- the first leaf
-pub one_leaf_replayed : IsReplayed first_growth one_leaf
+pub one_leaf_replayed : IsReplayed first_growth one_open_leaf
 one_leaf_replayed = record { unused = refl; shown = ((first_place, Costs [], refl, refl, refl, refl), tt) }

@@ -16,7 +16,7 @@ ghost use Rattle.open_nodes.specs.declared.work.Fragment.{Fragment};
 ghost use Rattle.open_nodes.specs.declared.work.GiveBack.{GiveBack};
 ghost use Rattle.open_nodes.specs.declared.work.Take.{Take};
 ghost use Rattle.open_nodes.specs.declared.work.Work.{Work};
-ghost use Rattle.open_nodes.specs.States.{State, one_leaf, decisions_of, Takes, GivesBack};
+ghost use Rattle.open_nodes.specs.States.{State, one_open_leaf, decisions_of, Takes, GivesBack};
 ghost use Rattle.open_nodes.specs.Grafts.{FillPlaces, Grows as GrowsTo};
 ghost use Rattle.open_nodes.specs.Filled.{IsTree, HaveChoices};
 ghost use Rattle.open_nodes.specs.Shown.{tree_of, fallen_at, with_edition};
@@ -25,7 +25,7 @@ ghost use Rattle.tree_replay.specs.Replayed.{IsReplayed};
 
 /// The first leaf is the tree before any split.
 pub fn one_leaf_is_replayed()
-    ensures { IsReplayed first_growth one_leaf }
+    ensures { IsReplayed first_growth one_open_leaf }
 {}
 
 /// Where a fragment has grown, the tree is the one that its splits grow.

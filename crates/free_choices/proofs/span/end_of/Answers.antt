@@ -4,20 +4,20 @@ use Rattle.disp_model.specs.declared.train.Op.{Op}
 use Rattle.disp_model.specs.declared.problem.Problem.{Problem}
 use Rattle.disp_model.specs.Arcs.{min_of, GoesTo}
 use Rattle.disp_laws.proofs.OpenChoices.{goes_to_forced}
-use Rattle.route_sets.specs.Sets.{op_of}
+use Rattle.route_sets.specs.Sets.{op_of_train}
 use Rattle.free_choices.proofs.span.end_of.Goals as goal
 
 pub start_of-requires : goal.start_of-requires
 start_of-requires c =
     let node = c.args.graph.now in
     let says = (c.only_next.ensures node c.args.op.train c.routes.ensures.routes c.in-Some.next).0 c.in-Some.is in
-    goes_to_forced node c.args.op (op_of c.args.op.train c.in-Some.next) says.0 says.1
+    goes_to_forced node c.args.op (op_of_train c.args.op.train c.in-Some.next) says.0 says.1
 
 pub returns-in-Some : goal.returns-in-Some
 returns-in-Some c =
     let node = c.args.graph.now in
     let says = (c.only_next.ensures node c.args.op.train c.routes.ensures.routes c.in-Some.next).0 c.in-Some.is in
-    rw c.from.ensures (inl (op_of c.args.op.train c.in-Some.next, says.1, c.start_of.ensures))
+    rw c.from.ensures (inl (op_of_train c.args.op.train c.in-Some.next, says.1, c.start_of.ensures))
 
 pub returns-in-None : goal.returns-in-None
 returns-in-None c =

@@ -1,8 +1,8 @@
 use Rattle.std.proofs.Common.{◌≡◌, ℕ}
 use Rattle.instance_maker.specs.Draws.{pairs_of}
-use Rattle.instance_maker.specs.Made.{trains_of, pair_count}
+use Rattle.instance_maker.specs.Made.{made_trains, pair_count}
 use Rattle.instance_maker.proofs.problem.trains_of.Given as goal
 
 abbrev pub invariant-loop-t : goal.invariant-loop-t
 invariant-loop-t l = (number : ℕ) → l.pairs ≡ pairs_of number (pair_count l.count)
-    → l.trains ≡ trains_of number l.t
+    → l.trains ≡ made_trains number l.t

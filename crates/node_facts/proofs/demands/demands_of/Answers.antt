@@ -1,6 +1,6 @@
 use Rattle.std.specs.Prelude.{All}
 use Rattle.disp_model.specs.Routes.{AgreesWithFixing, AgreesWithDecision}
-use Rattle.node_facts.specs.Demands.{demand_of_decision}
+use Rattle.node_facts.specs.Demands.{decision_demand}
 use Rattle.node_facts.proofs.Demanding.{decision_asks, asks_first, asks_more, asks_whole}
 use Rattle.node_facts.proofs.demands.demands_of.Goals as goal
 
@@ -11,7 +11,7 @@ pub loop-decision-preserved : goal.loop-decision-preserved
 loop-decision-preserved c =
     let t = c.args.train in
     rw c.in_ok-add.ensures
-    (asks_more (λ route. All (AgreesWithFixing t route) c.args.fixings.now) (AgreesWithDecision t) (demand_of_decision t) c.args.decisions.now c.loop-decision.decision-index _ c.demand_of_decision.result c.loop-decision.demands.items c.loop-decision-test.true
+    (asks_more (λ route. All (AgreesWithFixing t route) c.args.fixings.now) (AgreesWithDecision t) (decision_demand t) c.args.decisions.now c.loop-decision.decision-index _ c.demand_of_decision.result c.loop-decision.demands.items c.loop-decision-test.true
     (decision_asks t) c.demand_of_decision.ensures c.loop-decision.invariant)
 
 pub returns : goal.returns

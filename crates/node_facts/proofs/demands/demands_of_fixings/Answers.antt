@@ -1,6 +1,6 @@
 use Rattle.std.specs.Prelude.{All}
 use Rattle.disp_model.specs.Routes.{AgreesWithFixing}
-use Rattle.node_facts.specs.Demands.{demand_of_fixing}
+use Rattle.node_facts.specs.Demands.{fixing_demand}
 use Rattle.node_facts.proofs.Demanding.{fixing_asks, asks_more, asks_whole, asks_alone}
 use Rattle.node_facts.proofs.demands.demands_of_fixings.Goals as goal
 
@@ -8,7 +8,7 @@ pub loop-fixing-preserved : goal.loop-fixing-preserved
 loop-fixing-preserved c =
     let t = c.args.train in
     rw c.in_ok-add.ensures
-    (asks_more (λ route. Unit {0}) (AgreesWithFixing t) (demand_of_fixing t) c.args.fixings.now c.loop-fixing.fixing-index _ c.demand_of_fixing.result c.loop-fixing.demands.items c.loop-fixing-test.true
+    (asks_more (λ route. Unit {0}) (AgreesWithFixing t) (fixing_demand t) c.args.fixings.now c.loop-fixing.fixing-index _ c.demand_of_fixing.result c.loop-fixing.demands.items c.loop-fixing-test.true
     (fixing_asks t) c.demand_of_fixing.ensures c.loop-fixing.invariant)
 
 pub returns : goal.returns

@@ -1,11 +1,11 @@
 -- what was compared, and what is still compared
 use Rattle.std.proofs.Common.{◌≡◌, ◌-◌, take, length}
-use Rattle.packed_nodes.specs.Packed.{items_at, component_walk_at}
+use Rattle.packed_nodes.specs.Packed.{packed_items_at, component_walk_at}
 use Rattle.packed_nodes.proofs.Looping.{with_front}
 use Rattle.packed_nodes.proofs.check.behind_each_component_walk.Given as goal
 
 abbrev pub invariant-loop-walk : goal.invariant-loop-walk
 invariant-loop-walk l =
     with_front (take l.walk-index l.walks)
-    (items_at component_walk_at (length l.walks - l.walk-index) l.rest)
-    ≡ items_at component_walk_at (length l.walks) l.bytes
+    (packed_items_at component_walk_at (length l.walks - l.walk-index) l.rest)
+    ≡ packed_items_at component_walk_at (length l.walks) l.bytes

@@ -1,10 +1,10 @@
 -- what was read, and what is still read
 use Rattle.std.proofs.Common.{◌≡◌, ◌-◌}
-use Rattle.packed_nodes.specs.Packed.{items_at, train_at}
+use Rattle.packed_nodes.specs.Packed.{packed_items_at, packed_train_at}
 use Rattle.packed_nodes.proofs.Looping.{with_front}
 use Rattle.packed_nodes.proofs.read.trains_in.Given as goal
 
 abbrev pub invariant-loop : goal.invariant-loop
 invariant-loop l =
-    with_front l.trains.items (items_at train_at (l.count - l.counter) l.rest)
-    ≡ items_at train_at l.count l.bytes
+    with_front l.trains.items (packed_items_at packed_train_at (l.count - l.counter) l.rest)
+    ≡ packed_items_at packed_train_at l.count l.bytes

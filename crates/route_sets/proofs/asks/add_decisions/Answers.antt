@@ -3,7 +3,7 @@ use Rattle.std.specs.Prelude.{All}
 use Rattle.std.proofs.lemmas.List.{take_all}
 use Rattle.disp_model.specs.declared.decision.Decision.{Decision}
 use Rattle.disp_model.specs.Routes.{AgreesWithDecision}
-use Rattle.route_sets.specs.Asks.{demand_of_decision, Takes}
+use Rattle.route_sets.specs.Asks.{demand_of_decision, TakesAsks}
 use Rattle.route_sets.proofs.Asking.{decision_asks, takes_more}
 use Rattle.route_sets.proofs.asks.add_decisions.Goals as goal
 
@@ -18,4 +18,4 @@ pub returns : goal.returns
 returns c =
     let xs = c.args.decisions.now in
     let whole : take c.loop-decision.decision-index xs ≡ xs = take_all c.loop-decision.decision-index xs (omega (arith, c.loop-decision-test.false)) in
-    subst (λ (l : List Decision). Takes (λ route. All (AgreesWithDecision c.args.train route) l) c.args.asks.now.items c.loop-decision.asks.items) whole c.loop-decision.invariant
+    subst (λ (l : List Decision). TakesAsks (λ route. All (AgreesWithDecision c.args.train route) l) c.args.asks.now.items c.loop-decision.asks.items) whole c.loop-decision.invariant

@@ -3,7 +3,7 @@ use Rattle.std.specs.Prelude.{All}
 use Rattle.std.proofs.lemmas.List.{take_all}
 use Rattle.disp_model.specs.declared.fixing.Fixing.{Fixing}
 use Rattle.disp_model.specs.Routes.{AgreesWithFixing}
-use Rattle.route_sets.specs.Asks.{demand_of_fixing, Takes}
+use Rattle.route_sets.specs.Asks.{demand_of_fixing, TakesAsks}
 use Rattle.route_sets.proofs.Asking.{fixing_asks, takes_more}
 use Rattle.route_sets.proofs.asks.add_fixings.Goals as goal
 
@@ -18,4 +18,4 @@ pub returns : goal.returns
 returns c =
     let xs = c.args.fixings.now in
     let whole : take c.loop-fixing.fixing-index xs ≡ xs = take_all c.loop-fixing.fixing-index xs (omega (arith, c.loop-fixing-test.false)) in
-    subst (λ (l : List Fixing). Takes (λ route. All (AgreesWithFixing c.args.train route) l) c.args.asks.now.items c.loop-fixing.asks.items) whole c.loop-fixing.invariant
+    subst (λ (l : List Fixing). TakesAsks (λ route. All (AgreesWithFixing c.args.train route) l) c.args.asks.now.items c.loop-fixing.asks.items) whole c.loop-fixing.invariant

@@ -1,11 +1,11 @@
 use Rattle.std.proofs.Common.{◌≡◌}
 use Rattle.share_bound.specs.Known.{HoldFor}
-use Rattle.search_workers.specs.Searched.{GoesOn, IsOfNewest}
+use Rattle.search_workers.specs.Searched.{CoreGoesOn, IsOfNewest}
 use Rattle.search_workers.proofs.search.rounds.Given as goal
 
 abbrev pub invariant-loop : goal.invariant-loop
 invariant-loop l = record {
-  on : GoesOn l.initial.core l.core;
+  on : CoreGoesOn l.initial.core l.core;
   newest : IsOfNewest l.core l.graph;
   problem : l.core.problem ≡ l.problem;
   rule : l.core.settings.rule ≡ l.reckoning.rule;

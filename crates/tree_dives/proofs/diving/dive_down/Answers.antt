@@ -4,7 +4,7 @@ use Rattle.disp_model.specs.Node.{Node}
 use Rattle.tree_dives.specs.declared.stage.Stage.TheVariants as stages
 use Rattle.tree_dives.specs.Stages.{IsStageAt}
 use Rattle.tree_dives.specs.Halves.{Completes, IsBelowNode}
-use Rattle.tree_dives.specs.Downs.{sides_of, GoesOn}
+use Rattle.tree_dives.specs.Downs.{sides_of, DiveGoesOn}
 use Rattle.tree_dives.proofs.Ending.{whole_dive, ended_there, spent_there}
 use Rattle.tree_dives.proofs.Growing.{below_below}
 use Rattle.tree_dives.proofs.diving.dive_down.Goals as goal
@@ -21,7 +21,7 @@ returns-then-not-branch-clause-dive c =
     (subst (IsStageAt rule best c.loop.graph) c.in-Branch.is c.in_ok-choice.ensures.stage) in
     let completes = subst (λ (n : Node). Completes rule best root n sides) back inv.completes in
     let down = c.in_ok-go_down-in-Branch.ensures.down in
-    let complete = subst (GoesOn rule best root c.go_down.new.graph (sides_of c.go_down.new.halves))
+    let complete = subst (DiveGoesOn rule best root c.go_down.new.graph (sides_of c.go_down.new.halves))
     c.if-not-branch.true (down.0 best root helps completes) in
     IfOk-weaker c.whole.result _ _ (λ dive is.
     whole_dive rule best root c.args.allowance (sides_of c.go_down.new.halves) dive c.loop.counter
@@ -63,7 +63,7 @@ loop-preserved c =
       problem = ensures.below.problem ∙ here;
       below = below_below root _ c.go_down.new.graph below ensures.below;
       completes = subst
-          (GoesOn rule best root c.go_down.new.graph (sides_of c.go_down.new.halves))
+          (DiveGoesOn rule best root c.go_down.new.graph (sides_of c.go_down.new.halves))
           c.if-not-branch.false (ensures.down.0 best root helps completes);
       count = omega (arith, ensures.down.1, inv.count);
       known = ensures.known;

@@ -5,8 +5,8 @@ use Rattle.disp_model.specs.declared.problem.Problem.{Problem}
 use Rattle.disp_model.specs.Node.{Node, with_decision}
 use Rattle.disp_model.specs.Trees.{children_of}
 use Rattle.node_leaves.specs.Shown.{IsLeafOf}
-use Rattle.tree_growth.specs.Grown.{Grows}
-use Rattle.tree_dives.specs.Leaves.{leaf_in, bound_in}
+use Rattle.tree_growth.specs.Grown.{GrowsBelow}
+use Rattle.tree_dives.specs.Leaves.{leaf_held, bound_in}
 use Rattle.tree_dives.specs.Halves.{IsBelowNode}
 use Rattle.tree_dives.specs.Downs.{sides_of}
 use Rattle.tree_growth.proofs.Children.{children_few}
@@ -34,8 +34,8 @@ returns-in_default-clause-down c =
     let all : children_of node.problem c.args.choice ≡ c.split_at.result.0.now = parted d ∙ ap (λ (l : List Decision). c.split_at.result.0.now ++ l) (nil_from_length c.split_at.result.1.now c.in_default.ensures.cases) ∙ append-nil c.split_at.result.0.now in
     rw (c.in_ok-append.ensures.nodes, c.in_ok-append.ensures.bounds, c.in_ok-push_branch.ensures.nodes, c.in_ok-push_branch.ensures.bounds)
     (all_leaves c.args.reckoning.now.rule c.args.choice node node (sides_of c.args.halves.now) c.len.result (counted d) c.in_ok-left.left.nodes.items c.in_ok-left.left.bounds.items
-    (λ best. subst (λ (ds : List Decision). Grows c.args.reckoning.now.rule best (map (with_decision node) ds) c.in_ok-left.left.nodes.items c.in_ok-left.left.bounds.items) (sym all)
-    (subst (λ (n : Node). Grows c.args.reckoning.now.rule best (map (with_decision n) c.split_at.result.0.now) c.in_ok-left.left.nodes.items c.in_ok-left.left.bounds.items) c.preferred-place.ensures.same (c.in_ok-left.ensures.grows best)))
+    (λ best. subst (λ (ds : List Decision). GrowsBelow c.args.reckoning.now.rule best (map (with_decision node) ds) c.in_ok-left.left.nodes.items c.in_ok-left.left.bounds.items) (sym all)
+    (subst (λ (n : Node). GrowsBelow c.args.reckoning.now.rule best (map (with_decision n) c.split_at.result.0.now) c.in_ok-left.left.nodes.items c.in_ok-left.left.bounds.items) c.preferred-place.ensures.same (c.in_ok-left.ensures.grows best)))
     c.in_ok-left.ensures.leaves)
 
 pub returns-then-branch-clause-down : goal.returns-then-branch-clause-down
@@ -48,8 +48,8 @@ returns-then-branch-clause-down c =
     rw (c.in_ok-append.ensures.nodes, c.in_ok-append.ensures.bounds, c.in_ok-push_branch.ensures.nodes, c.in_ok-push_branch.ensures.bounds, c.in_ok-append_back.ensures.nodes, c.in_ok-append_back.ensures.bounds)
     (one_followed c.args.reckoning.now.rule c.args.choice node c.follow.new.graph (sides_of c.args.halves.now) c.len.result (counted d) c.split_at.result.0.now c.in-Some.last.now c.in-Some.followed.now c.in_ok-left.left.nodes.items c.in_ok-right.right.nodes.items c.in_ok-left.left.bounds.items c.in_ok-right.right.bounds.items
     below (parted d ∙ ap (λ (l : List Decision). c.split_at.result.0.now ++ l) c.in-Some.ensures.cases.0)
-    (λ best. subst (λ (n : Node). Grows c.args.reckoning.now.rule best (map (with_decision n) c.split_at.result.0.now) c.in_ok-left.left.nodes.items c.in_ok-left.left.bounds.items) c.preferred-place.ensures.same (c.in_ok-left.ensures.grows best))
-    (λ best. subst (λ (n : Node). Grows c.args.reckoning.now.rule best (map (with_decision n) c.in-Some.last.now) c.in_ok-right.right.nodes.items c.in_ok-right.right.bounds.items) kept (c.in_ok-right.ensures.grows best))
+    (λ best. subst (λ (n : Node). GrowsBelow c.args.reckoning.now.rule best (map (with_decision n) c.split_at.result.0.now) c.in_ok-left.left.nodes.items c.in_ok-left.left.bounds.items) c.preferred-place.ensures.same (c.in_ok-left.ensures.grows best))
+    (λ best. subst (λ (n : Node). GrowsBelow c.args.reckoning.now.rule best (map (with_decision n) c.in-Some.last.now) c.in_ok-right.right.nodes.items c.in_ok-right.right.bounds.items) kept (c.in_ok-right.ensures.grows best))
     c.in_ok-left.ensures.leaves c.in_ok-right.ensures.leaves)
 
 deeper_by_one : (here below : Node) (d : Decision) → below ≡ with_decision here d → IsBelowNode here below
@@ -78,9 +78,9 @@ returns-clause-down c =
     let there : c.leaves_of-2.new.graph ≡ node = c.in_ok-right.ensures.same ∙ kept in
     let still : c.follow.new.graph ≡ node = c.in_ok-follow.ensures.no c.if-branch.false ∙ there in
     rw (c.in_ok-append-2.ensures.nodes, c.in_ok-append-2.ensures.bounds, c.in_ok-push_leaf.ensures.nodes, c.in_ok-push_leaf.ensures.bounds, c.in_ok-append.ensures.nodes, c.in_ok-append.ensures.bounds, c.in_ok-push_branch.ensures.nodes, c.in_ok-push_branch.ensures.bounds)
-    (none_followed c.args.reckoning.now.rule c.args.choice node node (sides_of c.args.halves.now) c.len.result (counted d) c.split_at.result.0.now c.in-Some.last.now c.in-Some.followed.now c.in_ok-left.left.nodes.items c.in_ok-right.right.nodes.items (leaf_in c.in_ok-leaf.leaf) (bound_in c.in_ok-leaf.leaf) c.in_ok-left.left.bounds.items c.in_ok-right.right.bounds.items
+    (none_followed c.args.reckoning.now.rule c.args.choice node node (sides_of c.args.halves.now) c.len.result (counted d) c.split_at.result.0.now c.in-Some.last.now c.in-Some.followed.now c.in_ok-left.left.nodes.items c.in_ok-right.right.nodes.items (leaf_held c.in_ok-leaf.leaf) (bound_in c.in_ok-leaf.leaf) c.in_ok-left.left.bounds.items c.in_ok-right.right.bounds.items
     (parted d ∙ ap (λ (l : List Decision). c.split_at.result.0.now ++ l) c.in-Some.ensures.cases.0)
-    (λ best. subst (λ (n : Node). Grows c.args.reckoning.now.rule best (map (with_decision n) c.split_at.result.0.now) c.in_ok-left.left.nodes.items c.in_ok-left.left.bounds.items) c.preferred-place.ensures.same (c.in_ok-left.ensures.grows best))
+    (λ best. subst (λ (n : Node). GrowsBelow c.args.reckoning.now.rule best (map (with_decision n) c.split_at.result.0.now) c.in_ok-left.left.nodes.items c.in_ok-left.left.bounds.items) c.preferred-place.ensures.same (c.in_ok-left.ensures.grows best))
     (keeps c.args.reckoning.now.rule (with_decision node c.in-Some.followed.now) c.in_ok-leaf.leaf (subst (λ (n : Node). IsLeafOf c.args.reckoning.now.rule (with_decision n c.in-Some.followed.now) c.in_ok-leaf.leaf) still c.in_ok-leaf.ensures.leaf))
-    (λ best. subst (λ (n : Node). Grows c.args.reckoning.now.rule best (map (with_decision n) c.in-Some.last.now) c.in_ok-right.right.nodes.items c.in_ok-right.right.bounds.items) kept (c.in_ok-right.ensures.grows best))
+    (λ best. subst (λ (n : Node). GrowsBelow c.args.reckoning.now.rule best (map (with_decision n) c.in-Some.last.now) c.in_ok-right.right.nodes.items c.in_ok-right.right.bounds.items) kept (c.in_ok-right.ensures.grows best))
     c.in_ok-left.ensures.leaves c.in_ok-right.ensures.leaves)

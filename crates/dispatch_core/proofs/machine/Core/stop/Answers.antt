@@ -5,7 +5,7 @@ use Rattle.disp_model.specs.History.{newest}
 use Rattle.disp_model.specs.Replay.{spent_on}
 use Rattle.dispatch_core.specs.declared.event.CoreReply.TheVariants as reply
 use Rattle.dispatch_core.specs.States.{Core, entered}
-use Rattle.dispatch_core.specs.Replies.{IsCurrent, IsRipe, IsStop}
+use Rattle.dispatch_core.specs.Replies.{IsCurrent, IsRipe, IsStopBound}
 use Rattle.dispatch_core.proofs.Stopping.{stops_sound}
 use Rattle.dispatch_core.proofs.Closing.{stopped_kept, all_spent, ripe_at, some_open, stop_at}
 use Rattle.dispatch_core.proofs.machine.Core.stop.Goals as goal
@@ -56,6 +56,6 @@ returns-clause-ok c =
     let stop = stop_at core sound inside.best inside.spent kept.best_is kept.spent_is c.if-self.false c.in-Some-wanted.field-0 c.in-Some-wanted.ensures bound c.in_default-unexamined.ensures c.in-Some-bound.ensures in
     let spent : c.from-spent.result ≡ spent_on (newest core.history) core.history = c.from-spent.ensures ∙ kept.spent_is in (
       c.in_default.ensures,
-      subst (λ (s : Core). IsStop s bound) c.self.view_is stop,
+      subst (λ (s : Core). IsStopBound s bound) c.self.view_is stop,
       rw c.in_ok-push.ensures.items (subst (λ (s : Core). entered core (Stopped c.args.edition c.from-spent.result bound) ≡ entered s (Stopped c.args.edition (spent_on (newest s.history) s.history) bound)) c.self.view_is (ap (λ n. entered core (Stopped c.args.edition n bound)) spent)),
     )

@@ -3,7 +3,7 @@ use Rattle.std.proofs.lemmas.Result.{err_from_is_err_and}
 use Rattle.std.proofs.lemmas.List.{length-append}
 use Rattle.std.proofs.lemmas.List.Elements.{All-push}
 use Rattle.incremental_paths.specs.declared.arc.Arc.{Arc}
-use Rattle.incremental_paths.specs.Walks.{HasCycle, IsLongest}
+use Rattle.incremental_paths.specs.Walks.{ArcsHaveCycle, IsLongestLength}
 use Rattle.incremental_paths.specs.Marked.{AreRising}
 use Rattle.incremental_paths.specs.Spread.{WalksFit}
 use Rattle.incremental_paths.proofs.Reordering.{rising_free}
@@ -21,7 +21,7 @@ rising : (g : Over) (c : In_default g) → AreRising (c.self.inside.arcs.items +
 unfolding arc
 rising g c = rw c.deref.ensures.value at (c.in_default.ensures.ok c.args.length)
 
-no_cycle : (g : Over) (c : In_default g) → HasCycle (c.args.self.now.network.arcs ++ arc g c ∷ []) → ⊥
+no_cycle : (g : Over) (c : In_default g) → ArcsHaveCycle (c.args.self.now.network.arcs ++ arc g c ∷ []) → ⊥
 unfolding arc
 no_cycle g c = rw (← c.self.view_is) (rising_free (c.self.inside.arcs.items ++ arc g c ∷ []) c.order_with.new.order (rising g c))
 
@@ -125,7 +125,7 @@ returns-clause-few g c =
     let f = c.self.inside in
     let from : c.args.from < length f.lowers.items = rw (← c.self.view_is) at c.requires.from in
     let to : c.args.to < length f.lowers.items = rw (← c.self.view_is) at c.requires.to in
-    let is : (v : ℕ) → v < length f.lowers.items → IsLongest f.lowers.items f.arcs.items v (get_or f.lengths.items v 0) = kept_longest f.lowers.items f.arcs.items f.begun f.ended f.order f.marks f.lengths.items f.trail.items f.starts.items f.stale f.changes.grown.size c.self.invariant.0 in
+    let is : (v : ℕ) → v < length f.lowers.items → IsLongestLength f.lowers.items f.arcs.items v (get_or f.lengths.items v 0) = kept_longest f.lowers.items f.arcs.items f.begun f.ended f.order f.marks f.lengths.items f.trail.items f.starts.items f.stale f.changes.grown.size c.self.invariant.0 in
     rw (← c.self.view_is) (λ up at_from at_to longest_from longest_to le.
     let same_from = longest_unique f.lowers.items f.arcs.items c.args.from (get_or f.lengths.items c.args.from 0) at_from (is c.args.from from) longest_from in
     let same_to = longest_unique f.lowers.items f.arcs.items c.args.to (get_or f.lengths.items c.args.to 0) at_to (is c.args.to to) longest_to in

@@ -2,7 +2,8 @@ use Rattle.std.proofs.Common.{◌≡◌, ◌∙◌, ℕ, List, Option, Bool, len
 use Rattle.disp_model.specs.declared.train.Operation.{Operation}
 use Rattle.disp_model.specs.Valid.{train_at}
 use Rattle.node_facts.specs.declared.demands.Demand.{Demand}
-use Rattle.node_facts.specs.Ways.{AreSums, last_of}
+use Rattle.node_facts.specs.Ways.{AreSums}
+use Rattle.route_marks.specs.Ways.{last_of}
 use Rattle.route_marks.specs.Marks.{ArePlaces}
 use Rattle.node_facts.specs.Holders.{AreHolders}
 use Rattle.node_facts.specs.Known.{AreOnEach}
