@@ -1,6 +1,6 @@
 -- How the bounds of a problem's nodes are reckoned.
 use Rattle.disp_model.specs.declared.problem.Problem.{Problem}
-use Rattle.share_bound.specs.Components.{AreOwnOf}
+use Rattle.problem_facts.specs.Components.{AreOwnOf}
 use Rattle.node_leaves.specs.declared.reckoning.Reckoning.{Reckoning}
 
 -- the components by their trains are those of the problem

@@ -6,7 +6,8 @@ ghost use Rattle.share_bound.specs.Known.{HoldFor};
 use cost_bound::cost;
 use disp_model::{Memory, Problem, Rule};
 use event_graph::Graph;
-use share_bound::{KnownShares, OwnComponents};
+use problem_facts::OwnComponents;
+use share_bound::KnownShares;
 use std::alloc::Global;
 
 /// How the bounds of a problem's nodes are reckoned: by the components that must be paid under the

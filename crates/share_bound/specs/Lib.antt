@@ -2,7 +2,6 @@ pub mod Times
 pub mod Prices
 pub mod Leasts
 pub mod Bases
-pub mod Components
 pub mod Shown
 pub mod Free
 pub mod Known

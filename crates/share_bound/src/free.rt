@@ -1,13 +1,13 @@
 ghost use Rattle.std.specs.Prelude.{◌≡◌, ◌+◌, ◌<◌, IfOk, OnOk, length};
-ghost use Rattle.share_bound.specs.Components.{AreOwnOf};
+ghost use Rattle.problem_facts.specs.Components.{AreOwnOf};
 ghost use Rattle.share_bound.specs.Free.{IsFreeBound, AreListedTo};
 
-use crate::components::OwnComponents;
 use crate::shares::{free_cost, share_of, train_of};
 use crate::shown::walks_of;
 use cost_bound::{bound, cost};
 use disp_model::{ComponentWalk, List, Memory, Problem, TrainWalks};
 use event_graph::Graph;
+use problem_facts::OwnComponents;
 use std::alloc::Global;
 
 /// What plans cost at least at a node under the free rule, with walks to distinct components and

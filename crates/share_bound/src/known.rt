@@ -6,15 +6,15 @@ ghost use Rattle.disp_model.specs.Shares.{IsBound};
 ghost use Rattle.event_arcs.specs.Owned.{train_of_decision};
 ghost use Rattle.share_bound.specs.declared.known.KnownShare.{KnownShare as KnownShareOf};
 ghost use Rattle.share_bound.specs.Bases.{AreBasesTo, IsShareWithin};
-ghost use Rattle.share_bound.specs.Components.{AreOwnOf};
+ghost use Rattle.problem_facts.specs.Components.{AreOwnOf};
 ghost use Rattle.share_bound.specs.Known.{known_of, HoldsFor, HoldFor, IsAboutNone, IsCurrentShare, IsShareCurrent};
 
 use crate::bases::{base_of, bases_of};
-use crate::components::OwnComponents;
 use crate::shares::{share_over, train_of};
 use disp_model::{Decision, Memory, Op, Problem};
 use event_arcs::train_of_decision;
 use event_graph::Graph;
+use problem_facts::OwnComponents;
 use std::alloc::Global;
 use std::mem;
 

@@ -7,7 +7,6 @@
 #![tactic(auto)]
 
 mod bases;
-mod components;
 mod free;
 mod known;
 mod least;
@@ -17,7 +16,6 @@ mod shown;
 mod times;
 
 pub use bases::{base_of, bases_of};
-pub use components::OwnComponents;
 pub use free::{FreeBound, free_bound};
 pub use known::{KnownShare, KnownShares};
 pub use prices::cost_of;

@@ -3,15 +3,15 @@ ghost use Rattle.disp_model.specs.declared.settings.Rule.TheVariants.{Free};
 ghost use Rattle.disp_model.specs.Valid.{train_at};
 ghost use Rattle.disp_model.specs.Shares.{IsShare, IsBound};
 ghost use Rattle.share_bound.specs.Bases.{IsShareWithin};
-ghost use Rattle.share_bound.specs.Components.{AreOwnOf};
+ghost use Rattle.problem_facts.specs.Components.{AreOwnOf};
 ghost use Rattle.share_bound.specs.Leasts.{IsFittedShare};
 ghost use Rattle.share_bound.specs.Times.{base_in};
 
 use crate::bases::bases_of;
-use crate::components::OwnComponents;
 use crate::least::least_over;
 use disp_model::{Memory, Operation, Problem};
 use event_graph::Graph;
+use problem_facts::OwnComponents;
 use std::alloc::Global;
 
 /// The operations of a train.

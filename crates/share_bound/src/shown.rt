@@ -1,14 +1,14 @@
 ghost use Rattle.std.specs.Prelude.{◌≡◌, ◌+◌, ◌<◌, ◌^◌, IfOk, OnOk, length};
 ghost use Rattle.disp_model.specs.Valid.{train_at};
 ghost use Rattle.event_windows.specs.Operations.{HasOperation};
-ghost use Rattle.share_bound.specs.Components.{AreOwnOf};
+ghost use Rattle.problem_facts.specs.Components.{AreOwnOf};
 ghost use Rattle.share_bound.specs.Shown.{ShowsTo, IsShownShare};
 
-use crate::components::OwnComponents;
 use crate::shares::{share, train_of};
 use cost_bound::longest_walk;
 use disp_model::{List, Memory, Op, Problem, TrainWalks};
 use event_graph::Graph;
+use problem_facts::OwnComponents;
 use std::alloc::Global;
 
 /// The share of a train, and walks that show it.

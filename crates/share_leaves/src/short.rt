@@ -1,5 +1,5 @@
 ghost use Rattle.std.specs.Prelude.{◌≡◌, IfOk};
-ghost use Rattle.share_bound.specs.Components.{AreOwnOf};
+ghost use Rattle.problem_facts.specs.Components.{AreOwnOf};
 ghost use Rattle.share_bound.specs.Free.{IsFreeBound};
 ghost use Rattle.share_bound.specs.Known.{HoldFor};
 
@@ -7,7 +7,8 @@ use crate::trains::{Listed, Shares, list_trains};
 use crate::walks::{Walks, walks_beside};
 use disp_model::{Memory, Problem};
 use event_graph::Graph;
-use share_bound::{FreeBound, KnownShares, OwnComponents, free_bound};
+use problem_facts::OwnComponents;
+use share_bound::{FreeBound, KnownShares, free_bound};
 use std::alloc::Global;
 
 /// The bound of a node of the problem under the free rule, with a leaf that shows it: trains whose

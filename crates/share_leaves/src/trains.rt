@@ -1,7 +1,7 @@
 ghost use Rattle.std.specs.Prelude.{◌≡◌, ◌+◌, ◌<◌, IfOk, OnOk, length};
 ghost use Rattle.disp_model.specs.Valid.{train_at};
 ghost use Rattle.share_bound.specs.Bases.{AddUpTo, AreBasesTo, IsShareWithin};
-ghost use Rattle.share_bound.specs.Components.{AreOwnOf};
+ghost use Rattle.problem_facts.specs.Components.{AreOwnOf};
 ghost use Rattle.share_leaves.specs.Listed.{AreListed};
 ghost use Rattle.share_bound.specs.Known.{HoldFor, IsCurrentShare};
 
@@ -9,7 +9,8 @@ use crate::listed::{ShownBases, shown_bases};
 use crate::needed::deciding;
 use disp_model::{Component, List, Memory, Problem, TrainWalks};
 use event_graph::Graph;
-use share_bound::{KnownShare, KnownShares, OwnComponents, cost_of, share_over, train_of};
+use problem_facts::OwnComponents;
+use share_bound::{KnownShare, KnownShares, cost_of, share_over, train_of};
 use std::alloc::Global;
 
 /// Trains with walks that show their shares, and what these come to at least.

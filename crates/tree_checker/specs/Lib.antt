@@ -3,5 +3,4 @@ pub mod Checks
 pub mod Places
 pub mod Bounds
 pub mod TrainCosts
-pub mod Components
 pub mod Descents

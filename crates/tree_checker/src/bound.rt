@@ -2,13 +2,13 @@ ghost use Rattle.std.specs.Prelude.{IfOk};
 ghost use Rattle.disp_model.specs.Node.{node_at};
 ghost use Rattle.node_facts.specs.Orders.{AreKnown};
 ghost use Rattle.tree_checker.specs.Bounds.{IsBoundOfAll};
-ghost use Rattle.tree_checker.specs.Components.{AreOwnOf};
+ghost use Rattle.problem_facts.specs.Components.{AreOwnOf};
 
-use crate::components::OwnComponents;
 use crate::shares::shares_cost;
 use decision_paths::DecisionPath;
 use disp_model::{ComponentWalk, Fixing, Memory, Problem, TrainWalks};
 use node_facts::{TrainKnowledge, walks_cost};
+use problem_facts::OwnComponents;
 use std::alloc::Global;
 
 /// What walks and listed trains cost together; none where one of them shows no cost.

@@ -3,10 +3,9 @@ ghost use Rattle.disp_model.specs.Node.{node_at};
 ghost use Rattle.node_facts.specs.Orders.{AreKnown};
 ghost use Rattle.tree_checker.specs.Places.{IsNested, IsStep};
 ghost use Rattle.tree_checker.specs.Checks.{IsChecked};
-ghost use Rattle.tree_checker.specs.Components.{AreOwnOf};
+ghost use Rattle.problem_facts.specs.Components.{AreOwnOf};
 
 use crate::children::decisions_below;
-use crate::components::OwnComponents;
 use crate::descent::descend;
 use crate::judging::judge;
 use crate::places::{Place, open};
@@ -14,6 +13,7 @@ use crate::why::{Checked, Why};
 use decision_paths::DecisionPath;
 use disp_model::{Fixing, Memory, Problem, TreeNode, Verdict};
 use node_facts::{TrainKnowledge, known_of};
+use problem_facts::OwnComponents;
 use std::alloc::Global;
 
 /// Puts a node of the tree into the next place, and its children before those that are left; says

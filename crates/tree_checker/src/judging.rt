@@ -8,12 +8,11 @@ ghost use Rattle.disp_model.specs.Node.{node_at};
 ghost use Rattle.disp_model.specs.Routes.{HasNoRoute};
 ghost use Rattle.disp_model.specs.Trees.{LeafHolds, Shows};
 ghost use Rattle.node_facts.specs.Orders.{AreKnown};
-ghost use Rattle.tree_checker.specs.Components.{AreOwnOf};
+ghost use Rattle.problem_facts.specs.Components.{AreOwnOf};
 ghost use Rattle.tree_checker.specs.Rules.{KeepsAllRules, IsFirstRule, TreeNodeHolds, IsRefusedFor};
 
 use crate::bound::bound_of;
 use crate::branch::is_branch;
-use crate::components::OwnComponents;
 use crate::first::first_rule;
 use crate::leaf::{component_walks, listed_trains};
 use crate::names::are_named;
@@ -22,6 +21,7 @@ use crate::why::Why;
 use decision_paths::DecisionPath;
 use disp_model::{Choice, Decision, Fixing, Leaf, Memory, Problem, TreeNode, Verdict};
 use node_facts::{TrainKnowledge, has_no_route, known_of};
+use problem_facts::OwnComponents;
 use std::alloc::Global;
 
 /// Whether a leaf holds in a place: some train has no allowed route, or what the leaf lists shows

@@ -5,7 +5,6 @@ mod bound;
 mod branch;
 mod checking;
 mod children;
-mod components;
 mod costs;
 mod descent;
 mod distinct;

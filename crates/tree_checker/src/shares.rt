@@ -5,16 +5,16 @@ ghost use Rattle.disp_model.specs.Node.{node_at};
 ghost use Rattle.node_facts.specs.Known.{IsKnown};
 ghost use Rattle.node_facts.specs.Orders.{AreKnown};
 ghost use Rattle.tree_checker.specs.Bounds.{IsSharesOfAll};
-ghost use Rattle.tree_checker.specs.Components.{AreOwnOf};
+ghost use Rattle.problem_facts.specs.Components.{AreOwnOf};
 ghost use Rattle.tree_checker.specs.TrainCosts.{base_by, IsLeastCost, IsShown};
 
-use crate::components::OwnComponents;
 use crate::entering::{entered_of, kept_at};
 use crate::landings::{lowers_of, raise_all};
 use crate::paying::costs_over;
 use decision_paths::DecisionPath;
 use disp_model::{Fixing, Memory, Problem, TrainWalks};
 use node_facts::{TrainKnowledge, train_of};
+use problem_facts::OwnComponents;
 use std::alloc::Global;
 
 /// What the components of a train cost at least over given bases, whichever route it takes; none

@@ -2,16 +2,16 @@ ghost use Rattle.std.specs.Prelude.{◌↔◌, IfOk, IsTrue};
 ghost use Rattle.disp_model.specs.Node.{node_at};
 ghost use Rattle.disp_model.specs.Trees.{SharesEnough, ShareVerdict, Shows};
 ghost use Rattle.node_facts.specs.Orders.{AreKnown};
-ghost use Rattle.tree_checker.specs.Components.{AreOwnOf};
+ghost use Rattle.problem_facts.specs.Components.{AreOwnOf};
 
 use crate::bound::bound_of;
-use crate::components::OwnComponents;
 use crate::costs::reach_verdict;
 use crate::distinct::{have_distinct, have_distinct_trains};
 use crate::ends::are_of_others;
 use decision_paths::DecisionPath;
 use disp_model::{ComponentWalk, Fixing, Leaf, Memory, Problem, TrainWalks, Verdict};
 use node_facts::{TrainKnowledge, is_cycle, is_late};
+use problem_facts::OwnComponents;
 use std::alloc::Global;
 
 /// Whether walks to distinct components and the shares of other trains, each listed once, cost

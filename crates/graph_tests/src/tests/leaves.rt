@@ -1,7 +1,8 @@
 // Short leaves that show the bounds of nodes under the free rule.
 use super::graphs::root;
 use disp_model::{Memory, Problem};
-use share_bound::{KnownShares, OwnComponents};
+use problem_facts::OwnComponents;
+use share_bound::KnownShares;
 use share_leaves::short_bound;
 use std::alloc::Global;
 use std::process::Abort;

@@ -5,6 +5,7 @@ use Rattle.disp_model.specs.declared.problem.Problem.{Problem}
 use Rattle.disp_model.specs.Valid.{train_at}
 use Rattle.route_marks.specs.Marks.{IsLaid}
 use Rattle.share_bound.specs.Prices.{HasOwn}
+use Rattle.share_bound.proofs.Owning.{has_own}
 use Rattle.share_bound.proofs.Sharing.{rows_read}
 use Rattle.share_bound.proofs.shares.share_over.Goals as goal
 
@@ -44,7 +45,7 @@ returns c =
     c.routes-routes.ensures.one) in
     let listed : HasOwn c.args.problem.now t c.of_train-own.result.now = subst
     (HasOwn c.args.problem.now t) (sym c.of_train-own.ensures)
-    (c.requires.own.has t c.requires.train) in
+    (has_own c.args.problem.now c.args.components.now t c.requires.own c.requires.train) in
     let own : HasOwn node.problem t c.of_train-own.result.now = subst
     (λ (p : Problem). HasOwn p t c.of_train-own.result.now) (sym c.requires.node) listed in
     IfOk-weaker c.least_over.result _ _ (λ found over. over node same are own)

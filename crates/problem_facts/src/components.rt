@@ -1,12 +1,12 @@
 ghost use Rattle.std.specs.Prelude.{◌≡◌, ◌<◌, [], ℕ, IfOk, OnOk, length};
-ghost use Rattle.tree_checker.specs.Components.{own_in, TakesComponent, AreOwnOf};
+ghost use Rattle.problem_facts.specs.Components.{own_in, TakesComponent, AreOwnOf};
 
 use disp_model::{Component, List, Memory, Problem};
 use std::alloc::Global;
 
 /// The components of a problem by their trains.
 #[derive(Drop)]
-pub(crate) struct OwnComponents {
+pub struct OwnComponents {
     each: Vec<List<Component>>,
 }
 
@@ -34,7 +34,7 @@ fn add(each: &mut Vec<List<Component>>, component: Component) -> Result<(), Memo
 impl OwnComponents {
     /// The components of each train. Takes time linear in trains and components, and serves all
     /// nodes of the problem.
-    pub(crate) fn of(alloc: Global, problem: &Problem) -> Result<OwnComponents, Memory>
+    pub fn of(alloc: Global, problem: &Problem) -> Result<OwnComponents, Memory>
         ensures { IfOk result (AreOwnOf problem.now) }
     {
         let mut each = none_yet(alloc, problem.trains.len())?;
@@ -45,7 +45,7 @@ impl OwnComponents {
     }
 
     /// The components of a train.
-    pub(crate) fn of_train(&self, train: u32) -> &[Component]
+    pub fn of_train(&self, train: u32) -> &[Component]
         requires { train < length self.now.each.items }
         ensures { result.now ≡ own_in self.now.each.items train }
     {

@@ -1,6 +1,6 @@
 use Rattle.std.proofs.Common.{◌≡◌, ℕ, [], length}
-use Rattle.share_bound.specs.Components.{own_in}
-use Rattle.share_bound.proofs.components.none_yet.Given as goal
+use Rattle.problem_facts.specs.Components.{own_in}
+use Rattle.problem_facts.proofs.components.none_yet.Given as goal
 
 abbrev pub invariant-loop-train : goal.invariant-loop-train
 invariant-loop-train l = record {

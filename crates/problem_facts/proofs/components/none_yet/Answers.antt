@@ -1,7 +1,7 @@
 use Rattle.std.proofs.Common.{◌≡◌, ◌+◌, ◌∙◌, [], ◌∷◌, length, ap, arith}
 use Rattle.std.proofs.lemmas.List.{length-append}
-use Rattle.share_bound.proofs.Owning.{none_more}
-use Rattle.share_bound.proofs.components.none_yet.Goals as goal
+use Rattle.problem_facts.proofs.Owned.{none_more}
+use Rattle.problem_facts.proofs.components.none_yet.Goals as goal
 
 pub loop-train-preserved : goal.loop-train-preserved
 loop-train-preserved c =

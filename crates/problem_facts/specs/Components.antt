@@ -2,7 +2,7 @@
 use Rattle.std.specs.Prelude.{◌≡◌, ◌≢◌, ◌==◌, ℕ, Bool, ◌<◌, List, [], ◌∷◌, ◌++◌, length, slice_index_or, filter}
 use Rattle.disp_model.specs.declared.train.Component.{Component}
 use Rattle.disp_model.specs.declared.problem.Problem.{Problem}
-use Rattle.tree_checker.specs.declared.components.OwnComponents.{OwnComponents}
+use Rattle.problem_facts.specs.declared.components.OwnComponents.{OwnComponents}
 
 abbrev pub own_in : List (List Component) → ℕ → List Component
 own_in each t = slice_index_or each t []

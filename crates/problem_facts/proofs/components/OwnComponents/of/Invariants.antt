@@ -1,7 +1,7 @@
 -- the components so far are with their trains
 use Rattle.std.proofs.Common.{◌≡◌, length, take}
-use Rattle.tree_checker.specs.Components.{HaveEach}
-use Rattle.tree_checker.proofs.components.OwnComponents.of.Given as goal
+use Rattle.problem_facts.specs.Components.{HaveEach}
+use Rattle.problem_facts.proofs.components.OwnComponents.of.Given as goal
 
 abbrev pub invariant-loop-component : goal.invariant-loop-component
 invariant-loop-component l = record {
