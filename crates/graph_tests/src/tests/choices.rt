@@ -6,27 +6,28 @@ use branch_rules::{Pick, children, pick_fixed};
 use disp_model::{Choice, Decision, Problem};
 use event_graph::Graph;
 use std::alloc::Global;
+use std::panic::Expect;
 use std::process::Abort;
 use std::test::Fail;
 use worked_problems::{forked, two_trains};
 
 /// The choice that is picked at a node that is not late, and `None` where there is a plan.
-fn picked(alloc: Global, problem: &Problem, graph: &Graph) -> Result<Option<Choice>, Fail>
+fn picked(rt: &impl Abort, alloc: Global, problem: &Problem, graph: &Graph) -> Option<Choice>
     requires { graph.now.problem ≡ problem.now }
 {
     let None = graph.late() else {
-        return Err(Fail::from("late"));
+        panic!(rt; "an operation is late");
     };
-    match pick_fixed(alloc, problem, graph)? {
-        Pick::Choice(choice) => Ok(Some(choice)),
-        Pick::Plan(_) => Ok(None),
+    match pick_fixed(alloc, problem, graph).expect(rt, "a pick") {
+        Pick::Choice(choice) => Some(choice),
+        Pick::Plan(_) => None,
     }
 }
 
 /// The choice that is picked where nothing is decided.
-fn picked_first(alloc: Global, problem: &Problem) -> Result<Option<Choice>, Fail> {
-    let graph = root(alloc, problem)?;
-    picked(alloc, problem, &graph)
+fn picked_first(rt: &impl Abort, alloc: Global, problem: &Problem) -> Option<Choice> {
+    let graph = root(rt, alloc, problem);
+    picked(rt, alloc, problem, &graph)
 }
 
 /// The choice that is picked behind this decision.
@@ -35,39 +36,39 @@ fn picked_behind(
     alloc: Global,
     problem: &Problem,
     decision: Decision,
-) -> Result<Option<Choice>, Fail> {
-    let mut graph = root(alloc, problem)?;
+) -> Option<Choice> {
+    let mut graph = root(rt, alloc, problem);
     extend(rt, &mut graph, decision);
-    picked(alloc, problem, &graph)
+    picked(rt, alloc, problem, &graph)
 }
 
 #[test]
 fn the_fork_of_a_train_is_picked(rt: HostRuntime) -> Result<(), Fail> {
-    let problem = forked(rt.alloc())?;
-    let choice = picked_first(rt.alloc(), &problem)?;
+    let problem = forked(rt.alloc()).expect(&rt, "a fork");
+    let choice = picked_first(&rt, rt.alloc(), &problem);
     assert_eq!(rt; choice, Some(Choice::Route(op(0, 0))));
     Ok(())
 }
 
 #[test]
 fn the_first_pair_that_clashes_is_picked(rt: HostRuntime) -> Result<(), Fail> {
-    let problem = two_trains(rt.alloc())?;
-    let choice = picked_first(rt.alloc(), &problem)?;
+    let problem = two_trains(rt.alloc()).expect(&rt, "two trains");
+    let choice = picked_first(&rt, rt.alloc(), &problem);
     assert_eq!(rt; choice, Some(Choice::Order(op(0, 0), op(1, 0))));
 
     // The fast train goes first: nothing is left to choose.
-    let choice = picked_behind(&rt, rt.alloc(), &problem, order(1, 0))?;
+    let choice = picked_behind(&rt, rt.alloc(), &problem, order(1, 0));
     assert_eq!(rt; choice, None);
     Ok(())
 }
 
 #[test]
 fn a_choice_leaves_its_children(rt: HostRuntime) -> Result<(), Fail> {
-    let problem = forked(rt.alloc())?;
-    let ways = children(rt.alloc(), &problem, Choice::Route(op(0, 0)))?;
+    let problem = forked(rt.alloc()).expect(&rt, "a fork");
+    let ways = children(rt.alloc(), &problem, Choice::Route(op(0, 0))).expect(&rt, "ways");
     let wanted = [go(1), go(2)];
     assert_eq!(rt; ways.as_slice(), wanted.as_slice());
-    let none = children(rt.alloc(), &problem, Choice::Route(op(1, 0)))?;
+    let none = children(rt.alloc(), &problem, Choice::Route(op(1, 0))).expect(&rt, "ways");
     assert_eq!(rt; none.len(), 0);
     Ok(())
 }

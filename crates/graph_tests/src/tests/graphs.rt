@@ -1,26 +1,25 @@
 // Graphs of nodes, and the decisions that tests add to them.
-ghost use Rattle.std.specs.Prelude.{◌≡◌, IfOk, length};
+ghost use Rattle.std.specs.Prelude.{◌≡◌, length};
 
 use disp_model::{Decision, Fixing, Op, Problem};
 use event_graph::Graph;
 use std::alloc::Global;
 use std::process::Abort;
-use std::test::Fail;
 
 /// The graph where nothing is fixed or decided.
-pub(super) fn root<'p>(alloc: Global, problem: &'p Problem) -> Result<Graph<'p>, Fail>
-    ensures { IfOk result (λ graph. graph.problem ≡ problem.now) }
+pub(super) fn root<'p>(rt: &impl Abort, alloc: Global, problem: &'p Problem) -> Graph<'p>
+    ensures { result.problem ≡ problem.now }
 {
     match Graph::new(alloc, problem, &[]) {
-        Ok(graph) => Ok(graph),
-        Err(_) => Err(Fail::from("no graph")),
+        Ok(graph) => graph,
+        Err(_) => panic!(rt; "there is no graph"),
     }
 }
 
 /// The graph where nothing is decided, and the first operation is not to start before 7.
-pub(super) fn later<'p>(alloc: Global, problem: &'p Problem) -> Result<Graph<'p>, Fail>
+pub(super) fn later<'p>(rt: &impl Abort, alloc: Global, problem: &'p Problem) -> Graph<'p>
     requires { length problem.now.trains ≡ 1 }
-    ensures { IfOk result (λ graph. graph.problem ≡ problem.now) }
+    ensures { result.problem ≡ problem.now }
 {
     let fixing = Fixing::NotBefore {
         at_train: 0,
@@ -28,8 +27,8 @@ pub(super) fn later<'p>(alloc: Global, problem: &'p Problem) -> Result<Graph<'p>
         time: 7,
     };
     match Graph::new(alloc, problem, &[fixing]) {
-        Ok(graph) => Ok(graph),
-        Err(_) => Err(Fail::from("no graph")),
+        Ok(graph) => graph,
+        Err(_) => panic!(rt; "there is no graph"),
     }
 }
 

@@ -4,6 +4,7 @@ use disp_model::{Decision, Leaf, Problem, Rule};
 use node_leaves::{NodeLeaf, Reckoning, child_leaf, leaf_of};
 use share_bound::KnownShares;
 use std::alloc::Global;
+use std::panic::Expect;
 use std::process::Abort;
 use std::test::Fail;
 use worked_problems::{no_trains, windowed};
@@ -27,25 +28,31 @@ fn check(
     rule: Rule,
     wanted: &str,
     skipped: &str,
-) -> Result<(), Fail> {
-    let mut graph = root(alloc, problem)?;
-    let reckoning = Reckoning::new(alloc, problem, rule)?;
-    let mut known = KnownShares::new(alloc, problem)?;
-    let leaf = leaf_of(alloc, problem, &reckoning, &graph, &mut known)?;
+) {
+    let mut graph = root(rt, alloc, problem);
+    let reckoning = Reckoning::new(alloc, problem, rule).expect(rt, "a reckoning");
+    let mut known = KnownShares::new(alloc, problem).expect(rt, "shares");
+    let leaf = leaf_of(alloc, problem, &reckoning, &graph, &mut known).expect(rt, "a leaf");
     assert_eq!(rt; shown(&leaf), (wanted, 0));
     let decision = Decision::Skip(op(0, 0));
-    let child = child_leaf(alloc, problem, &reckoning, &mut graph, &mut known, decision)?;
-    assert_eq!(rt; shown(&child), (skipped, 0));
+    let child = child_leaf(alloc, problem, &reckoning, &mut graph, &mut known, decision);
+    assert_eq!(rt; shown(&child.expect(rt, "a leaf")), (skipped, 0));
     assert_eq!(rt; graph.decisions().len(), 0);
-    Ok(())
 }
 
 #[test]
 fn nodes_are_dead_or_have_bounds(rt: HostRuntime) -> Result<(), Fail> {
-    let (train, none) = (windowed(rt.alloc(), 5, Some(4), 0)?, no_trains(rt.alloc()));
+    let train = windowed(rt.alloc(), 5, Some(4), 0).expect(&rt, "a train");
     for rule in [Rule::Fixed, Rule::Free] {
-        check(&rt, rt.alloc(), &train, rule, "late", "no route")?;
-        check(&rt, rt.alloc(), &none, rule, "open", "open")?;
+        check(&rt, rt.alloc(), &train, rule, "late", "no route");
+        check(
+            &rt,
+            rt.alloc(),
+            &no_trains(rt.alloc()),
+            rule,
+            "open",
+            "open",
+        );
     }
     Ok(())
 }

@@ -1,15 +1,16 @@
 // Two trains on one block: orders added, refused and taken back.
 use super::graphs::{extend, op, order, root};
-use disp_model::Decision;
+use disp_model::{Decision, Memory};
 use event_graph::{ExtendNo, Graph};
 use incremental_paths::Arc;
 use std::alloc::Global;
+use std::panic::Expect;
 use std::process::Abort;
 use std::test::Fail;
 use worked_problems::two_trains_until;
 
 /// The arcs as a text: from, to and length of each.
-fn shown(alloc: Global, graph: &Graph) -> Result<String, Fail> {
+fn shown(alloc: Global, graph: &Graph) -> Result<String, Memory> {
     let mut text = String::new(alloc);
     for arc in graph.paths().arcs() {
         let Arc { from, to, length } = *arc;
@@ -18,14 +19,13 @@ fn shown(alloc: Global, graph: &Graph) -> Result<String, Fail> {
     Ok(text)
 }
 
-fn check_arcs(rt: &impl Abort, alloc: Global, graph: &Graph, wanted: &str) -> Result<(), Fail> {
-    let text = shown(alloc, graph)?;
+fn check_arcs(rt: &impl Abort, alloc: Global, graph: &Graph, wanted: &str) {
+    let text = shown(alloc, graph).expect(rt, "a text");
     assert_eq!(rt; text.as_str(), wanted);
-    Ok(())
 }
 
 /// Which refusal it is.
-fn refusal(alloc: Global, no: ExtendNo) -> Result<String, Fail> {
+fn refusal(alloc: Global, no: ExtendNo) -> Result<String, Memory> {
     match no {
         ExtendNo::NoRoute(train) => Ok(format!(in alloc; "no route of {train}")?),
         ExtendNo::Cycle(_) => Ok(String::from_str(alloc, "cycle")?),
@@ -40,34 +40,34 @@ fn check_refused(
     graph: &mut Graph,
     decision: Decision,
     wanted: &str,
-) -> Result<(), Fail> {
+) {
     let Err(no) = graph.extend(decision) else {
-        return Err(Fail::from("added"));
+        panic!(rt; "the decision is added");
     };
-    let text = refusal(alloc, no)?;
+    let text = refusal(alloc, no).expect(rt, "a text");
     assert_eq!(rt; text.as_str(), wanted);
-    Ok(())
 }
 
 /// Orders that are added, and refused, from the root on.
-fn check_added(rt: &impl Abort, alloc: Global, graph: &mut Graph) -> Result<(), Fail> {
-    check_arcs(rt, alloc, graph, "0-1:10 2-3:4 ")?;
-    check_refused(rt, alloc, graph, Decision::Skip(op(1, 0)), "no route of 1")?;
+fn check_added(rt: &impl Abort, alloc: Global, graph: &mut Graph) {
+    check_arcs(rt, alloc, graph, "0-1:10 2-3:4 ");
+    check_refused(rt, alloc, graph, Decision::Skip(op(1, 0)), "no route of 1");
     extend(rt, graph, order(0, 1));
-    check_arcs(rt, alloc, graph, "0-1:10 2-3:4 0-2:10 1-2:0 ")?;
-    check_refused(rt, alloc, graph, order(1, 0), "cycle")?;
-    check_arcs(rt, alloc, graph, "0-1:10 2-3:4 0-2:10 1-2:0 ")
+    check_arcs(rt, alloc, graph, "0-1:10 2-3:4 0-2:10 1-2:0 ");
+    check_refused(rt, alloc, graph, order(1, 0), "cycle");
+    check_arcs(rt, alloc, graph, "0-1:10 2-3:4 0-2:10 1-2:0 ");
 }
 
 #[test]
 fn orders_are_added_and_refused(rt: HostRuntime) -> Result<(), Fail> {
-    let problem = two_trains_until(rt.alloc(), 3)?;
-    let mut graph = root(rt.alloc(), &problem)?;
-    check_added(&rt, rt.alloc(), &mut graph)
+    let problem = two_trains_until(rt.alloc(), 3).expect(&rt, "two trains");
+    let mut graph = root(&rt, rt.alloc(), &problem);
+    check_added(&rt, rt.alloc(), &mut graph);
+    Ok(())
 }
 
 /// An order that is late, and is taken back, and then the other one.
-fn check_undone(rt: &impl Abort, alloc: Global, graph: &mut Graph) -> Result<(), Fail> {
+fn check_undone(rt: &impl Abort, alloc: Global, graph: &mut Graph) {
     assert_eq!(rt; graph.late(), None);
     extend(rt, graph, order(0, 1));
     assert_eq!(rt; graph.late(), Some(op(1, 0)));
@@ -75,12 +75,13 @@ fn check_undone(rt: &impl Abort, alloc: Global, graph: &mut Graph) -> Result<(),
     graph.undo();
     assert_eq!(rt; graph.late(), None);
     extend(rt, graph, order(1, 0));
-    check_arcs(rt, alloc, graph, "0-1:10 2-3:4 2-0:4 3-0:0 ")
+    check_arcs(rt, alloc, graph, "0-1:10 2-3:4 2-0:4 3-0:0 ");
 }
 
 #[test]
 fn the_last_order_is_taken_back(rt: HostRuntime) -> Result<(), Fail> {
-    let problem = two_trains_until(rt.alloc(), 3)?;
-    let mut graph = root(rt.alloc(), &problem)?;
-    check_undone(&rt, rt.alloc(), &mut graph)
+    let problem = two_trains_until(rt.alloc(), 3).expect(&rt, "two trains");
+    let mut graph = root(&rt, rt.alloc(), &problem);
+    check_undone(&rt, rt.alloc(), &mut graph);
+    Ok(())
 }

@@ -5,6 +5,8 @@ use super::graphs::op;
 use disp_model::{Decision, Fixing, List, Memory, Problem};
 use route_sets::Routes;
 use std::alloc::Global;
+use std::panic::Expect;
+use std::process::Abort;
 use std::test::Fail;
 use worked_problems::forked;
 
@@ -12,31 +14,32 @@ use worked_problems::forked;
 type Answers = (bool, bool, Option<u32>, Option<u64>);
 
 fn answers(
+    rt: &impl Abort,
     alloc: Global,
     problem: &Problem,
     fixings: &[Fixing],
     decisions: &[Decision],
-) -> Result<Answers, Memory>
+) -> Answers
     requires { 0 < length problem.now.trains }
 {
-    let routes = Routes::of(alloc, problem, 0, fixings, decisions)?;
-    Ok((
+    let routes = Routes::of(alloc, problem, 0, fixings, decisions).expect(rt, "routes");
+    (
         routes.none_left(),
         routes.forced(1),
         routes.only_next(0),
         routes.least_between(0, 3),
-    ))
+    )
 }
 
 #[test]
 fn a_fork_leaves_two_routes(rt: HostRuntime) -> Result<(), Fail> {
-    let problem = forked(rt.alloc())?;
-    let routes = Routes::of(rt.alloc(), &problem, 0, &[], &[])?;
+    let problem = forked(rt.alloc()).expect(&rt, "a fork");
+    let routes = Routes::of(rt.alloc(), &problem, 0, &[], &[]).expect(&rt, "routes");
     assert!(rt; routes.forced(0) && routes.forced(3));
     assert!(rt; !routes.forced(2) && !routes.forced(4));
     assert_eq!(rt; routes.least_between(3, 0), None);
     assert_eq!(rt;
-        answers(rt.alloc(), &problem, &[], &[])?,
+        answers(&rt, rt.alloc(), &problem, &[], &[]),
         (false, false, None, Some(3))
     );
     Ok(())
@@ -44,7 +47,7 @@ fn a_fork_leaves_two_routes(rt: HostRuntime) -> Result<(), Fail> {
 
 #[test]
 fn a_decision_leaves_one(rt: HostRuntime) -> Result<(), Fail> {
-    let problem = forked(rt.alloc())?;
+    let problem = forked(rt.alloc()).expect(&rt, "a fork");
     for (decision, wanted) in [
         (
             Decision::Go {
@@ -66,14 +69,17 @@ fn a_decision_leaves_one(rt: HostRuntime) -> Result<(), Fail> {
         (Decision::Run(op(0, 4)), (true, false, None, None)),
         (Decision::Skip(op(0, 4)), (false, false, None, Some(3))),
     ] {
-        assert_eq!(rt; answers(rt.alloc(), &problem, &[], &[decision])?, wanted);
+        assert_eq!(rt;
+            answers(&rt, rt.alloc(), &problem, &[], &[decision]),
+            wanted
+        );
     }
     Ok(())
 }
 
 #[test]
 fn fixings_may_leave_none(rt: HostRuntime) -> Result<(), Fail> {
-    let problem = forked(rt.alloc())?;
+    let problem = forked(rt.alloc()).expect(&rt, "a fork");
     let chosen = Fixing::Chosen {
         at_train: 0,
         at_op: 0,
@@ -89,7 +95,7 @@ fn fixings_may_leave_none(rt: HostRuntime) -> Result<(), Fail> {
         ([started, started], (false, true, Some(1), Some(5))),
         ([chosen, started], (true, false, None, None)),
     ] {
-        assert_eq!(rt; answers(rt.alloc(), &problem, &fixings, &[])?, wanted);
+        assert_eq!(rt; answers(&rt, rt.alloc(), &problem, &fixings, &[]), wanted);
     }
     Ok(())
 }
@@ -107,7 +113,7 @@ fn only_route(alloc: Global, problem: &Problem, decision: Decision) -> Result<Li
 
 #[test]
 fn the_only_route_is_given_whole(rt: HostRuntime) -> Result<(), Fail> {
-    let problem = forked(rt.alloc())?;
+    let problem = forked(rt.alloc()).expect(&rt, "a fork");
     for (decision, wanted) in [
         (
             Decision::Go {
@@ -121,7 +127,7 @@ fn the_only_route_is_given_whole(rt: HostRuntime) -> Result<(), Fail> {
         (Decision::Skip(op(0, 4)), [].as_slice()),
         (Decision::Skip(op(0, 0)), [].as_slice()),
     ] {
-        let route = only_route(rt.alloc(), &problem, decision)?;
+        let route = only_route(rt.alloc(), &problem, decision).expect(&rt, "a route");
         assert_eq!(rt; route.as_slice(), wanted);
     }
     Ok(())

@@ -7,84 +7,76 @@ use event_graph::Graph;
 use problem_facts::OwnComponents;
 use share_bound::{free_bound, free_cost};
 use std::alloc::Global;
+use std::panic::Expect;
 use std::process::Abort;
 use std::test::Fail;
 use worked_problems::{dear_fork, two_trains_until};
 
 /// The shares of the trains add up to this one.
-fn check_bound(
-    rt: &impl Abort,
-    alloc: Global,
-    problem: &Problem,
-    graph: &Graph,
-    wanted: u64,
-) -> Result<(), Fail>
+fn check_bound(rt: &impl Abort, alloc: Global, problem: &Problem, graph: &Graph, wanted: u64)
     requires { graph.now.problem ≡ problem.now }
 {
-    let components = OwnComponents::of(alloc, problem)?;
-    assert_eq!(rt; free_cost(alloc, problem, &components, graph)?, wanted);
-    let shown = free_bound(alloc, problem, &components, graph)?;
+    let components = OwnComponents::of(alloc, problem).expect(rt, "components");
+    let cost = free_cost(alloc, problem, &components, graph).expect(rt, "a cost");
+    assert_eq!(rt; cost, wanted);
+    let shown = free_bound(alloc, problem, &components, graph).expect(rt, "a bound");
     assert_eq!(rt; shown.cost, wanted);
-    Ok(())
 }
 
 /// With nothing decided the bound is this one.
-fn check_root(rt: &impl Abort, alloc: Global, problem: &Problem, wanted: u64) -> Result<(), Fail> {
-    let graph = root(alloc, problem)?;
-    check_bound(rt, alloc, problem, &graph, wanted)
+fn check_root(rt: &impl Abort, alloc: Global, problem: &Problem, wanted: u64) {
+    let graph = root(rt, alloc, problem);
+    check_bound(rt, alloc, problem, &graph, wanted);
 }
 
 /// With this decision the bound is this one.
-fn check_with(
-    rt: &impl Abort,
-    alloc: Global,
-    problem: &Problem,
-    decision: Decision,
-    wanted: u64,
-) -> Result<(), Fail> {
-    let mut graph = root(alloc, problem)?;
+fn check_with(rt: &impl Abort, alloc: Global, problem: &Problem, decision: Decision, wanted: u64) {
+    let mut graph = root(rt, alloc, problem);
     extend(rt, &mut graph, decision);
-    check_bound(rt, alloc, problem, &graph, wanted)
+    check_bound(rt, alloc, problem, &graph, wanted);
 }
 
 /// What the two trains cost, in no order and in either.
-fn check_orders(rt: &impl Abort, alloc: Global, problem: &Problem) -> Result<(), Fail> {
-    check_root(rt, alloc, problem, 14)?;
-    check_with(rt, alloc, problem, order(0, 1), 24)?;
-    check_with(rt, alloc, problem, order(1, 0), 18)
+fn check_orders(rt: &impl Abort, alloc: Global, problem: &Problem) {
+    check_root(rt, alloc, problem, 14);
+    check_with(rt, alloc, problem, order(0, 1), 24);
+    check_with(rt, alloc, problem, order(1, 0), 18);
 }
 
 #[test]
 fn orders_cost(rt: HostRuntime) -> Result<(), Fail> {
-    let problem = two_trains_until(rt.alloc(), 3)?;
-    check_orders(&rt, rt.alloc(), &problem)
+    let problem = two_trains_until(rt.alloc(), 3).expect(&rt, "two trains");
+    check_orders(&rt, rt.alloc(), &problem);
+    Ok(())
 }
 
 /// What the fork costs, by what is decided of its routes.
-fn check_routes(rt: &impl Abort, alloc: Global, problem: &Problem) -> Result<(), Fail> {
-    check_root(rt, alloc, problem, 7)?;
-    check_with(rt, alloc, problem, go(1), 9)?;
-    check_with(rt, alloc, problem, go(2), 13)?;
-    check_with(rt, alloc, problem, Decision::Run(op(0, 1)), 9)?;
-    check_with(rt, alloc, problem, Decision::Skip(op(0, 1)), 13)
+fn check_routes(rt: &impl Abort, alloc: Global, problem: &Problem) {
+    check_root(rt, alloc, problem, 7);
+    check_with(rt, alloc, problem, go(1), 9);
+    check_with(rt, alloc, problem, go(2), 13);
+    check_with(rt, alloc, problem, Decision::Run(op(0, 1)), 9);
+    check_with(rt, alloc, problem, Decision::Skip(op(0, 1)), 13);
 }
 
 #[test]
 fn routes_cost(rt: HostRuntime) -> Result<(), Fail> {
-    let problem = dear_fork(rt.alloc())?;
-    check_routes(&rt, rt.alloc(), &problem)
+    let problem = dear_fork(rt.alloc()).expect(&rt, "a fork");
+    check_routes(&rt, rt.alloc(), &problem);
+    Ok(())
 }
 
 /// What the fork costs where it begins at 7.
-fn check_later(rt: &impl Abort, alloc: Global, problem: &Problem) -> Result<(), Fail>
+fn check_later(rt: &impl Abort, alloc: Global, problem: &Problem)
     requires { length problem.now.trains ≡ 1 }
 {
-    let graph = later(alloc, problem)?;
-    check_bound(rt, alloc, problem, &graph, 14)
+    let graph = later(rt, alloc, problem);
+    check_bound(rt, alloc, problem, &graph, 14);
 }
 
 #[test]
 fn a_fixing_raises_a_base(rt: HostRuntime) -> Result<(), Fail> {
-    let problem = dear_fork(rt.alloc())?;
-    check_later(&rt, rt.alloc(), &problem)
+    let problem = dear_fork(rt.alloc()).expect(&rt, "a fork");
+    check_later(&rt, rt.alloc(), &problem);
+    Ok(())
 }

@@ -1,11 +1,12 @@
 // Dives from the root of a fork.
-ghost use Rattle.std.specs.Prelude.{◌≡◌, IfOk};
+ghost use Rattle.std.specs.Prelude.{◌≡◌};
 
-use disp_model::{Leaf, Problem, Rule, TreeNode};
+use disp_model::{Leaf, Memory, Problem, Rule, TreeNode};
 use event_graph::Graph;
 use node_leaves::Reckoning;
 use share_bound::KnownShares;
 use std::alloc::Global;
+use std::panic::Expect;
 use std::process::Abort;
 use std::test::Fail;
 use train_insertion::Target;
@@ -13,12 +14,12 @@ use tree_dives::{Dive, End, Guide, dive};
 use worked_problems::forked;
 
 /// The graph where nothing is fixed or decided.
-fn root<'p>(alloc: Global, problem: &'p Problem) -> Result<Graph<'p>, Fail>
-    ensures { IfOk result (λ graph. graph.problem ≡ problem.now) }
+fn root<'p>(rt: &impl Abort, alloc: Global, problem: &'p Problem) -> Graph<'p>
+    ensures { result.problem ≡ problem.now }
 {
     match Graph::new(alloc, problem, &[]) {
-        Ok(graph) => Ok(graph),
-        Err(_) => Err(Fail::from("no graph")),
+        Ok(graph) => graph,
+        Err(_) => panic!(rt; "there is no graph"),
     }
 }
 
@@ -41,7 +42,7 @@ fn shown_node(node: &TreeNode) -> &'static str {
 }
 
 /// How a dive ended, its nodes, and the bounds of its leaves.
-fn shown(alloc: Global, dive: &Dive) -> Result<String, Fail> {
+fn shown(alloc: Global, dive: &Dive) -> Result<String, Memory> {
     let mut text = String::from_str(alloc, shown_end(&dive.end))?;
     for node in dive.nodes.as_slice() {
         text.push_str(shown_node(node))?;
@@ -62,21 +63,21 @@ fn check(
     best: Option<u64>,
     allowance: u32,
     wanted: &str,
-) -> Result<(), Fail> {
-    let mut graph = root(alloc, problem)?;
-    let mut guide = Guide::new(alloc, problem, Target::none(alloc))?;
-    let reckoning = Reckoning::new(alloc, problem, rule)?;
-    let mut known = KnownShares::new(alloc, problem)?;
+) {
+    let mut graph = root(rt, alloc, problem);
+    let mut guide = Guide::new(alloc, problem, Target::none(alloc)).expect(rt, "a guide");
+    let reckoning = Reckoning::new(alloc, problem, rule).expect(rt, "a reckoning");
+    let mut known = KnownShares::new(alloc, problem).expect(rt, "shares");
     let found = dive(
         alloc, problem, &reckoning, &mut graph, &mut known, best, allowance, &mut guide,
-    )?;
-    assert_eq!(rt; shown(alloc, &found)?.as_str(), wanted);
+    );
+    let text = shown(alloc, &found.expect(rt, "a dive")).expect(rt, "a text");
+    assert_eq!(rt; text.as_str(), wanted);
     assert_eq!(rt; graph.decisions().len(), 0);
-    Ok(())
 }
 
-fn check_fork(rt: &impl Abort, alloc: Global, problem: &Problem) -> Result<(), Fail> {
-    check(rt, alloc, problem, Rule::Fixed, None, 0, "open costs 3")?;
+fn check_fork(rt: &impl Abort, alloc: Global, problem: &Problem) {
+    check(rt, alloc, problem, Rule::Fixed, None, 0, "open costs 3");
     check(
         rt,
         alloc,
@@ -85,8 +86,8 @@ fn check_fork(rt: &impl Abort, alloc: Global, problem: &Problem) -> Result<(), F
         Some(3),
         9,
         "closed costs 3",
-    )?;
-    check(rt, alloc, problem, Rule::Free, Some(3), 9, "closed costs 3")?;
+    );
+    check(rt, alloc, problem, Rule::Free, Some(3), 9, "closed costs 3");
     check(
         rt,
         alloc,
@@ -95,7 +96,7 @@ fn check_fork(rt: &impl Abort, alloc: Global, problem: &Problem) -> Result<(), F
         Some(5),
         9,
         "closed branch costs costs 5 13",
-    )?;
+    );
     check(
         rt,
         alloc,
@@ -104,11 +105,12 @@ fn check_fork(rt: &impl Abort, alloc: Global, problem: &Problem) -> Result<(), F
         None,
         1,
         "plan branch costs costs 5 13",
-    )
+    );
 }
 
 #[test]
 fn the_way_that_costs_less_is_followed(rt: HostRuntime) -> Result<(), Fail> {
-    let problem = forked(rt.alloc())?;
-    check_fork(&rt, rt.alloc(), &problem)
+    let problem = forked(rt.alloc()).expect(&rt, "a fork");
+    check_fork(&rt, rt.alloc(), &problem);
+    Ok(())
 }

@@ -6,24 +6,32 @@ ghost use Rattle.open_nodes.specs.Grafts.{FillPlaces};
 use disp_model::{Choice, Leaf, List, Memory, Op, TreeNode};
 use open_nodes::{Fragment, GiveBack, Growth, Nodes, Take, Work};
 use std::alloc::Global;
+use std::panic::Expect;
+use std::process::Abort;
 use std::test::Fail;
 use worked_problems::no_trains;
 
 #[test]
 fn one_leaf_is_taken_and_given_back(rt: HostRuntime) -> Result<(), Fail> {
-    let mut nodes = Nodes::new(rt.alloc())?;
+    let mut nodes = Nodes::new(rt.alloc()).expect(&rt, "a tree");
     assert_eq!(rt; nodes.bound(), Some(0));
-    let taken = nodes.take(rt.alloc(), None, 5, 3, 7, 0)?;
-    let Take::Taken(work) = taken else {
-        panic!(rt; "no leaf is taken");
+    let Take::Taken(work) = nodes
+        .take(rt.alloc(), None, 5, 3, 7, 0)
+        .expect(&rt, "a leaf")
+    else {
+        panic!(&rt; "no leaf is taken");
     };
     assert_eq!(rt; work.node, 0);
     assert_eq!(rt; work.allowance, 3);
     assert_eq!(rt; nodes.allowed(), 3);
-    let again = nodes.take(rt.alloc(), None, 2, 3, 7, 0)?;
+    let again = nodes
+        .take(rt.alloc(), None, 2, 3, 7, 0)
+        .expect(&rt, "an answer");
     assert!(rt; matches!(again, Take::AllOut(1)));
     assert_eq!(rt; nodes.give_back(work, true), GiveBack::Back);
-    let dry = nodes.take(rt.alloc(), None, 0, 3, 7, 0)?;
+    let dry = nodes
+        .take(rt.alloc(), None, 0, 3, 7, 0)
+        .expect(&rt, "an answer");
     assert!(rt; matches!(dry, Take::Dry));
     Ok(())
 }
@@ -52,52 +60,48 @@ fn ordered(alloc: Global, work: Work) -> Result<Fragment, Memory>
 }
 
 /// Takes a leaf, where few allowances are out.
-fn take_one(alloc: Global, nodes: &mut Nodes, best: Option<u64>) -> Result<Take, Memory> {
+fn take_one(rt: &impl Abort, alloc: Global, nodes: &mut Nodes, best: Option<u64>) -> Take {
     if nodes.allowed() > 100 {
-        return Ok(Take::Dry);
+        return Take::Dry;
     }
-    nodes.take(alloc, best, 5, 3, 7, 0)
+    nodes.take(alloc, best, 5, 3, 7, 0).expect(rt, "an answer")
 }
 
 /// Whether a taken leaf has grown by one split.
-fn grow_one(alloc: Global, nodes: &mut Nodes) -> Result<bool, Memory> {
-    let problem = no_trains(alloc);
-    let Take::Taken(work) = take_one(alloc, nodes, None)? else {
-        return Ok(false);
+fn grow_one(rt: &impl Abort, alloc: Global, nodes: &mut Nodes) -> bool {
+    let Take::Taken(work) = take_one(rt, alloc, nodes, None) else {
+        return false;
     };
-    let fragment = ordered(alloc, work)?;
-    match nodes.grow(alloc, &problem, fragment) {
-        Ok(Growth::Grown(splits)) => Ok(splits.len() == 1),
-        Ok(Growth::Gone(_)) => Ok(false),
-        Err(_) => Ok(false),
+    let fragment = ordered(alloc, work).expect(rt, "a fragment");
+    match nodes.grow(alloc, &no_trains(alloc), fragment) {
+        Ok(Growth::Grown(splits)) => splits.len() == 1,
+        Ok(Growth::Gone(_)) => false,
+        Err(_) => false,
     }
 }
 
 /// Whether the two new leaves are found by their bounds.
-fn are_found(alloc: Global, nodes: &Nodes) -> Result<bool, Memory> {
-    Ok(
-        nodes.allowed() == 0
-            && nodes.bound() == Some(18)
-            && nodes.wanted(Some(18)).is_none()
-            && nodes.wanted(Some(20)) == Some((2, 18))
-            && nodes.wanted(None) == Some((1, 24))
-            && nodes.leaf(alloc, 0)?.is_none()
-            && nodes.leaf(alloc, 2)?.is_some(),
-    )
+fn are_found(rt: &impl Abort, alloc: Global, nodes: &Nodes) -> bool {
+    nodes.allowed() == 0
+        && nodes.bound() == Some(18)
+        && nodes.wanted(Some(18)).is_none()
+        && nodes.wanted(Some(20)) == Some((2, 18))
+        && nodes.wanted(None) == Some((1, 24))
+        && nodes.leaf(alloc, 0).expect(rt, "an answer").is_none()
+        && nodes.leaf(alloc, 2).expect(rt, "an answer").is_some()
 }
 
 #[test]
 fn a_branch_has_two_leaves(rt: HostRuntime) -> Result<(), Fail> {
     let alloc = rt.alloc();
-    let mut nodes = Nodes::new(alloc)?;
-    let has_grown = grow_one(alloc, &mut nodes)?;
-    assert!(rt; has_grown);
-    assert!(rt; are_found(alloc, &nodes)?);
-    let ripe = take_one(alloc, &mut nodes, Some(18))?;
+    let mut nodes = Nodes::new(alloc).expect(&rt, "a tree");
+    assert!(rt; grow_one(&rt, alloc, &mut nodes));
+    assert!(rt; are_found(&rt, alloc, &nodes));
+    let ripe = take_one(&rt, alloc, &mut nodes, Some(18));
     assert!(rt; matches!(ripe, Take::Ripe));
     nodes.reset(1);
     assert_eq!(rt; nodes.wanted(Some(20)), Some((1, 0)));
-    let tree = nodes.tree(alloc)?;
+    let tree = nodes.tree(alloc).expect(&rt, "the nodes");
     assert_eq!(rt; tree.len(), 3);
     Ok(())
 }

@@ -7,17 +7,18 @@ use disp_model::{Change, List, Refusal, Reply, Rule, Settings, Verdict};
 use dispatch_core::{Core, CoreEvent, CoreReply, StepNo};
 use open_nodes::Work;
 use std::alloc::Global;
+use std::panic::Expect;
 use std::process::Abort;
 use std::test::Fail;
 use worked_problems::no_trains;
 
 /// Takes a step.
-fn step(alloc: Global, core: &mut Core, event: CoreEvent) -> Result<CoreReply, Fail>
+fn step(rt: &impl Abort, alloc: Global, core: &mut Core, event: CoreEvent) -> CoreReply
     requires { MayStep core.old event }
 {
     match core.step(alloc, event) {
-        Ok(told) => Ok(told),
-        Err(StepNo::Memory(_)) => Err(Fail::from("memory")),
+        Ok(told) => told,
+        Err(StepNo::Memory(_)) => panic!(rt; "no memory is left"),
     }
 }
 
@@ -42,30 +43,23 @@ fn shown(told: &CoreReply) -> &'static str {
 }
 
 /// Takes a step whose reply is this.
-fn check(
-    rt: &impl Abort,
-    alloc: Global,
-    core: &mut Core,
-    event: CoreEvent,
-    wanted: &str,
-) -> Result<(), Fail>
+fn check(rt: &impl Abort, alloc: Global, core: &mut Core, event: CoreEvent, wanted: &str)
     requires { MayStep core.old event }
 {
-    let told = step(alloc, core, event)?;
+    let told = step(rt, alloc, core, event);
     assert_eq!(rt; shown(&told), wanted);
-    Ok(())
 }
 
 /// Takes the only leaf for a searcher.
-fn taken(alloc: Global, core: &mut Core) -> Result<Work, Fail> {
+fn taken(rt: &impl Abort, alloc: Global, core: &mut Core) -> Work {
     let event = CoreEvent::Take {
         searcher: 0,
         edition: 0,
         want: 3,
     };
-    match step(alloc, core, event)? {
-        CoreReply::Taken(work) => Ok(work),
-        _ => Err(Fail::from("no work")),
+    match step(rt, alloc, core, event) {
+        CoreReply::Taken(work) => work,
+        _ => panic!(rt; "no leaf is taken"),
     }
 }
 
@@ -89,12 +83,12 @@ fn publish(alloc: Global) -> CoreEvent
 }
 
 /// The only leaf goes out and comes in again.
-fn check_work(rt: &impl Abort, alloc: Global, core: &mut Core) -> Result<(), Fail> {
-    check(rt, alloc, core, CoreEvent::Next, "work 0")?;
-    let work = taken(alloc, core)?;
+fn check_work(rt: &impl Abort, alloc: Global, core: &mut Core) {
+    check(rt, alloc, core, CoreEvent::Next, "work 0");
+    let work = taken(rt, alloc, core);
     assert_eq!(rt; (work.node, work.allowance, work.seen), (0, 1, 0));
-    check(rt, alloc, core, take(0), "one out")?;
-    check(rt, alloc, core, take(1), "ahead 0")?;
+    check(rt, alloc, core, take(0), "one out");
+    check(rt, alloc, core, take(1), "ahead 0");
     let examined = false;
     check(
         rt,
@@ -102,42 +96,41 @@ fn check_work(rt: &impl Abort, alloc: Global, core: &mut Core) -> Result<(), Fai
         core,
         CoreEvent::GiveBack { work, examined },
         "noted",
-    )
+    );
 }
 
 /// The plan is published, and is the best.
-fn check_plan(rt: &impl Abort, alloc: Global, core: &mut Core) -> Result<(), Fail> {
+fn check_plan(rt: &impl Abort, alloc: Global, core: &mut Core) {
     check(
         rt,
         alloc,
         core,
         CoreEvent::Settle { edition: 0 },
         "leaf 0 open for 0",
-    )?;
-    check(rt, alloc, core, CoreEvent::Stop { edition: 0 }, "0 spent")?;
-    check(rt, alloc, core, publish(alloc), "published 0")?;
-    check(rt, alloc, core, publish(alloc), "not better than 0")?;
+    );
+    check(rt, alloc, core, CoreEvent::Stop { edition: 0 }, "0 spent");
+    check(rt, alloc, core, publish(alloc), "published 0");
+    check(rt, alloc, core, publish(alloc), "not better than 0");
     check(
         rt,
         alloc,
         core,
         CoreEvent::Settle { edition: 0 },
         "optimal 0",
-    )?;
-    check(rt, alloc, core, CoreEvent::Settle { edition: 0 }, "closed")?;
-    check(rt, alloc, core, CoreEvent::Next, "one feed open")
+    );
+    check(rt, alloc, core, CoreEvent::Settle { edition: 0 }, "closed");
+    check(rt, alloc, core, CoreEvent::Next, "one feed open");
 }
 
 /// No change is there to be taken back.
-fn check_change(rt: &impl Abort, alloc: Global, core: &mut Core) -> Result<(), Fail> {
+fn check_change(rt: &impl Abort, alloc: Global, core: &mut Core) {
     let event = CoreEvent::Ask {
         feed: 0,
         line: 1,
         change: Change::Withdraw { number: 1 },
     };
-    check(rt, alloc, core, event, "no such change")?;
+    check(rt, alloc, core, event, "no such change");
     assert_eq!(rt; core.history().len(), 3);
-    Ok(())
 }
 
 #[test]
@@ -147,8 +140,9 @@ fn the_empty_plan_is_optimal(rt: HostRuntime) -> Result<(), Fail> {
         budget: 1,
         rule: Rule::Fixed,
     };
-    let mut core = Core::new(alloc, &no_trains(alloc), settings, 1, 2)?;
-    check_work(&rt, alloc, &mut core)?;
-    check_plan(&rt, alloc, &mut core)?;
-    check_change(&rt, alloc, &mut core)
+    let mut core = Core::new(alloc, &no_trains(alloc), settings, 1, 2).expect(&rt, "a core");
+    check_work(&rt, alloc, &mut core);
+    check_plan(&rt, alloc, &mut core);
+    check_change(&rt, alloc, &mut core);
+    Ok(())
 }

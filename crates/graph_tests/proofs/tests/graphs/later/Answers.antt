@@ -2,4 +2,4 @@ use Rattle.graph_tests.proofs.Later.{later_edition}
 use Rattle.graph_tests.proofs.tests.graphs.later.Goals as goal
 
 pub new-requires : goal.new-requires
-new-requires c = record { edition = later_edition c.args.problem.now c.requires }
+new-requires g c = record { edition = later_edition c.args.problem.now c.requires }
