@@ -1,6 +1,5 @@
 pub mod Places
 pub mod Paths
-pub mod Least
 pub mod Keeping
 pub mod Walking
 pub mod Grafting
@@ -15,3 +14,6 @@ pub mod TheFirst
 pub mod Touching
 pub mod Holding
 pub mod HoldingOn
+pub mod Reckoning
+pub mod Seeking
+pub mod Changing

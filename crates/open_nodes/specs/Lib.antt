@@ -3,3 +3,4 @@ pub mod Preorder
 pub mod Grafts
 pub mod Shown
 pub mod Filled
+pub mod Blocks

@@ -180,8 +180,3 @@ HasBound bound (place ∷ places) = ((place.kind ≡ Open) × (place.bound ≡ b
 abbrev pub IsLeastBound : List Place → Option ℕ → Type 0
 IsLeastBound places None = AreNotOpen places
 IsLeastBound places (Some bound) = HaveBounds bound places × HasBound bound places
-
--- the less of a bound, if there is one, and another
-abbrev pub IsLess : Option ℕ → ℕ → ℕ → Type 0
-IsLess None bound less = less ≡ bound
-IsLess (Some other) bound less = (less ≤ other) × (less ≤ bound) × ((less ≡ other) ⊎ (less ≡ bound))

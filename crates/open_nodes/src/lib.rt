@@ -8,6 +8,7 @@
 //! decisions are listed only for the work that is taken.
 #![tactic(auto)]
 
+mod blocks;
 mod child;
 mod graft;
 pub mod laws;

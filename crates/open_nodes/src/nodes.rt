@@ -6,11 +6,11 @@ ghost use Rattle.open_nodes.specs.declared.place.Kind.TheVariants.{Branch};
 ghost use Rattle.open_nodes.specs.Shown.{tree_of, leaf_of, fallen, fallen_at, with_edition};
 ghost use Rattle.open_nodes.specs.Preorder.{IsFirstSought, IsFirstUnmarked, preorder};
 
+use crate::blocks::Blocks;
 use crate::graft::{Grafted, graft, put};
 use crate::path::{decisions, number_out};
 use crate::place::{Kind, Place};
 use crate::ready::Ready;
-use crate::search::{count_out, first_takeable, is_ripe, least_bound};
 use crate::shown::{all_shown, index_of, leaf_at};
 use crate::walk::first_sought;
 use crate::work::{Fragment, GiveBack, Growth, Take, Work};
@@ -25,19 +25,22 @@ pub struct Nodes {
     places: Vec<Place>,
     kept: Vec<PackedNode>,
     ready: Ready,
+    blocks: Blocks,
     edition: u32,
     allowed: u64,
 }
 
 impl Model for Nodes {
     ghost use Rattle.open_nodes.specs.States.{State, ArePlacesKept};
+    ghost use Rattle.open_nodes.specs.Blocks.{AreReckoned};
 
     ghost Value = { State };
 
     ghost view = { λ n.
         record { places = n.places.items; kept = n.kept.items; edition = n.edition } };
 
-    ghost invariant = { λ n. ArePlacesKept n.places.items n.edition n.allowed };
+    ghost invariant = { λ n. ArePlacesKept n.places.items n.edition n.allowed
+        × AreReckoned n.places.items n.edition n.blocks };
 }
 
 impl Nodes {
@@ -62,10 +65,12 @@ impl Nodes {
         let first = TreeNode::Leaf(Leaf::Costs(List::new(alloc)));
         let mut kept = Vec::new(alloc);
         kept.push(PackedNode::of(alloc, &first)?)?;
+        let blocks = Blocks::new(alloc, &places, 0)?;
         Ok(Nodes {
             places,
             kept,
             ready: Ready::new(alloc)?,
+            blocks,
             edition: 0,
             allowed: 0,
         })
@@ -82,7 +87,7 @@ impl Nodes {
     pub fn bound(&self) -> Option<u64>
         ensures { IsLeastBound self.now.places result }
     {
-        least_bound(&self.places)
+        self.blocks.least_bound()
     }
 
     /// The first wanted leaf in preorder and its kept bound. Takes no memory.
@@ -199,7 +204,7 @@ impl Nodes {
             .pop_takeable(&self.places, self.edition, best, free, want, taker);
         match number {
             Some(number) => Some(number),
-            None => first_takeable(&self.places, self.edition, best, free),
+            None => self.blocks.takeable(&self.places, self.edition, best, free),
         }
     }
 
@@ -208,10 +213,10 @@ impl Nodes {
         ensures { (free want seen : ℕ) → NoneTakeable self.now.edition best free self.now.places
             → Takes self.now best free want seen result self.now }
     {
-        if is_ripe(&self.places, best) {
+        if self.blocks.is_ripe(best) {
             return Take::Ripe;
         }
-        let out = count_out(&self.places);
+        let out = self.blocks.count_out();
         if out > 0 {
             Take::AllOut(out)
         } else {
@@ -248,6 +253,7 @@ impl Nodes {
         let out = Some(work.errand());
         self.places[number] = Place { out, ..place };
         self.allowed += u64::from(allowance);
+        self.blocks.change(&self.places, self.edition, number, place, self.places.len());
         Ok(work)
     }
 
@@ -357,8 +363,13 @@ impl Nodes {
     {
         let place = self.places[number];
         let first = self.places.len();
+        let Ok(()) = self.blocks.make_room(first + grown.len()) else {
+            return Err(subtree);
+        };
         put(&mut self.places, &mut self.kept, number, grown, subtree)?;
         self.allowed -= allowance_in(place, self.edition);
+        self.blocks
+            .change(&self.places, self.edition, number, place, first);
         self.ready
             .keep_grown(&self.places, number, first, place.out);
         Ok(())
@@ -371,6 +382,7 @@ impl Nodes {
     {
         self.edition = edition;
         self.allowed = 0;
+        self.blocks.rebase(&self.places, edition);
     }
 
     /// Makes the leaf of a number fall back: it shows the empty list of walks, has the bound 0 and
@@ -386,6 +398,7 @@ impl Nodes {
             return;
         }
         self.places[number] = fallen(place);
+        self.blocks.change(&self.places, self.edition, number, place, self.places.len());
         self.ready.keep_back(number, fallen(place));
     }
 
@@ -403,6 +416,7 @@ impl Nodes {
             ..place
         };
         self.allowed -= allowance_in(place, self.edition);
+        self.blocks.change(&self.places, self.edition, number, place, self.places.len());
         self.ready.keep_back(number, place);
     }
 }
