@@ -13,6 +13,7 @@ use Rattle.disp_model.specs.Routes.{AgreesWithFixing, AgreesWithDecision}
 use Rattle.node_facts.specs.declared.demands.Demand.{Demand}
 use Rattle.node_facts.specs.declared.demands.Demand.TheVariants.{Has, Lacks, Goes, Follows}
 use Rattle.decision_paths.specs.Kept.{speaks_of}
+use Rattle.node_facts.specs.Indexed.{fixes_train}
 use Rattle.node_facts.specs.Demands.{AreDemands, Meets, fixing_demand, decision_demand, as_demands, AreDemandsFor}
 
 meets_one : (route : List ℕ) (demand : Demand) → All (Meets route) (demand ∷ []) ↔ Meets route demand
@@ -102,4 +103,22 @@ pub asks_about : (t : ℕ) (fixings : List Fixing) (own decisions : List Decisio
 asks_about t fixings own decisions demands same asks route = (
   λ h. let both = (asks route).0 h in (both.0, all_about t route own decisions same both.1),
   λ h. (asks route).1 (h.0, all_about t route decisions own (sym same) h.1),
+)
+
+-- what does not speak of a train asks nothing of its routes
+not_fixed : (t : ℕ) (route : List ℕ) (fixing : Fixing) → fixes_train t fixing ≡ false → AgreesWithFixing t route fixing
+not_fixed t route (Started u o time) not = λ same. absurd (eqb-false u t not same)
+not_fixed t route (Chosen u o next) not = λ same. absurd (eqb-false u t not same)
+not_fixed t route (NotBefore u o time) not = tt
+
+all_fixed : (t : ℕ) (route : List ℕ) (fixings others : List Fixing) → filter (fixes_train t) fixings ≡ filter (fixes_train t) others → All (AgreesWithFixing t route) fixings → All (AgreesWithFixing t route) others
+all_fixed t route fixings others same h =
+    all_filtered (AgreesWithFixing t route) (fixes_train t) (not_fixed t route) others
+    (subst (All (AgreesWithFixing t route)) same (All-filter (fixes_train t) (AgreesWithFixing t route) fixings h))
+
+-- what fixings ask that have all those of a train, all of them ask
+pub asks_fixed : (t : ℕ) (own fixings : List Fixing) (decisions : List Decision) (demands : List Demand) → filter (fixes_train t) own ≡ filter (fixes_train t) fixings → AreDemands t own decisions demands → AreDemands t fixings decisions demands
+asks_fixed t own fixings decisions demands same asks route = (
+  λ h. let both = (asks route).0 h in (all_fixed t route own fixings same both.0, both.1),
+  λ h. (asks route).1 (all_fixed t route fixings own (sym same) h.0, h.1),
 )

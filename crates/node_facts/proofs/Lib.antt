@@ -12,3 +12,6 @@ pub mod Closing
 pub mod Pricing
 pub mod Marking
 pub mod Holding
+pub mod Stranded
+pub mod Timing
+pub mod Grouping

@@ -1,5 +1,6 @@
 -- What is known of the allowed routes of a train.
 use Rattle.std.specs.Prelude.{◌≡◌, ◌↔◌, ℕ, ◌<◌, List, ◌∷◌, length, Contains, false, slice_index, slice_index_or, IsTrue, Bool}
+use Rattle.std.specs.Option.{option_map_or}
 use Rattle.disp_model.specs.declared.train.Op.{Op}
 use Rattle.disp_model.specs.declared.train.Operation.{Operation}
 use Rattle.disp_model.specs.Train.{IsEntry}
@@ -11,7 +12,7 @@ use Rattle.train_orders.specs.Orders.{IsOrder}
 use Rattle.node_facts.specs.declared.demands.Demand.{Demand}
 use Rattle.node_facts.specs.declared.train.TrainKnowledge.{TrainKnowledge}
 use Rattle.node_facts.specs.Demands.{AreDemands}
-use Rattle.node_facts.specs.Ways.{IsWay, AreSums}
+use Rattle.node_facts.specs.Ways.{IsWay, AreSums, sum_at}
 use Rattle.node_facts.specs.Holders.{AreHolders}
 use Rattle.route_marks.specs.Marks.{ArePlaces}
 
@@ -38,6 +39,10 @@ pub record IsKnown (node : Node) (t : ℕ) (known : TrainKnowledge) : Type 0 whe
   pub sums_are : AreSums (train_at node.problem t) known.places.items known.demands.items known.sums.items
   pub needed_are : AreOnEach (train_at node.problem t) known.places.items known.demands.items known.entry known.needed.items
   pub holders_are : AreHolders (train_at node.problem t) known.places.items known.demands.items known.sums.items known.needed.items known.holders.items
+
+-- 1 where no route of a train is allowed, else 0
+abbrev pub without_route : TrainKnowledge → ℕ
+without_route known = option_map_or (λ n. 0) (sum_at known.sums.items known.entry) 1
 
 -- the forced operation from which each allowed route goes on to another
 pub record IsHolder (node : Node) (t o h : ℕ) : Type 0 where

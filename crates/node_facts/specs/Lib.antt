@@ -6,3 +6,4 @@ pub mod Known
 pub mod Orders
 pub mod Windows
 pub mod Costs
+pub mod Indexed

@@ -8,6 +8,7 @@ ghost use Rattle.node_facts.specs.Orders.{greater, AreKnown};
 use crate::conflicts::release_between;
 use crate::reading::{min_of, train_of};
 use crate::train::TrainKnowledge;
+use crate::trains::KnownTrains;
 use decision_paths::DecisionPath;
 use disp_model::{Op, Problem};
 
@@ -82,7 +83,7 @@ fn greater(length: Option<u64>, other: Option<u64>) -> Option<u64>
 /// The length of the longest arc between two operations of a node, by what is known of its trains.
 pub fn longest_arc(
     problem: &Problem,
-    trains: &[TrainKnowledge],
+    trains: &KnownTrains,
     decisions: &DecisionPath,
     from: Op,
     to: Op,
@@ -94,6 +95,7 @@ pub fn longest_arc(
         → (n : ℕ) → (result ≡ Some n)
         ↔ IsLongestArc (node_at problem.now fixings decisions.now) from to n }
 {
+    let trains = trains.as_slice();
     let first = trains.get(from.train as usize)?;
     let second = trains.get(to.train as usize)?;
     if !first.is_forced(from.op) {

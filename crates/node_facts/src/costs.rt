@@ -7,11 +7,12 @@ ghost use Rattle.node_facts.specs.Orders.{AreKnown};
 ghost use Rattle.node_facts.specs.Costs.{capped, IsWalkCost, IsCostOfAll};
 
 use crate::arcs::is_same;
+use crate::fixing_index::FixingIndex;
 use crate::late::end_of;
-use crate::train::TrainKnowledge;
+use crate::trains::KnownTrains;
 use crate::walks::walk_length;
 use decision_paths::DecisionPath;
-use disp_model::{Component, ComponentWalk, Fixing, Op, Problem};
+use disp_model::{Component, ComponentWalk, Op, Problem};
 
 /// What a component costs where its operation starts at a time, or the greatest number of 128 bits
 /// where it costs more.
@@ -48,9 +49,9 @@ pub fn ends_in(walk: &[Op], component: &Component) -> bool
 /// operation of its component.
 fn walk_cost(
     problem: &Problem,
-    fixings: &[Fixing],
+    fixings: &FixingIndex,
     decisions: &DecisionPath,
-    trains: &[TrainKnowledge],
+    trains: &KnownTrains,
     listed: &ComponentWalk,
 ) -> Option<u128>
     requires { AreKnown (node_at problem.now fixings.now decisions.now) trains.now }
@@ -73,9 +74,9 @@ fn walk_cost(
 /// operation of its component.
 pub fn walks_cost(
     problem: &Problem,
-    fixings: &[Fixing],
+    fixings: &FixingIndex,
     decisions: &DecisionPath,
-    trains: &[TrainKnowledge],
+    trains: &KnownTrains,
     walks: &[ComponentWalk],
 ) -> Option<u128>
     requires { AreKnown (node_at problem.now fixings.now decisions.now) trains.now }

@@ -6,14 +6,14 @@ ghost use Rattle.disp_model.specs.Walks.{ClosesTo, IsCycle};
 ghost use Rattle.node_facts.specs.Orders.{AreKnown};
 
 use crate::arcs::longest_arc;
-use crate::train::TrainKnowledge;
+use crate::trains::KnownTrains;
 use decision_paths::DecisionPath;
 use disp_model::{Op, Problem};
 
 /// Whether there is an arc between two operations.
 pub fn has_arc(
     problem: &Problem,
-    trains: &[TrainKnowledge],
+    trains: &KnownTrains,
     decisions: &DecisionPath,
     from: Op,
     to: Op,
@@ -34,7 +34,7 @@ pub fn has_arc(
 /// first.
 fn closes(
     problem: &Problem,
-    trains: &[TrainKnowledge],
+    trains: &KnownTrains,
     decisions: &DecisionPath,
     first: Op,
     second: Op,
@@ -60,7 +60,7 @@ fn closes(
 /// the last to the first.
 pub fn is_cycle(
     problem: &Problem,
-    trains: &[TrainKnowledge],
+    trains: &KnownTrains,
     decisions: &DecisionPath,
     nodes: &[Op],
 ) -> bool

@@ -6,11 +6,12 @@ ghost use Rattle.node_facts.specs.Orders.{AreKnown};
 ghost use Rattle.node_facts.specs.Windows.{IsAboveBound};
 ghost use Rattle.disp_model.specs.declared.train.Op.{Op};
 
-use crate::train::TrainKnowledge;
+use crate::fixing_index::FixingIndex;
+use crate::trains::KnownTrains;
 use crate::walks::walk_length;
 use crate::windows::upper_of;
 use decision_paths::DecisionPath;
-use disp_model::{Fixing, Op, Problem};
+use disp_model::{Op, Problem};
 
 /// The operation in which a walk ends.
 pub fn end_of(walk: &[Op]) -> Option<Op>
@@ -35,9 +36,9 @@ fn is_above(total: u128, upper: Option<u64>) -> bool
 /// Whether the operations are a walk that is longer than the upper of its end.
 pub fn is_late(
     problem: &Problem,
-    fixings: &[Fixing],
+    fixings: &FixingIndex,
     decisions: &DecisionPath,
-    trains: &[TrainKnowledge],
+    trains: &KnownTrains,
     walk: &[Op],
 ) -> bool
     requires { AreKnown (node_at problem.now fixings.now decisions.now) trains.now }

@@ -1,4 +1,4 @@
-ghost use Rattle.std.specs.Prelude.{◌≡◌, ◌↔◌, ◌<◌, ◌^◌, ℕ, All, IfOk, IfSome, IsTrue, Some, length, unwrap_or, MatchOption};
+ghost use Rattle.std.specs.Prelude.{◌≡◌, ◌↔◌, ◌<◌, ◌≤◌, ◌^◌, ℕ, All, IfOk, IfSome, IsTrue, Some, length, unwrap_or, MatchOption};
 ghost use Rattle.disp_model.specs.Node.{Node, node_at};
 ghost use Rattle.disp_model.specs.Routes.{HasRoute, IsForced};
 ghost use Rattle.disp_model.specs.Arcs.{IsTrainArc};
@@ -6,11 +6,12 @@ ghost use Rattle.node_facts.specs.Ways.{sum_at, MayGo};
 ghost use Rattle.route_marks.specs.Ways.{last_of};
 
 use crate::demands::{Demand, demands_of, may_go, place_at};
+use crate::fixing_index::FixingIndex;
 use crate::holders::{holder_at, holders_of};
 use crate::needed::{is_marked, needed_of};
 use crate::sums::{has_way, sum_at, sums_of};
 use decision_paths::DecisionPath;
-use disp_model::{Fixing, Memory, Problem};
+use disp_model::{Memory, Problem};
 use route_marks::places_of;
 use std::alloc::Global;
 use train_orders::order_of;
@@ -45,14 +46,14 @@ fn last_of(order: &[u32]) -> u32
 }
 
 impl TrainKnowledge {
-    ghost use Rattle.node_facts.specs.Known.{op_numbered, IsKnown, IsHolder, IsNearer};
+    ghost use Rattle.node_facts.specs.Known.{op_numbered, IsKnown, IsHolder, IsNearer, without_route};
 
     /// What is known of the routes of a train that the fixings and the decisions allow.
     pub fn of(
         alloc: Global,
         problem: &Problem,
         train: u32,
-        fixings: &[Fixing],
+        fixings: &FixingIndex,
         decisions: &DecisionPath,
     ) -> Result<TrainKnowledge, Memory>
         requires { train < length problem.now.trains }
@@ -60,7 +61,8 @@ impl TrainKnowledge {
             (IsKnown (node_at problem.now fixings.now decisions.now) train) }
     {
         let operations = problem.trains.as_slice()[train as usize].as_slice();
-        let demands = demands_of(alloc, train, fixings, decisions.about(train))?;
+        let fixed = fixings.about(train);
+        let demands = demands_of(alloc, train, fixed, decisions.about(train))?;
         let order = order_of(alloc, operations)?;
         let places = places_of(alloc, operations, &order)?;
         let entry = last_of(&order);
@@ -105,6 +107,17 @@ impl TrainKnowledge {
             → IsTrue result ↔ HasRoute node t }
     {
         has_way(&self.sums, self.entry)
+    }
+
+    /// 1 where no route is allowed, else 0.
+    pub(crate) fn without_route(&self) -> usize
+        ensures is { result ≡ without_route self.now }
+        ensures small { result ≤ 1 }
+    {
+        match sum_at(&self.sums, self.entry) {
+            Some(_) => 0,
+            None => 1,
+        }
     }
 
     /// Whether some route is allowed, and each allowed route has the operation.

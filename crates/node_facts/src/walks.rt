@@ -1,4 +1,4 @@
-ghost use Rattle.std.specs.Prelude.{◌≡◌, ◌↔◌, ◌+◌, ◌^◌, ◌≤◌, ◌∷◌, ℕ, IfOk, IsTrue, List, Some};
+ghost use Rattle.std.specs.Prelude.{◌≡◌, ◌↔◌, ◌+◌, ◌^◌, ◌≤◌, ◌∷◌, ℕ, IsTrue, List, Some};
 ghost use Rattle.disp_model.specs.declared.fixing.Fixing.{Fixing};
 ghost use Rattle.disp_model.specs.Node.{Node, node_at};
 ghost use Rattle.disp_model.specs.Routes.{IsForced};
@@ -6,35 +6,17 @@ ghost use Rattle.disp_model.specs.Walks.{WalksOn, IsWalk};
 ghost use Rattle.node_facts.specs.Orders.{AreKnown};
 
 use crate::arcs::longest_arc;
-use crate::train::TrainKnowledge;
+use crate::fixing_index::FixingIndex;
+use crate::trains::KnownTrains;
 use crate::windows::lower_of;
 use decision_paths::DecisionPath;
-use disp_model::{Fixing, Memory, Op, Problem};
-use std::alloc::Global;
-
-/// What is known of each train of a node.
-pub fn known_of(
-    alloc: Global,
-    problem: &Problem,
-    fixings: &[Fixing],
-    decisions: &DecisionPath,
-) -> Result<Vec<TrainKnowledge>, Memory>
-    ensures { IfOk result (λ trains.
-        AreKnown (node_at problem.now fixings.now decisions.now) trains.items) }
-{
-    let mut trains = Vec::new(alloc);
-    for train in 0..problem.trains.len() {
-        let known = TrainKnowledge::of(alloc, problem, train as u32, fixings, decisions)?;
-        trains.push(known)?;
-    }
-    Ok(trains)
-}
+use disp_model::{Op, Problem};
 
 /// Whether an operation is forced.
-pub fn is_forced(trains: &[TrainKnowledge], op: Op) -> bool
+pub fn is_forced(trains: &KnownTrains, op: Op) -> bool
     ensures { (node : Node) → AreKnown node trains.now → IsTrue result ↔ IsForced node op }
 {
-    match trains.get(op.train as usize) {
+    match trains.as_slice().get(op.train as usize) {
         Some(known) => known.is_forced(op.op),
         None => false,
     }
@@ -53,7 +35,7 @@ fn further(total: u128, length: u64) -> u128
 /// follow one another have no arc.
 fn walks_on(
     problem: &Problem,
-    trains: &[TrainKnowledge],
+    trains: &KnownTrains,
     decisions: &DecisionPath,
     first: Op,
     walked: u64,
@@ -81,9 +63,9 @@ fn walks_on(
 /// The length of a walk from an operation along others.
 fn walk_from(
     problem: &Problem,
-    fixings: &[Fixing],
+    fixings: &FixingIndex,
     decisions: &DecisionPath,
-    trains: &[TrainKnowledge],
+    trains: &KnownTrains,
     first: Op,
     rest: &[Op],
 ) -> Option<u128>
@@ -102,9 +84,9 @@ fn walk_from(
 /// more than once.
 pub fn walk_length(
     problem: &Problem,
-    fixings: &[Fixing],
+    fixings: &FixingIndex,
     decisions: &DecisionPath,
-    trains: &[TrainKnowledge],
+    trains: &KnownTrains,
     walk: &[Op],
 ) -> Option<u128>
     requires { AreKnown (node_at problem.now fixings.now decisions.now) trains.now }

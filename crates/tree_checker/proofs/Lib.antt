@@ -16,3 +16,4 @@ pub mod SmallWalks
 pub mod Shown
 pub mod Renewing
 pub mod Owned
+pub mod Apart

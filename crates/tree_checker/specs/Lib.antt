@@ -4,3 +4,4 @@ pub mod Places
 pub mod Bounds
 pub mod TrainCosts
 pub mod Descents
+pub mod Seen

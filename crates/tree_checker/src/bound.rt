@@ -6,8 +6,8 @@ ghost use Rattle.problem_facts.specs.Components.{AreOwnOf};
 
 use crate::shares::shares_cost;
 use decision_paths::DecisionPath;
-use disp_model::{ComponentWalk, Fixing, Memory, Problem, TrainWalks};
-use node_facts::{TrainKnowledge, walks_cost};
+use disp_model::{ComponentWalk, Memory, Problem, TrainWalks};
+use node_facts::{FixingIndex, KnownTrains, walks_cost};
 use problem_facts::OwnComponents;
 use std::alloc::Global;
 
@@ -15,9 +15,9 @@ use std::alloc::Global;
 pub(crate) fn bound_of(
     alloc: Global,
     problem: &Problem,
-    fixings: &[Fixing],
+    fixings: &FixingIndex,
     decisions: &DecisionPath,
-    trains: &[TrainKnowledge],
+    trains: &KnownTrains,
     own: &OwnComponents,
     walks: &[ComponentWalk],
     listed: &[TrainWalks],

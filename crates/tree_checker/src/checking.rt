@@ -12,7 +12,7 @@ use crate::places::{Place, open};
 use crate::why::{Checked, Why};
 use decision_paths::DecisionPath;
 use disp_model::{Fixing, Memory, Problem, TreeNode, Verdict};
-use node_facts::{TrainKnowledge, known_of};
+use node_facts::{FixingIndex, KnownTrains};
 use problem_facts::OwnComponents;
 use std::alloc::Global;
 
@@ -21,36 +21,27 @@ use std::alloc::Global;
 fn step(
     alloc: Global,
     problem: &Problem,
-    fixings: &[Fixing],
+    fixings: &FixingIndex,
     verdict: Verdict,
     path: &mut DecisionPath,
-    trains: &mut Vec<TrainKnowledge>,
+    trains: &mut KnownTrains,
     own: &OwnComponents,
     places: &mut Vec<Place>,
     top: &TreeNode,
 ) -> Result<Option<Why>, Memory>
     requires nested { IsNested (length path.old) (reverse places.old.items) }
-    requires known { AreKnown (node_at problem.now fixings.now path.old) trains.old.items }
+    requires known { AreKnown (node_at problem.now fixings.now path.old) trains.old }
     requires own { AreOwnOf problem.now own.now }
     ensures steps { IfOk result (IsStep problem.now fixings.now verdict top.now
         path.old path.new places.old.items places.new.items) }
     ensures known { OnOk result
-        (AreKnown (node_at problem.now fixings.now path.new) trains.new.items) }
+        (AreKnown (node_at problem.now fixings.now path.new) trains.new) }
 {
     let Some(place) = places.pop() else {
         return Ok(Some(Why::BadChoice));
     };
     descend(alloc, problem, fixings, path, trains, place)?;
-    if let Some(why) = judge(
-        alloc,
-        problem,
-        fixings,
-        path,
-        trains.as_slice(),
-        own,
-        verdict,
-        top,
-    )? {
+    if let Some(why) = judge(alloc, problem, fixings, path, trains, own, verdict, top)? {
         return Ok(Some(why));
     }
     let below = decisions_below(alloc, problem, top)?;
@@ -58,27 +49,18 @@ fn step(
     Ok(None)
 }
 
-/// Checks a tree by the definitions alone: accepted exactly where its nodes, in preorder, fill the
-/// place at which nothing is decided, each leaf holds in its place, and each branch has a choice
-/// that it may have and a child for each of its decisions. Then no valid plan costs less than the
-/// verdict, or none is valid. Else the answer names the first node, counted from 0, that does not
-/// hold, and the first rule that it breaks; a node without a place, and the end of the tree where
-/// a place is left, are of a wrong choice or number of children.
-///
-/// # Errors
-///
-/// `Memory` where memory runs out.
-pub fn check(
+/// What is to be said of a tree: accepted, or the first node that is refused, and why.
+fn check_tree(
     alloc: Global,
     problem: &Problem,
-    fixings: &[Fixing],
+    fixings: &FixingIndex,
     verdict: Verdict,
     tree: &[TreeNode],
 ) -> Result<Checked, Memory>
     ensures { IfOk result (IsChecked problem.now fixings.now verdict tree.now) }
 {
     let mut path = DecisionPath::new(alloc, problem.trains.len())?;
-    let mut trains = known_of(alloc, problem, fixings, &path)?;
+    let mut trains = KnownTrains::of(alloc, problem, fixings, &path)?;
     let own = OwnComponents::of(alloc, problem)?;
     let mut places = Vec::new(alloc);
     places.push(Place {
@@ -108,4 +90,27 @@ pub fn check(
             why: Why::BadChoice,
         })
     }
+}
+
+/// Checks a tree by the definitions alone: accepted exactly where its nodes, in preorder, fill the
+/// place at which nothing is decided, each leaf holds in its place, and each branch has a choice
+/// that it may have and a child for each of its decisions. Then no valid plan costs less than the
+/// verdict, or none is valid. Else the answer names the first node, counted from 0, that does not
+/// hold, and the first rule that it breaks; a node without a place, and the end of the tree where
+/// a place is left, are of a wrong choice or number of children.
+///
+/// # Errors
+///
+/// `Memory` where memory runs out.
+pub fn check(
+    alloc: Global,
+    problem: &Problem,
+    fixings: &[Fixing],
+    verdict: Verdict,
+    tree: &[TreeNode],
+) -> Result<Checked, Memory>
+    ensures { IfOk result (IsChecked problem.now fixings.now verdict tree.now) }
+{
+    let fixings = FixingIndex::of(alloc, problem.trains.len(), fixings)?;
+    check_tree(alloc, problem, &fixings, verdict, tree)
 }

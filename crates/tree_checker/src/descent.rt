@@ -7,8 +7,8 @@ ghost use Rattle.decision_paths.specs.Kept.{train_about};
 
 use crate::places::{Place, go_to};
 use decision_paths::DecisionPath;
-use disp_model::{Decision, Fixing, Memory, Problem};
-use node_facts::TrainKnowledge;
+use disp_model::{Decision, Memory, Problem};
+use node_facts::{FixingIndex, KnownTrains, TrainKnowledge};
 use std::alloc::Global;
 
 /// The train of whose routes a decision speaks, if it speaks of routes.
@@ -63,21 +63,20 @@ fn changed_by(alloc: Global, path: &[Decision], place: Place) -> Result<Vec<u32>
 fn renew_one(
     alloc: Global,
     problem: &Problem,
-    fixings: &[Fixing],
+    fixings: &FixingIndex,
     decisions: &DecisionPath,
-    trains: &mut Vec<TrainKnowledge>,
+    trains: &mut KnownTrains,
     train: u32,
 ) -> Result<(), Memory>
-    requires { length trains.old.items ≡ length problem.now.trains }
+    requires { length trains.old ≡ length problem.now.trains }
     ensures { OnOk result (RenewsOne (node_at problem.now fixings.now decisions.now) train
-        trains.old.items trains.new.items) }
+        trains.old trains.new) }
 {
-    let at = train as usize;
-    if at >= trains.len() {
+    if train as usize >= trains.len() {
         return Ok(());
     }
     let known = TrainKnowledge::of(alloc, problem, train, fixings, decisions)?;
-    trains[at] = known;
+    trains.replace(train, known);
     Ok(())
 }
 
@@ -85,14 +84,14 @@ fn renew_one(
 fn renew(
     alloc: Global,
     problem: &Problem,
-    fixings: &[Fixing],
+    fixings: &FixingIndex,
     decisions: &DecisionPath,
-    trains: &mut Vec<TrainKnowledge>,
+    trains: &mut KnownTrains,
     changed: &[u32],
 ) -> Result<(), Memory>
-    requires { length trains.old.items ≡ length problem.now.trains }
+    requires { length trains.old ≡ length problem.now.trains }
     ensures { OnOk result (AreRenewed (node_at problem.now fixings.now decisions.now) changed.now
-        trains.old.items trains.new.items) }
+        trains.old trains.new) }
 {
     for train in changed {
         renew_one(alloc, problem, fixings, decisions, trains, *train)?;
@@ -105,15 +104,15 @@ fn renew(
 pub(crate) fn descend(
     alloc: Global,
     problem: &Problem,
-    fixings: &[Fixing],
+    fixings: &FixingIndex,
     path: &mut DecisionPath,
-    trains: &mut Vec<TrainKnowledge>,
+    trains: &mut KnownTrains,
     place: Place,
 ) -> Result<(), Memory>
-    requires { AreKnown (node_at problem.now fixings.now path.old) trains.old.items }
+    requires { AreKnown (node_at problem.now fixings.now path.old) trains.old }
     ensures path { OnOk result (path.new ≡ decisions_at path.old place) }
     ensures known { OnOk result
-        (AreKnown (node_at problem.now fixings.now path.new) trains.new.items) }
+        (AreKnown (node_at problem.now fixings.now path.new) trains.new) }
 {
     let changed = changed_by(alloc, path.as_slice(), place)?;
     go_to(path, place)?;

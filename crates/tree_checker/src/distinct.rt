@@ -1,43 +1,45 @@
-ghost use Rattle.std.specs.Prelude.{◌≡◌, ◌<◌, ◌↔◌, ◌≢◌, ℕ, IsTrue, Some, slice_get, All};
+ghost use Rattle.std.specs.Prelude.{◌↔◌, IfOk, IsTrue};
 ghost use Rattle.disp_model.specs.Trees.{HaveDistinct};
 ghost use Rattle.disp_model.specs.Shares.{HaveDistinctTrains};
+ghost use Rattle.tree_checker.specs.Seen.{AreListedTrains};
 
-use disp_model::{ComponentWalk, TrainWalks};
-
-/// Whether no walk is to a component.
-fn is_free(walks: &[ComponentWalk], component: u32) -> bool
-    ensures { IsTrue result ↔ All (λ w. w.component ≢ component) walks.now }
-{
-    walks.iter().all(|walk| walk.component != component)
-}
+use disp_model::{ComponentWalk, Memory, TrainWalks};
+use std::alloc::Global;
+use std::collections::BTreeSet;
 
 /// Whether no two walks are to one component.
-pub(crate) fn have_distinct(walks: &[ComponentWalk]) -> bool
-    ensures { IsTrue result ↔ HaveDistinct walks.now }
+pub(crate) fn have_distinct(alloc: Global, walks: &[ComponentWalk]) -> Result<bool, Memory>
+    ensures { IfOk result (λ distinct. IsTrue distinct ↔ HaveDistinct walks.now) }
 {
-    for place in 0..walks.len() {
-        if !is_free(&walks[..place], walks[place].component) {
-            return false;
+    let mut seen = BTreeSet::new(alloc);
+    for walk in walks {
+        if !seen.insert(walk.component)? {
+            return Ok(false);
         }
     }
-    true
-}
-
-/// Whether a train is not listed.
-pub(crate) fn is_other(trains: &[TrainWalks], train: u32) -> bool
-    ensures { IsTrue result ↔ All (λ listed. listed.train ≢ train) trains.now }
-{
-    trains.iter().all(|listed| listed.train != train)
+    Ok(true)
 }
 
 /// Whether no train is listed twice.
-pub(crate) fn have_distinct_trains(trains: &[TrainWalks]) -> bool
-    ensures { IsTrue result ↔ HaveDistinctTrains trains.now }
+pub(crate) fn have_distinct_trains(alloc: Global, trains: &[TrainWalks]) -> Result<bool, Memory>
+    ensures { IfOk result (λ distinct. IsTrue distinct ↔ HaveDistinctTrains trains.now) }
 {
-    for place in 0..trains.len() {
-        if !is_other(&trains[..place], trains[place].train) {
-            return false;
+    let mut seen = BTreeSet::new(alloc);
+    for listed in trains {
+        if !seen.insert(listed.train)? {
+            return Ok(false);
         }
     }
-    true
+    Ok(true)
+}
+
+/// The numbers of the trains that are listed.
+pub(crate) fn listed_in(alloc: Global, trains: &[TrainWalks]) -> Result<BTreeSet<u32>, Memory>
+    ensures { IfOk result (λ numbers. AreListedTrains trains.now numbers.keys) }
+{
+    let mut numbers = BTreeSet::new(alloc);
+    for listed in trains {
+        numbers.insert(listed.train)?;
+    }
+    Ok(numbers)
 }

@@ -1,14 +1,18 @@
-ghost use Rattle.std.specs.Prelude.{◌↔◌, List, IsTrue, All};
+ghost use Rattle.std.specs.Prelude.{◌↔◌, List, IfOk, IsTrue, All};
 ghost use Rattle.disp_model.specs.declared.fixing.Fixing.{Fixing};
+ghost use Rattle.disp_model.specs.declared.tree.TrainWalks.{TrainWalks};
 ghost use Rattle.disp_model.specs.Node.{node_at};
 ghost use Rattle.disp_model.specs.Shares.{AreOfOthers};
 ghost use Rattle.node_facts.specs.Orders.{AreKnown};
 ghost use Rattle.tree_checker.specs.Rules.{EndsRight, EndsOn, EndOnTrain, IsOfOtherTrain, IsJoinedBack, IsLeafClosed, IsLateIfSaid};
+ghost use Rattle.tree_checker.specs.Seen.{AreListedTrains};
 
-use crate::distinct::is_other;
+use crate::distinct::listed_in;
 use decision_paths::DecisionPath;
-use disp_model::{ComponentWalk, Fixing, Leaf, Op, Problem, TrainWalks};
-use node_facts::{TrainKnowledge, end_of, ends_in, has_arc, is_late};
+use disp_model::{ComponentWalk, Leaf, Memory, Op, Problem, TrainWalks};
+use node_facts::{FixingIndex, KnownTrains, end_of, ends_in, has_arc, is_late};
+use std::alloc::Global;
+use std::collections::BTreeSet;
 
 /// Whether a walk ends in the operation of its component, where that is there.
 fn ends_right(problem: &Problem, listed: &ComponentWalk) -> bool
@@ -56,40 +60,49 @@ pub(crate) fn end_on_train(trains: &[TrainWalks]) -> bool
     trains.iter().all(|listed| all_end_on(listed))
 }
 
-/// Whether the component of a walk, where it is there, is of no listed train.
-fn is_of_other(problem: &Problem, listed: &ComponentWalk, trains: &[TrainWalks]) -> bool
-    ensures { IsTrue result ↔ IsOfOtherTrain problem.now trains.now listed.now }
+/// Whether the component of a walk, where it is there, is of no listed train, by the numbers of
+/// those.
+fn is_of_other(problem: &Problem, walk: &ComponentWalk, numbers: &BTreeSet<u32>) -> bool
+    ensures { (trains : List TrainWalks) → AreListedTrains trains numbers.now.keys
+        → IsTrue result ↔ IsOfOtherTrain problem.now trains walk.now }
 {
-    match problem.components.as_slice().get(listed.component as usize) {
-        Some(component) => is_other(trains, component.train),
+    match problem.components.as_slice().get(walk.component as usize) {
+        Some(component) => !numbers.contains(&component.train),
         None => true,
     }
 }
 
-/// Whether the component of each walk is of no listed train.
-fn each_of_other(problem: &Problem, walks: &[ComponentWalk], trains: &[TrainWalks]) -> bool
-    ensures { IsTrue result ↔ All (IsOfOtherTrain problem.now trains.now) walks.now }
+/// Whether the component of each walk is of no listed train, by the numbers of those.
+fn each_of_other(problem: &Problem, walks: &[ComponentWalk], numbers: &BTreeSet<u32>) -> bool
+    ensures { (trains : List TrainWalks) → AreListedTrains trains numbers.now.keys
+        → IsTrue result ↔ All (IsOfOtherTrain problem.now trains) walks.now }
 {
-    walks
-        .iter()
-        .all(|listed| is_of_other(problem, listed, trains))
+    for walk in walks {
+        if !is_of_other(problem, walk, numbers) {
+            return false;
+        }
+    }
+    true
 }
 
 /// Whether walks are to components of trains that are not listed.
 pub(crate) fn are_of_others(
+    alloc: Global,
     problem: &Problem,
     walks: &[ComponentWalk],
     trains: &[TrainWalks],
-) -> bool
-    ensures { IsTrue result ↔ AreOfOthers problem.now walks.now trains.now }
+) -> Result<bool, Memory>
+    ensures { IfOk result (λ others. IsTrue others
+        ↔ AreOfOthers problem.now walks.now trains.now) }
 {
-    each_of_other(problem, walks, trains)
+    let numbers = listed_in(alloc, trains)?;
+    Ok(each_of_other(problem, walks, &numbers))
 }
 
 /// Whether an arc leads from the last of the operations to the first, if there are any.
 fn is_joined_back(
     problem: &Problem,
-    trains: &[TrainKnowledge],
+    trains: &KnownTrains,
     decisions: &DecisionPath,
     nodes: &[Op],
 ) -> bool
@@ -111,7 +124,7 @@ fn is_joined_back(
 /// Whether the operations of a cycle are joined back to the first.
 pub(crate) fn is_closed(
     problem: &Problem,
-    trains: &[TrainKnowledge],
+    trains: &KnownTrains,
     decisions: &DecisionPath,
     leaf: &Leaf,
 ) -> bool
@@ -133,9 +146,9 @@ pub(crate) fn is_closed(
 /// Whether a walk that is to be late is.
 pub(crate) fn is_late_if_said(
     problem: &Problem,
-    fixings: &[Fixing],
+    fixings: &FixingIndex,
     decisions: &DecisionPath,
-    trains: &[TrainKnowledge],
+    trains: &KnownTrains,
     leaf: &Leaf,
 ) -> bool
     requires { AreKnown (node_at problem.now fixings.now decisions.now) trains.now }

@@ -20,9 +20,30 @@ use crate::showing::shows;
 use crate::why::Why;
 use decision_paths::DecisionPath;
 use disp_model::{Choice, Decision, Fixing, Leaf, Memory, Problem, TreeNode, Verdict};
-use node_facts::{TrainKnowledge, has_no_route, known_of};
+use node_facts::{FixingIndex, KnownTrains};
 use problem_facts::OwnComponents;
 use std::alloc::Global;
+
+/// Whether a leaf holds in a place.
+fn leaf_holds(
+    alloc: Global,
+    problem: &Problem,
+    fixings: &FixingIndex,
+    decisions: &[Decision],
+    verdict: Verdict,
+    leaf: &Leaf,
+) -> Result<bool, Memory>
+    ensures { IfOk result (λ holds. IsTrue holds
+        ↔ LeafHolds (node_at problem.now fixings.now decisions.now) verdict leaf.now) }
+{
+    let path = DecisionPath::of(alloc, problem.trains.len(), decisions)?;
+    let trains = KnownTrains::of(alloc, problem, fixings, &path)?;
+    if trains.has_no_route() {
+        return Ok(true);
+    }
+    let own = OwnComponents::of(alloc, problem)?;
+    shows(alloc, problem, fixings, &path, &trains, &own, verdict, leaf)
+}
 
 /// Whether a leaf holds in a place: some train has no allowed route, or what the leaf lists shows
 /// that no valid plan that follows the decisions is better than the verdict.
@@ -41,22 +62,17 @@ pub fn check_leaf(
     ensures { IfOk result (λ holds. IsTrue holds
         ↔ LeafHolds (node_at problem.now fixings.now decisions.now) verdict leaf.now) }
 {
-    let path = DecisionPath::of(alloc, problem.trains.len(), decisions)?;
-    let trains = known_of(alloc, problem, fixings, &path)?;
-    if has_no_route(&trains) {
-        return Ok(true);
-    }
-    let own = OwnComponents::of(alloc, problem)?;
-    shows(alloc, problem, fixings, &path, &trains, &own, verdict, leaf)
+    let fixings = FixingIndex::of(alloc, problem.trains.len(), fixings)?;
+    leaf_holds(alloc, problem, &fixings, decisions, verdict, leaf)
 }
 
 /// What a leaf costs that keeps all other rules, and yet does not reach a cost.
 fn below_cost(
     alloc: Global,
     problem: &Problem,
-    fixings: &[Fixing],
+    fixings: &FixingIndex,
     decisions: &DecisionPath,
-    trains: &[TrainKnowledge],
+    trains: &KnownTrains,
     own: &OwnComponents,
     cost: u64,
     leaf: &Leaf,
@@ -85,9 +101,9 @@ fn below_cost(
 fn below_verdict(
     alloc: Global,
     problem: &Problem,
-    fixings: &[Fixing],
+    fixings: &FixingIndex,
     decisions: &DecisionPath,
-    trains: &[TrainKnowledge],
+    trains: &KnownTrains,
     own: &OwnComponents,
     verdict: Verdict,
     leaf: &Leaf,
@@ -113,9 +129,9 @@ fn below_verdict(
 fn first_broken(
     alloc: Global,
     problem: &Problem,
-    fixings: &[Fixing],
+    fixings: &FixingIndex,
     decisions: &DecisionPath,
-    trains: &[TrainKnowledge],
+    trains: &KnownTrains,
     own: &OwnComponents,
     verdict: Verdict,
     leaf: &Leaf,
@@ -128,7 +144,7 @@ fn first_broken(
     ensures { IfOk result
         (IsFirstRule (node_at problem.now fixings.now decisions.now) verdict leaf.now) }
 {
-    match first_rule(problem, fixings, decisions, trains, verdict, leaf) {
+    match first_rule(alloc, problem, fixings, decisions, trains, verdict, leaf)? {
         Some(rule) => Ok(rule),
         None => below_verdict(
             alloc, problem, fixings, decisions, trains, own, verdict, leaf,
@@ -140,9 +156,9 @@ fn first_broken(
 fn judge_leaf(
     alloc: Global,
     problem: &Problem,
-    fixings: &[Fixing],
+    fixings: &FixingIndex,
     decisions: &DecisionPath,
-    trains: &[TrainKnowledge],
+    trains: &KnownTrains,
     own: &OwnComponents,
     verdict: Verdict,
     leaf: &Leaf,
@@ -153,7 +169,7 @@ fn judge_leaf(
         (LeafHolds (node_at problem.now fixings.now decisions.now) verdict leaf.now)
         (IsRefusedFor (node_at problem.now fixings.now decisions.now) verdict (ALeaf leaf.now))) }
 {
-    if has_no_route(trains) {
+    if trains.has_no_route() {
         return Ok(None);
     }
     if shows(
@@ -188,9 +204,9 @@ fn judge_branch(problem: &Problem, choice: Choice, children: u32) -> Option<Why>
 pub(crate) fn judge(
     alloc: Global,
     problem: &Problem,
-    fixings: &[Fixing],
+    fixings: &FixingIndex,
     decisions: &DecisionPath,
-    trains: &[TrainKnowledge],
+    trains: &KnownTrains,
     own: &OwnComponents,
     verdict: Verdict,
     top: &TreeNode,

@@ -5,8 +5,8 @@ ghost use Rattle.node_facts.specs.Orders.{AreKnown};
 ghost use Rattle.tree_checker.specs.TrainCosts.{IsLanding, Raises, WasRaised, AreLowers};
 
 use decision_paths::DecisionPath;
-use disp_model::{Fixing, List, Memory, Op, Problem};
-use node_facts::{TrainKnowledge, end_of, lower_of, walk_length};
+use disp_model::{List, Memory, Op, Problem};
+use node_facts::{FixingIndex, KnownTrains, end_of, lower_of, walk_length};
 use std::alloc::Global;
 
 /// Where a walk ends on its train, and how long it is.
@@ -26,9 +26,9 @@ fn count_of(operations: &[Op]) -> usize
 /// How long a walk is; none where the list is no walk of the node.
 fn length_of(
     problem: &Problem,
-    fixings: &[Fixing],
+    fixings: &FixingIndex,
     decisions: &DecisionPath,
-    trains: &[TrainKnowledge],
+    trains: &KnownTrains,
     walk: &[Op],
 ) -> Option<u128>
     requires { AreKnown (node_at problem.now fixings.now decisions.now) trains.now }
@@ -46,9 +46,9 @@ fn length_of(
 /// Where a walk ends on a train, and how long it is; none where it is no walk that ends there.
 fn landing_of(
     problem: &Problem,
-    fixings: &[Fixing],
+    fixings: &FixingIndex,
     decisions: &DecisionPath,
-    trains: &[TrainKnowledge],
+    trains: &KnownTrains,
     train: u32,
     walk: &[Op],
 ) -> Option<Landing>
@@ -85,9 +85,9 @@ fn raise(bases: &mut Vec<u128>, landing: Landing)
 pub(crate) fn raise_all(
     bases: &mut Vec<u128>,
     problem: &Problem,
-    fixings: &[Fixing],
+    fixings: &FixingIndex,
     decisions: &DecisionPath,
-    trains: &[TrainKnowledge],
+    trains: &KnownTrains,
     train: u32,
     walks: &[List<Op>],
 ) -> bool
@@ -108,7 +108,7 @@ pub(crate) fn raise_all(
 pub(crate) fn lowers_of(
     alloc: Global,
     problem: &Problem,
-    fixings: &[Fixing],
+    fixings: &FixingIndex,
     train: u32,
     count: usize,
 ) -> Result<Vec<u128>, Memory>

@@ -7,7 +7,7 @@ ghost use Rattle.tree_checker.specs.Rules.{IsNamed, HasArcs, IsListRight};
 
 use decision_paths::DecisionPath;
 use disp_model::{Op, Problem};
-use node_facts::{TrainKnowledge, has_arc, is_forced};
+use node_facts::{KnownTrains, has_arc, is_forced};
 
 /// What is asked of each list of operations of a leaf.
 #[derive(Clone, Copy)]
@@ -40,7 +40,7 @@ fn are_named(problem: &Problem, walk: &[Op]) -> bool
 }
 
 /// Whether each operation is forced.
-fn are_forced(trains: &[TrainKnowledge], walk: &[Op]) -> bool
+fn are_forced(trains: &KnownTrains, walk: &[Op]) -> bool
     ensures { (node : Node) → AreKnown node trains.now
         → IsTrue result ↔ All (IsForced node) walk.now }
 {
@@ -55,7 +55,7 @@ fn are_forced(trains: &[TrainKnowledge], walk: &[Op]) -> bool
 /// Whether an arc leads from each operation to the next.
 fn are_joined(
     problem: &Problem,
-    trains: &[TrainKnowledge],
+    trains: &KnownTrains,
     decisions: &DecisionPath,
     walk: &[Op],
 ) -> bool
@@ -76,7 +76,7 @@ fn are_joined(
 /// Whether a list of operations is as a rule asks.
 pub(crate) fn is_right(
     problem: &Problem,
-    trains: &[TrainKnowledge],
+    trains: &KnownTrains,
     decisions: &DecisionPath,
     rule: ListRule,
     walk: &[Op],

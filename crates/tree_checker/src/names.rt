@@ -9,7 +9,7 @@ use crate::lists::{ListRule, is_named};
 use crate::rights::are_right;
 use decision_paths::DecisionPath;
 use disp_model::{Choice, ComponentWalk, Leaf, Problem, TrainWalks};
-use node_facts::TrainKnowledge;
+use node_facts::KnownTrains;
 
 /// Whether the operations of a choice are there.
 pub(crate) fn are_named(problem: &Problem, choice: Choice) -> bool
@@ -42,7 +42,7 @@ fn have_trains(problem: &Problem, listed: &[TrainWalks]) -> bool
 /// Whether each name of a leaf names something.
 pub(crate) fn has_names(
     problem: &Problem,
-    trains: &[TrainKnowledge],
+    trains: &KnownTrains,
     decisions: &DecisionPath,
     leaf: &Leaf,
 ) -> bool

@@ -8,12 +8,12 @@ use crate::leaf::{component_walks, listed_trains};
 use crate::lists::{ListRule, is_right};
 use decision_paths::DecisionPath;
 use disp_model::{ComponentWalk, Leaf, List, Op, Problem, TrainWalks};
-use node_facts::TrainKnowledge;
+use node_facts::KnownTrains;
 
 /// Whether the list of a cycle or of a late walk is as a rule asks.
 fn own_is_right(
     problem: &Problem,
-    trains: &[TrainKnowledge],
+    trains: &KnownTrains,
     decisions: &DecisionPath,
     rule: ListRule,
     leaf: &Leaf,
@@ -37,7 +37,7 @@ fn own_is_right(
 /// Whether walks to components are as a rule asks.
 fn components_are_right(
     problem: &Problem,
-    trains: &[TrainKnowledge],
+    trains: &KnownTrains,
     decisions: &DecisionPath,
     rule: ListRule,
     walks: &[ComponentWalk],
@@ -59,7 +59,7 @@ fn components_are_right(
 /// Whether lists of operations are as a rule asks.
 fn lists_are_right(
     problem: &Problem,
-    trains: &[TrainKnowledge],
+    trains: &KnownTrains,
     decisions: &DecisionPath,
     rule: ListRule,
     walks: &[List<Op>],
@@ -81,7 +81,7 @@ fn lists_are_right(
 /// Whether the lists of operations of listed trains are as a rule asks.
 fn trains_are_right(
     problem: &Problem,
-    trains: &[TrainKnowledge],
+    trains: &KnownTrains,
     decisions: &DecisionPath,
     rule: ListRule,
     shown: &[TrainWalks],
@@ -105,7 +105,7 @@ fn trains_are_right(
 /// Whether each list of operations of a leaf is as a rule asks.
 pub(crate) fn are_right(
     problem: &Problem,
-    trains: &[TrainKnowledge],
+    trains: &KnownTrains,
     decisions: &DecisionPath,
     rule: ListRule,
     leaf: &Leaf,

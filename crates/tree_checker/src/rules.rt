@@ -1,4 +1,4 @@
-ghost use Rattle.std.specs.Prelude.{◌≡◌, ◌↔◌, List, IsTrue};
+ghost use Rattle.std.specs.Prelude.{◌≡◌, ◌↔◌, List, IfOk, IsTrue};
 ghost use Rattle.disp_model.specs.declared.fixing.Fixing.{Fixing};
 ghost use Rattle.disp_model.specs.Node.{node_at};
 ghost use Rattle.disp_model.specs.Shares.{AreOfOthers};
@@ -14,8 +14,9 @@ use crate::names::has_names;
 use crate::rights::are_right;
 use crate::why::Why;
 use decision_paths::DecisionPath;
-use disp_model::{ComponentWalk, Fixing, Leaf, Problem, TrainWalks, Verdict};
-use node_facts::TrainKnowledge;
+use disp_model::{ComponentWalk, Leaf, Memory, Problem, TrainWalks, Verdict};
+use node_facts::{FixingIndex, KnownTrains};
+use std::alloc::Global;
 
 /// The rule of a place in the order in which they are asked; of costs none speaks.
 pub(crate) fn rule_at(place: usize) -> Why
@@ -39,12 +40,7 @@ pub(crate) fn rule_at(place: usize) -> Why
 }
 
 /// Whether an arc leads from each operation of each list to the next, and a cycle is closed.
-fn has_arcs(
-    problem: &Problem,
-    trains: &[TrainKnowledge],
-    decisions: &DecisionPath,
-    leaf: &Leaf,
-) -> bool
+fn has_arcs(problem: &Problem, trains: &KnownTrains, decisions: &DecisionPath, leaf: &Leaf) -> bool
     requires { (fixings : List Fixing)
         × AreKnown (node_at problem.now fixings decisions.now) trains.now }
     ensures { (fixings : List Fixing)
@@ -58,43 +54,50 @@ fn has_arcs(
 
 /// Whether walks are to components of trains that are not listed, and those of listed trains end
 /// on them.
-fn are_on_trains(problem: &Problem, walks: &[ComponentWalk], listed: &[TrainWalks]) -> bool
-    ensures { IsTrue result
-        ↔ (AreOfOthers problem.now walks.now listed.now × EndOnTrain listed.now) }
+fn are_on_trains(
+    alloc: Global,
+    problem: &Problem,
+    walks: &[ComponentWalk],
+    listed: &[TrainWalks],
+) -> Result<bool, Memory>
+    ensures { IfOk result (λ right. IsTrue right
+        ↔ (AreOfOthers problem.now walks.now listed.now × EndOnTrain listed.now)) }
 {
-    are_of_others(problem, walks, listed) && end_on_train(listed)
+    let others = are_of_others(alloc, problem, walks, listed)?;
+    Ok(others && end_on_train(listed))
 }
 
 /// Whether a leaf keeps a rule.
 pub(crate) fn keeps(
+    alloc: Global,
     problem: &Problem,
-    fixings: &[Fixing],
+    fixings: &FixingIndex,
     decisions: &DecisionPath,
-    trains: &[TrainKnowledge],
+    trains: &KnownTrains,
     verdict: Verdict,
     leaf: &Leaf,
     rule: Why,
-) -> bool
+) -> Result<bool, Memory>
     requires { AreKnown (node_at problem.now fixings.now decisions.now) trains.now }
-    ensures { IsTrue result
-        ↔ KeepsListRule (node_at problem.now fixings.now decisions.now) verdict leaf.now rule }
+    ensures { IfOk result (λ kept. IsTrue kept
+        ↔ KeepsListRule (node_at problem.now fixings.now decisions.now) verdict leaf.now rule) }
 {
     let walks = component_walks(leaf);
     let listed = listed_trains(leaf);
     match rule {
-        Why::BadName => has_names(problem, trains, decisions, leaf),
-        Why::BadChoice => true,
-        Why::HasRoute => says_more(leaf),
-        Why::NotCycle => is_long_cycle(leaf),
-        Why::EmptyWalk => are_right(problem, trains, decisions, ListRule::NotEmpty, leaf),
-        Why::NotForced => are_right(problem, trains, decisions, ListRule::Forced, leaf),
-        Why::BadArc => has_arcs(problem, trains, decisions, leaf),
-        Why::NotLate => is_late_if_said(problem, fixings, decisions, trains, leaf),
-        Why::RepeatedComponent => have_distinct(walks),
-        Why::RepeatedTrain => have_distinct_trains(listed),
-        Why::WrongTrain => are_on_trains(problem, walks, listed),
-        Why::WrongEnd => end_right(problem, walks),
-        Why::NoVerdict => has_verdict(verdict, leaf),
-        Why::BelowCost { .. } => true,
+        Why::BadName => Ok(has_names(problem, trains, decisions, leaf)),
+        Why::BadChoice => Ok(true),
+        Why::HasRoute => Ok(says_more(leaf)),
+        Why::NotCycle => Ok(is_long_cycle(leaf)),
+        Why::EmptyWalk => Ok(are_right(problem, trains, decisions, ListRule::NotEmpty, leaf)),
+        Why::NotForced => Ok(are_right(problem, trains, decisions, ListRule::Forced, leaf)),
+        Why::BadArc => Ok(has_arcs(problem, trains, decisions, leaf)),
+        Why::NotLate => Ok(is_late_if_said(problem, fixings, decisions, trains, leaf)),
+        Why::RepeatedComponent => have_distinct(alloc, walks),
+        Why::RepeatedTrain => have_distinct_trains(alloc, listed),
+        Why::WrongTrain => are_on_trains(alloc, problem, walks, listed),
+        Why::WrongEnd => Ok(end_right(problem, walks)),
+        Why::NoVerdict => Ok(has_verdict(verdict, leaf)),
+        Why::BelowCost { .. } => Ok(true),
     }
 }

@@ -12,8 +12,8 @@ use crate::entering::{entered_of, kept_at};
 use crate::landings::{lowers_of, raise_all};
 use crate::paying::costs_over;
 use decision_paths::DecisionPath;
-use disp_model::{Fixing, Memory, Problem, TrainWalks};
-use node_facts::{TrainKnowledge, train_of};
+use disp_model::{Memory, Problem, TrainWalks};
+use node_facts::{FixingIndex, KnownTrains, TrainKnowledge, train_of};
 use problem_facts::OwnComponents;
 use std::alloc::Global;
 
@@ -47,9 +47,9 @@ fn least_cost(
 fn share_of(
     alloc: Global,
     problem: &Problem,
-    fixings: &[Fixing],
+    fixings: &FixingIndex,
     decisions: &DecisionPath,
-    trains: &[TrainKnowledge],
+    trains: &KnownTrains,
     own: &OwnComponents,
     shown: &TrainWalks,
 ) -> Result<Option<u128>, Memory>
@@ -59,7 +59,7 @@ fn share_of(
         (IsShown (node_at problem.now fixings.now decisions.now) shown.now) }
 {
     let train = shown.train;
-    let Some(known) = trains.get(train as usize) else {
+    let Some(known) = trains.as_slice().get(train as usize) else {
         return Ok(None);
     };
     let count = train_of(problem, train).len();
@@ -77,9 +77,9 @@ fn share_of(
 pub(crate) fn shares_cost(
     alloc: Global,
     problem: &Problem,
-    fixings: &[Fixing],
+    fixings: &FixingIndex,
     decisions: &DecisionPath,
-    trains: &[TrainKnowledge],
+    trains: &KnownTrains,
     own: &OwnComponents,
     listed: &[TrainWalks],
 ) -> Result<Option<u128>, Memory>

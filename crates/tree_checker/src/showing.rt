@@ -9,8 +9,8 @@ use crate::costs::reach_verdict;
 use crate::distinct::{have_distinct, have_distinct_trains};
 use crate::ends::are_of_others;
 use decision_paths::DecisionPath;
-use disp_model::{ComponentWalk, Fixing, Leaf, Memory, Problem, TrainWalks, Verdict};
-use node_facts::{TrainKnowledge, is_cycle, is_late};
+use disp_model::{ComponentWalk, Leaf, Memory, Problem, TrainWalks, Verdict};
+use node_facts::{FixingIndex, KnownTrains, is_cycle, is_late};
 use problem_facts::OwnComponents;
 use std::alloc::Global;
 
@@ -19,9 +19,9 @@ use std::alloc::Global;
 fn shares_enough(
     alloc: Global,
     problem: &Problem,
-    fixings: &[Fixing],
+    fixings: &FixingIndex,
     decisions: &DecisionPath,
-    trains: &[TrainKnowledge],
+    trains: &KnownTrains,
     own: &OwnComponents,
     walks: &[ComponentWalk],
     listed: &[TrainWalks],
@@ -32,13 +32,13 @@ fn shares_enough(
     ensures { IfOk result (λ enough. IsTrue enough ↔ SharesEnough
         (node_at problem.now fixings.now decisions.now) walks.now listed.now cost) }
 {
-    if !have_distinct(walks) {
+    if !have_distinct(alloc, walks)? {
         return Ok(false);
     }
-    if !have_distinct_trains(listed) {
+    if !have_distinct_trains(alloc, listed)? {
         return Ok(false);
     }
-    if !are_of_others(problem, walks, listed) {
+    if !are_of_others(alloc, problem, walks, listed)? {
         return Ok(false);
     }
     match bound_of(
@@ -53,9 +53,9 @@ fn shares_enough(
 fn share_verdict(
     alloc: Global,
     problem: &Problem,
-    fixings: &[Fixing],
+    fixings: &FixingIndex,
     decisions: &DecisionPath,
-    trains: &[TrainKnowledge],
+    trains: &KnownTrains,
     own: &OwnComponents,
     verdict: Verdict,
     walks: &[ComponentWalk],
@@ -78,9 +78,9 @@ fn share_verdict(
 pub(crate) fn shows(
     alloc: Global,
     problem: &Problem,
-    fixings: &[Fixing],
+    fixings: &FixingIndex,
     decisions: &DecisionPath,
-    trains: &[TrainKnowledge],
+    trains: &KnownTrains,
     own: &OwnComponents,
     verdict: Verdict,
     leaf: &Leaf,
@@ -94,14 +94,15 @@ pub(crate) fn shows(
         Leaf::NoRoute => Ok(false),
         Leaf::Cycle(nodes) => Ok(is_cycle(problem, trains, decisions, nodes.as_slice())),
         Leaf::Late(walk) => Ok(is_late(problem, fixings, decisions, trains, walk.as_slice())),
-        Leaf::Costs(walks) => Ok(reach_verdict(
+        Leaf::Costs(walks) => reach_verdict(
+            alloc,
             problem,
             fixings,
             decisions,
             trains,
             verdict,
             walks.as_slice(),
-        )),
+        ),
         Leaf::Shares {
             walks,
             trains: listed,

@@ -1,8 +1,8 @@
--- no two of the walks so far are to one component
-use Rattle.std.proofs.Common.{◌≡◌, ◌≢◌, ◌<◌, ℕ}
-use Rattle.std.specs.Prelude.{slice_get, Some}
+-- the numbers of those so far are seen, and none of them twice
 use Rattle.disp_model.specs.declared.tree.ComponentWalk.{ComponentWalk}
+use Rattle.tree_checker.specs.Seen.{AreSeen}
+use Rattle.tree_checker.proofs.Apart.{AreApart}
 use Rattle.tree_checker.proofs.distinct.have_distinct.Given as goal
 
-abbrev pub invariant-loop-place : goal.invariant-loop-place
-invariant-loop-place l = (i j : ℕ) (v w : ComponentWalk) → j < l.place → i < j → slice_get l.walks i ≡ Some v → slice_get l.walks j ≡ Some w → v.component ≢ w.component
+abbrev pub invariant-loop-walk : goal.invariant-loop-walk
+invariant-loop-walk l = AreSeen (λ (x : ComponentWalk). x.component) l.walks l.walk-index l.seen.keys × AreApart (λ (x : ComponentWalk). x.component) l.walks l.walk-index

@@ -1,27 +1,11 @@
-use Rattle.std.proofs.Common.{List, refl, sym, subst, inl}
-use Rattle.std.proofs.lemmas.Bool.{false≢true}
-use Rattle.std.proofs.lemmas.Result.{IfOk-weaker}
-use Rattle.disp_model.specs.Node.{node_at}
+use Rattle.std.proofs.Common.{List, subst}
 use Rattle.std.specs.Prelude.{IfOk, IsTrue, ◌↔◌}
-use Rattle.disp_model.specs.declared.decision.Decision.{Decision}
-use Rattle.disp_model.specs.Routes.{HasNoRoute}
+use Rattle.disp_model.specs.declared.fixing.Fixing.{Fixing}
+use Rattle.disp_model.specs.Node.{node_at}
 use Rattle.disp_model.specs.Trees.{LeafHolds}
-use Rattle.node_facts.specs.declared.train.TrainKnowledge.{TrainKnowledge}
-use Rattle.node_facts.specs.Orders.{AreKnown}
-use Rattle.tree_checker.proofs.Refusing.{holds_shown}
 use Rattle.tree_checker.proofs.judging.check_leaf.Goals as goal
-
-pub returns-then-has_no_route : goal.returns-then-has_no_route
-returns-then-has_no_route c =
-    let node = node_at c.args.problem.now c.args.fixings.now c.in_ok-path.path in
-    let known = subst (λ (l : List TrainKnowledge). AreKnown node l) (sym c.deref.ensures.value) c.in_ok-trains.ensures in
-    let none = subst (λ (l : List Decision). HasNoRoute (node_at c.args.problem.now c.args.fixings.now l)) c.in_ok-path.ensures ((c.if-has_no_route.ensures node known).0 refl) in
-    (λ h. inl none, λ h. refl)
 
 pub returns : goal.returns
 returns c =
-    let node = node_at c.args.problem.now c.args.fixings.now c.in_ok-path.path in
-    let known = subst (λ (l : List TrainKnowledge). AreKnown node l) (sym c.deref.ensures.value) c.in_ok-trains.ensures in
-    let routes = λ (none : HasNoRoute node). false≢true ((c.if-has_no_route.ensures node known).1 none) in
-    let holds = IfOk-weaker c.shows.result _ _ (λ shown says. holds_shown node c.args.verdict c.args.leaf.now shown routes says) c.shows.ensures in
-    subst (λ (l : List Decision). IfOk c.shows.result (λ shown. IsTrue shown ↔ LeafHolds (node_at c.args.problem.now c.args.fixings.now l) c.args.verdict c.args.leaf.now)) c.in_ok-path.ensures holds
+    subst (λ (l : List Fixing). IfOk c.leaf_holds.result (λ holds. IsTrue holds ↔ LeafHolds (node_at c.args.problem.now l c.args.decisions.now) c.args.verdict c.args.leaf.now)) c.in_ok-fixings.ensures
+    c.leaf_holds.ensures

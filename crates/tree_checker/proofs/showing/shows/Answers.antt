@@ -6,7 +6,7 @@ use Rattle.disp_model.specs.declared.tree.TrainWalks.{TrainWalks}
 use Rattle.disp_model.specs.declared.tree.Leaf.{Leaf}
 use Rattle.disp_model.specs.Node.{node_at}
 use Rattle.disp_model.specs.Walks.{IsCycle}
-use Rattle.disp_model.specs.Trees.{ShareVerdict, Shows}
+use Rattle.disp_model.specs.Trees.{ReachVerdict, ShareVerdict, Shows}
 use Rattle.tree_checker.proofs.showing.shows.Goals as goal
 
 pub returns-in-Cycle : goal.returns-in-Cycle
@@ -21,3 +21,10 @@ returns-in-Shares c =
     subst (λ (leaf : Leaf). IfOk result (λ (shown : Bool). IsTrue shown ↔ Shows node c.args.verdict leaf)) (sym c.in-Shares.is)
     (subst (λ (l : List ComponentWalk). IfOk result (λ (shown : Bool). IsTrue shown ↔ ShareVerdict node c.args.verdict l c.in-Shares.listed)) c.as_slice-in-Shares.ensures
     (subst (λ (l : List TrainWalks). IfOk result (λ (shown : Bool). IsTrue shown ↔ ShareVerdict node c.args.verdict c.as_slice-in-Shares.result.now l)) c.as_slice-in-Shares-2.ensures c.share_verdict.ensures))
+
+pub returns-in-Costs : goal.returns-in-Costs
+returns-in-Costs c =
+    let node = node_at c.args.problem.now c.args.fixings.now c.args.decisions.now in
+    let result = c.reach_verdict.result in
+    subst (λ (leaf : Leaf). IfOk result (λ (shown : Bool). IsTrue shown ↔ Shows node c.args.verdict leaf)) (sym c.in-Costs.is)
+    (subst (λ (l : List ComponentWalk). IfOk result (λ (shown : Bool). IsTrue shown ↔ ReachVerdict node c.args.verdict l)) c.as_slice-in-Costs.ensures c.reach_verdict.ensures)

@@ -8,7 +8,7 @@ use Rattle.route_marks.specs.Marks.{ArePlaces}
 use Rattle.node_facts.specs.Holders.{AreHolders}
 use Rattle.node_facts.specs.Known.{AreOnEach}
 use Rattle.node_facts.proofs.Assembling.{train_read, is_inside, train_fits, order_fits, known_of}
-use Rattle.node_facts.proofs.Demanding.{asks_about}
+use Rattle.node_facts.proofs.Demanding.{asks_about, asks_fixed}
 use Rattle.node_facts.proofs.train.TrainKnowledge.of.Goals as goal
 
 pub order_of-requires-clause-inside : goal.order_of-requires-clause-inside
@@ -68,7 +68,9 @@ returns c =
     let needed : AreOnEach operations places demands c.last_of-entry.result c.in_ok-needed.needed.items =
     subst (λ (l : List ℕ). AreOnEach operations l demands c.last_of-entry.result c.in_ok-needed.needed.items) c.deref-7.ensures.value
     (subst (λ (l : List Demand). AreOnEach operations c.deref-7.result.now l c.last_of-entry.result c.in_ok-needed.needed.items) c.deref-8.ensures.value c.in_ok-needed.ensures) in
-    let asked = asks_about c.args.train c.args.fixings.now c.about.result.now c.args.decisions.now demands c.about.ensures c.in_ok-demands.ensures in
+    let asked =
+    asks_fixed c.args.train c.about-fixed.result.now c.args.fixings.now c.args.decisions.now demands c.about-fixed.ensures
+    (asks_about c.args.train c.about-fixed.result.now c.about.result.now c.args.decisions.now demands c.about.ensures c.in_ok-demands.ensures) in
     let held : AreHolders operations places demands c.in_ok-sums.sums.items c.in_ok-needed.needed.items c.in_ok-holders.holders.items =
     subst (λ (l : List ℕ). AreHolders operations l demands c.in_ok-sums.sums.items c.in_ok-needed.needed.items c.in_ok-holders.holders.items) c.deref-10.ensures.value
     (subst (λ (l : List Demand). AreHolders operations c.deref-10.result.now l c.in_ok-sums.sums.items c.in_ok-needed.needed.items c.in_ok-holders.holders.items) c.deref-11.ensures.value

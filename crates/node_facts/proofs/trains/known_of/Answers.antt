@@ -1,6 +1,6 @@
 use Rattle.disp_model.specs.Node.{node_at}
 use Rattle.node_facts.proofs.Lengths.{known_more}
-use Rattle.node_facts.proofs.walks.known_of.Goals as goal
+use Rattle.node_facts.proofs.trains.known_of.Goals as goal
 
 pub loop-train-preserved : goal.loop-train-preserved
 loop-train-preserved c =
