@@ -9,6 +9,3 @@ mod late_walks;
 
 pub use cycles::cycle;
 pub use late_walks::late;
-
-#[cfg(test)]
-mod tests;

@@ -6,6 +6,7 @@ ghost use Rattle.displib_reader.specs.Why.{operation_text, listing_text, operati
 use crate::fault::{Kind, ProblemNo};
 use crate::place::{ComponentKey, ListingKey, OperationKey, Place};
 use disp_model::Memory;
+use json_claims::{Described, describe_behind, describe_whole};
 
 impl OperationKey {
     /// The key in the text.
@@ -119,16 +120,6 @@ fn write_key(text: &mut String, key: &str) -> Result<(), Memory>
     Ok(())
 }
 
-/// Adds a word and a place.
-fn write_at(text: &mut String, word: &str, place: Place) -> Result<(), Memory>
-    ensures { OnOk result
-        (Adds (string_bytes text.old) (string_bytes text.new) (word.now ++ place_text place)) }
-{
-    text.push_str(word)?;
-    place.write(text)?;
-    Ok(())
-}
-
 impl Place {
     /// Adds the place as a JSON pointer; the root is written `/`.
     #[tactic(auto, using(plain_values::proofs::Added::joined))]
@@ -162,6 +153,22 @@ impl Place {
     }
 }
 
+impl Described for Place {
+    ghost description = { place_text };
+
+    fn describe(&self, text: &mut String) -> Result<(), Memory> {
+        self.write(text)
+    }
+}
+
+impl Described for ProblemNo {
+    ghost description = { why_text };
+
+    fn describe(&self, text: &mut String) -> Result<(), Memory> {
+        self.add(text)
+    }
+}
+
 impl ProblemNo {
     /// Adds the text that is printed for the refusal: its name, then its numbers and places, with
     /// one space between. Where memory runs out the text is as before.
@@ -170,10 +177,7 @@ impl ProblemNo {
             (string_bytes text.new ≡ string_bytes text.old ++ why_text self.now) }
         ensures err { OnErr result (string_bytes text.new ≡ string_bytes text.old) }
     {
-        let mut why = String::new(*text.allocator());
-        self.add(&mut why)?;
-        text.push_str(why.as_str())?;
-        Ok(())
+        describe_whole(text, self)
     }
 
     /// Adds the text that is printed for the refusal.
@@ -183,14 +187,14 @@ impl ProblemNo {
     {
         match *self {
             ProblemNo::NotJson => write!(text, "NotJson")?,
-            ProblemNo::Shape(place) => write_at(text, "Shape ", place)?,
-            ProblemNo::NotWhole(place) => write_at(text, "NotWhole ", place)?,
-            ProblemNo::TooLarge(place) => write_at(text, "TooLarge ", place)?,
+            ProblemNo::Shape(place) => describe_behind(text, "Shape ", &place)?,
+            ProblemNo::NotWhole(place) => describe_behind(text, "NotWhole ", &place)?,
+            ProblemNo::TooLarge(place) => describe_behind(text, "TooLarge ", &place)?,
             ProblemNo::TooMany(kind, count) => {
                 let kind = kind.as_str();
                 write!(text, "TooMany {kind} {count}")?
             }
-            ProblemNo::BadIndex(place) => write_at(text, "BadIndex ", place)?,
+            ProblemNo::BadIndex(place) => describe_behind(text, "BadIndex ", &place)?,
             ProblemNo::NotOneEntry(t, count) => write_count(text, "NotOneEntry ", t, count)?,
             ProblemNo::NotOneExit(t, count) => write_count(text, "NotOneExit ", t, count)?,
             ProblemNo::Loop(t, o) => write!(text, "Loop {t} {o}")?,

@@ -1,24 +1,21 @@
 -- The arcs of orders that are decided.
 use Rattle.std.proofs.Common.{◌≡◌, ℕ, suc, ◌+◌, ◌^◌, ◌<◌, ◌≤◌, List, [], ◌∷◌, ◌++◌, length, take, get_or, Option, Some, None, refl, sym, ap, subst, ◌∙◌, inl, inr, arith}
-use Rattle.std.specs.Prelude.{All, Contains, slice_get, max, ◌==◌, ◌↔◌}
-use Rattle.std.specs.List.{list_any}
+use Rattle.std.specs.Prelude.{All, Contains, slice_get, ◌↔◌}
 use Rattle.std.specs.Option.{option_map_or}
 use Rattle.std.proofs.lemmas.Option.{none-some, same_Some}
 use Rattle.std.proofs.lemmas.List.{take_more}
-use Rattle.std.proofs.lemmas.List.Elements.{All-cons, All-nil, All-append, filter-append, Contains-append_left, Contains-append_right, Contains-append_cases}
+use Rattle.std.proofs.lemmas.List.Elements.{All-cons, All-nil, All-append, Contains-append_left, Contains-append_right, Contains-append_cases}
 use Rattle.plain_values.proofs.Lists.{contains_one}
 use Rattle.disp_model.specs.declared.train.Op.{Op}
 use Rattle.disp_model.specs.declared.train.Operation.{Operation}
-use Rattle.disp_model.specs.declared.train.Listing.{Listing}
 use Rattle.disp_model.specs.declared.decision.Decision.{Decision}
 use Rattle.disp_model.specs.declared.decision.Decision.TheVariants.{First}
 use Rattle.disp_model.specs.declared.problem.Problem.{Problem}
-use Rattle.disp_model.specs.WellFormed.{greatest_release}
 use Rattle.disp_model.specs.Numbers.{number_of}
 use Rattle.disp_model.specs.Valid.{train_at}
 use Rattle.disp_model.specs.Node.{Node}
 use Rattle.disp_model.specs.Routes.{IsForced}
-use Rattle.disp_model.specs.Arcs.{listings_of, shared_listings, Conflicts, release_of, min_of, IsTrainArc, GoesTo}
+use Rattle.disp_model.specs.Arcs.{Conflicts, release_of, min_of, IsTrainArc, GoesTo}
 use Rattle.disp_laws.proofs.OpenChoices.{goes_to_forced}
 use Rattle.disp_laws.proofs.Numbered.{below_count}
 use Rattle.route_sets.specs.Sets.{op_of_train}
@@ -32,24 +29,7 @@ use Rattle.event_arcs.specs.Ordering.{IsNextNumber, IsNoOrder, IsOrdered, releas
 use Rattle.event_arcs.proofs.Numbering.{forced_is_op}
 use Rattle.event_arcs.proofs.Joining.{leads_kept, leads_by}
 
--- ---- release times of shared resources
-
-pub greatest_push : (listings : List Listing) (l : Listing) → greatest_release (listings ++ l ∷ []) ≡ max (greatest_release listings) l.release
-greatest_push [] l = omega arith
-greatest_push (k ∷ listings) l = omega (arith, greatest_push listings l)
-
-pub not_none : (listings : List Listing) (l : Listing) → listings ++ l ∷ [] ≡ [] → ⊥
-not_none [] l e = absurd cc
-not_none (k ∷ listings) l e = absurd cc
-
-pub shared_more : (listings others : List Listing) (i : ℕ) (d : Listing) → i < length listings
-    → shared_listings (take (i + 1) listings) others ≡ shared_listings (take i listings) others ++ shared_listings (get_or listings i d ∷ []) others
-shared_more listings others i d lt =
-    ap (λ (l : List Listing). shared_listings l others) (take_more listings i d lt) ∙ filter-append (λ l. list_any (λ k. k.resource == l.resource) others) (take i listings) (get_or listings i d ∷ [])
-
--- what an operation that is read lists, and how long it lasts
-pub listings_read : (problem : Problem) (o : Op) (p : Operation) (listings : List Listing) → slice_get (train_at problem o.train) o.op ≡ Some p → listings ≡ p.listings → listings_of problem o ≡ listings
-listings_read problem o p listings at is = ap (λ (found : Option Operation). option_map_or (λ q. q.listings) found []) at ∙ sym is
+-- ---- what is read of an operation
 
 pub min_read : (problem : Problem) (o : Op) (p : Operation) → slice_get (train_at problem o.train) o.op ≡ Some p → p.min ≡ min_of problem o
 min_read problem o p at = sym (ap (λ (found : Option Operation). option_map_or (λ q. q.min) found 0) at)

@@ -1,10 +1,8 @@
 -- Arcs of the orders that are decided, added one after the other.
-use Rattle.std.specs.Prelude.{◌≡◌, ◌≢◌, ℕ, ◌+◌, List, [], ◌∷◌, All, Contains, Option, Some, None}
+use Rattle.std.specs.Prelude.{◌≡◌, ℕ, ◌+◌, List, [], ◌∷◌, All, Contains, Option, Some, None}
 use Rattle.disp_model.specs.declared.train.Op.{Op}
-use Rattle.disp_model.specs.declared.train.Listing.{Listing}
 use Rattle.disp_model.specs.declared.decision.Decision.{Decision}
 use Rattle.disp_model.specs.declared.decision.Decision.TheVariants.{First}
-use Rattle.disp_model.specs.WellFormed.{greatest_release}
 use Rattle.disp_model.specs.Numbers.{number_of}
 use Rattle.disp_model.specs.Node.{Node}
 use Rattle.disp_model.specs.Routes.{IsForced}
@@ -13,11 +11,6 @@ use Rattle.incremental_paths.specs.declared.arc.Arc.{Arc}
 use Rattle.event_arcs.specs.declared.orders.KnownOrder.{KnownOrder}
 use Rattle.event_arcs.specs.Listed.{IsArcOf}
 use Rattle.event_arcs.specs.Chained.{LeadsAlong}
-
--- the greatest release time of listings, if there are any
-abbrev pub IsShared : List Listing → Option ℕ → Type 0
-IsShared shared None = shared ≡ []
-IsShared shared (Some release) = (shared ≢ []) × (release ≡ greatest_release shared)
 
 -- the number of what each allowed route goes on to from an operation
 pub record IsNextNumber (node : Node) (a : Op) (next : Option ℕ) : Type 0 where

@@ -1,19 +1,17 @@
-ghost use Rattle.std.specs.Prelude.{◌≡◌, ◌==◌, ◌++◌, ◌∷◌, [], List, IfSome, OnOk, MatchOption, Contains, Some, slice_get};
-ghost use Rattle.std.specs.List.{list_any};
+ghost use Rattle.std.specs.Prelude.{◌≡◌, ◌++◌, List, OnOk, MatchOption, Some, slice_get};
 ghost use Rattle.disp_model.specs.declared.fixing.Fixing.{Fixing};
 ghost use Rattle.disp_model.specs.declared.decision.Decision.{Decision};
-ghost use Rattle.disp_model.specs.declared.train.Listing.{Listing};
 ghost use Rattle.disp_model.specs.Valid.{train_at};
 ghost use Rattle.disp_model.specs.Node.{Node, node_at};
 ghost use Rattle.disp_model.specs.Routes.{IsForced};
-ghost use Rattle.disp_model.specs.Arcs.{shared_listings};
 ghost use Rattle.event_windows.specs.Operations.{HasOperation};
 ghost use Rattle.event_arcs.specs.Placed.{IsPlaced, ArePlaced};
-ghost use Rattle.event_arcs.specs.Ordering.{IsShared, IsNextNumber, IsNoOrder, IsOrdered, arcs_of_order, AddsOrder, AddsOrders};
+ghost use Rattle.event_arcs.specs.Ordering.{IsNextNumber, IsNoOrder, IsOrdered, arcs_of_order, AddsOrder, AddsOrders};
 
 use crate::placed::Placed;
-use disp_model::{Decision, Listing, Memory, Op, Operation, Problem};
+use disp_model::{Decision, Memory, Op, Operation, Problem};
 use incremental_paths::Arc;
+use problem_facts::release_between;
 
 /// An order of two operations, by their numbers: how long the first lasts, how long it holds after
 /// its end what the second lists too, and what it goes on to, where that is known.
@@ -24,39 +22,6 @@ struct KnownOrder {
     to: u32,
     min: u32,
     release: u32,
-}
-
-/// Whether a resource is among those listed.
-fn lists(listings: &[Listing], resource: u32) -> bool
-    ensures { result ≡ list_any (λ k. k.resource == resource) listings.now }
-{
-    listings.iter().any(|listing| listing.resource == resource)
-}
-
-/// The greater of a release time that may be known and that of a listing, if the others have its
-/// resource.
-fn raised(greatest: Option<u32>, listing: Listing, others: &[Listing]) -> Option<u32>
-    ensures { (shared : List Listing) → IsShared shared greatest
-        → IsShared (shared ++ shared_listings (listing ∷ []) others.now) result }
-{
-    if !lists(others, listing.resource) {
-        return greatest;
-    }
-    match greatest {
-        Some(release) => Some(release.max(listing.release)),
-        None => Some(listing.release),
-    }
-}
-
-/// The greatest release time of listings whose resource the others have too.
-fn shared_release(listings: &[Listing], others: &[Listing]) -> Option<u32>
-    ensures { IsShared (shared_listings listings.now others.now) result }
-{
-    let mut greatest = None;
-    for listing in listings {
-        greatest = raised(greatest, *listing, others);
-    }
-    greatest
 }
 
 /// The operation of a name.
@@ -88,9 +53,6 @@ fn known_order(problem: &Problem, each: &[Placed], a: Op, b: Op) -> Option<Known
         → MatchOption result (IsNoOrder (node_at problem.now fixings decisions) a b)
         (IsOrdered (node_at problem.now fixings decisions) a b) }
 {
-    if a.train == b.train {
-        return None;
-    }
     let before = each.get(a.train as usize)?;
     let behind = each.get(b.train as usize)?;
     if !before.routes.forced(a.op) {
@@ -99,14 +61,12 @@ fn known_order(problem: &Problem, each: &[Placed], a: Op, b: Op) -> Option<Known
     if !behind.routes.forced(b.op) {
         return None;
     }
-    let first = operation(problem, a);
-    let second = operation(problem, b);
-    let release = shared_release(first.listings.as_slice(), second.listings.as_slice())?;
+    let release = release_between(problem, a, b)?;
     Some(KnownOrder {
         from: before.first + a.op,
         next: next_number(before, a),
         to: behind.first + b.op,
-        min: first.min,
+        min: operation(problem, a).min,
         release,
     })
 }

@@ -10,7 +10,7 @@ use Rattle.std.proofs.lemmas.List.{length-append, length-set}
 use Rattle.std.proofs.Math.Nat.{min-le_right}
 use Rattle.disp_model.specs.declared.fixing.Fixing.{Fixing}
 use Rattle.decision_paths.proofs.Listing.{filter_more, filter_same, filter_twice}
-use Rattle.node_facts.specs.Indexed.{train_fixed, fixes_train, own_list, in_list, AreFixedByTrain}
+use Rattle.node_facts.specs.Indexed.{fixing_train, fixes_train, own_list, in_list, AreFixedByTrain}
 
 set_parts : {X : Type 0} (xs : List X) (p : ℕ) (y : X) (i : ℕ) (z : X) → p < length xs → slice_get (set xs p y) i ≡ Some z → ((i ≡ p) × (z ≡ y)) ⊎ ((i ≢ p) × (slice_get xs i ≡ Some z))
 set_parts [] p y i z lt e = absurd (omega (arith, lt))
@@ -29,7 +29,7 @@ own_at : (lists : List (Vec Fixing)) (place : ℕ) (own : Vec Fixing) → place 
 own_at lists place own lt is = slice_get_read lists (length lists) place own refl lt is
 
 -- one fixing more
-pub lists_noted : (fixings : List Fixing) (fixing : Fixing) (lists : List (Vec Fixing)) (place : ℕ) (own new : Vec Fixing) → 0 < length lists → place ≡ own_list (length lists - 1) (train_fixed fixing) → own ≡ get_or lists place own
+pub lists_noted : (fixings : List Fixing) (fixing : Fixing) (lists : List (Vec Fixing)) (place : ℕ) (own new : Vec Fixing) → 0 < length lists → place ≡ own_list (length lists - 1) (fixing_train fixing) → own ≡ get_or lists place own
     → new.items ≡ own.items ++ fixing ∷ [] → AreFixedByTrain fixings lists → AreFixedByTrain (fixings ++ fixing ∷ []) (set lists place new)
 lists_noted fixings fixing lists place own new some place_is own_is new_is are = record {
   some = omega (arith, length-set lists place new, some);
@@ -37,19 +37,19 @@ lists_noted fixings fixing lists place own new some place_is own_is new_is are =
 }
   where
     its : in_list (length lists - 1) place fixing ≡ true
-    its = subst (λ (p : ℕ). (own_list (length lists - 1) (train_fixed fixing) == p) ≡ true) (sym place_is) (nat_eq_equiv.refl (own_list (length lists - 1) (train_fixed fixing)))
+    its = subst (λ (p : ℕ). (own_list (length lists - 1) (fixing_train fixing) == p) ≡ true) (sym place_is) (nat_eq_equiv.refl (own_list (length lists - 1) (fixing_train fixing)))
 
     not_its : (i : ℕ) → i ≢ place → in_list (length lists - 1) i fixing ≡ false
-    not_its i apart = elim (cases_Bool (own_list (length lists - 1) (train_fixed fixing) == i)) [
-      | inl is ↦ absurd (apart (sym (eqb-true (own_list (length lists - 1) (train_fixed fixing)) i is) ∙ sym place_is))
+    not_its i apart = elim (cases_Bool (own_list (length lists - 1) (fixing_train fixing) == i)) [
+      | inl is ↦ absurd (apart (sym (eqb-true (own_list (length lists - 1) (fixing_train fixing)) i is) ∙ sym place_is))
       | inr not ↦ not
     ]
 
     lt : place < length lists
-    lt = within (length lists) (train_fixed fixing) place some place_is
+    lt = within (length lists) (fixing_train fixing) place some place_is
 
     stood : slice_get lists place ≡ Some own
-    stood = own_at lists place own (within (length lists) (train_fixed fixing) place some place_is) own_is
+    stood = own_at lists place own (within (length lists) (fixing_train fixing) place some place_is) own_is
 
     by : (i : ℕ) (list : Vec Fixing) → ((i ≡ place) × (list ≡ new)) ⊎ ((i ≢ place) × (slice_get lists i ≡ Some list)) → list.items ≡ filter (in_list (length lists - 1) i) (fixings ++ fixing ∷ [])
     by i list (inl same) =
@@ -75,7 +75,7 @@ lists_empty lists is i list e = absurd (none-some list (subst (λ (l : List (Vec
 
 -- what speaks of a train is all in its list
 fixes_listed : (last t : ℕ) (fixing : Fixing) → fixes_train t fixing ≡ true → in_list last (own_list last t) fixing ≡ true
-fixes_listed last t fixing h = subst (λ (v : ℕ). (own_list last (train_fixed fixing) == own_list last v) ≡ true) (eqb-true (train_fixed fixing) t h) (nat_eq_equiv.refl (own_list last (train_fixed fixing)))
+fixes_listed last t fixing h = subst (λ (v : ℕ). (own_list last (fixing_train fixing) == own_list last v) ≡ true) (eqb-true (fixing_train fixing) t h) (nat_eq_equiv.refl (own_list last (fixing_train fixing)))
 
 -- what is lent of a train
 pub fixings_lent : (fixings value : List Fixing) (lists read : List (Vec Fixing)) (t place : ℕ) (own : Vec Fixing) (lent : List Fixing) → AreFixedByTrain fixings lists → fixings ≡ value → read ≡ lists

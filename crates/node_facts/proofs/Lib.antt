@@ -9,6 +9,7 @@ pub mod Between
 pub mod Sharing
 pub mod Lengths
 pub mod Closing
+pub mod AddedUp
 pub mod Pricing
 pub mod Marking
 pub mod Holding

@@ -1,9 +1,8 @@
 -- What a walk to a component costs.
-use Rattle.std.proofs.Common.{◌≡◌, ℕ, suc, ◌+◌, ◌<◌, ◌≤◌, ◌∷◌, length, get_or, drop, drop-cons, arith, List, Option, Some, None, Bool, false, refl, sym, ap, subst, ◌∙◌}
+use Rattle.std.proofs.Common.{◌≡◌, ℕ, ◌≤◌, length, List, Option, Some, None, Bool, false, refl, sym, ap, subst, ◌∙◌}
 use Rattle.std.specs.Prelude.{slice_get, IsTrue, ◌↔◌}
 use Rattle.std.proofs.lemmas.Bool.{false≢true}
 use Rattle.std.proofs.lemmas.Option.{none-some, same_Some}
-use Rattle.std.proofs.lemmas.List.{drop_all}
 use Rattle.disp_model.specs.declared.train.Op.{Op}
 use Rattle.disp_model.specs.declared.train.Component.{Component}
 use Rattle.disp_model.specs.declared.tree.ComponentWalk.{ComponentWalk}
@@ -13,6 +12,7 @@ use Rattle.disp_model.specs.Nodes.{component_op}
 use Rattle.disp_model.specs.Walks.{IsWalk, EndsIn}
 use Rattle.disp_model.specs.Trees.{WalkCosts, WalksCost}
 use Rattle.node_facts.specs.Costs.{capped, IsCapped, IsCappedSum}
+use Rattle.node_facts.proofs.AddedUp.{AreSums, AreAddedUp, all_added_up}
 
 pub ends_same : (walk : List Op) (found : Option Op) (end op : Op) (same : Bool) → ((o : Op) → (found ≡ Some o) ↔ EndsIn walk o) → found ≡ Some end → (IsTrue same ↔ (end ≡ op)) → IsTrue same ↔ EndsIn walk op
 ends_same walk found end op same ends is says = (
@@ -42,44 +42,14 @@ cost_is node w component found total price there ends lengths is price_is = reco
 
 -- ---- walks, one after another
 
-pub record AreSummedUp (node : Node) (walks : List ComponentWalk) (i total : ℕ) : Type 0 where
-  pub done : ℕ
-  pub total_is : total ≡ capped done
-  pub whole : (rest : ℕ) → WalksCost node (drop i walks) rest → WalksCost node walks (done + rest)
-  pub parts : (sum : ℕ) → WalksCost node walks sum → (rest : ℕ) × WalksCost node (drop i walks) rest
-
-pub none_summed : (node : Node) (walks : List ComponentWalk) → AreSummedUp node walks 0 0
-none_summed node walks = record { done = 0; total_is = refl; whole = λ rest costs. let same : rest ≡ 0 + rest = omega arith in subst (WalksCost node walks) same costs; parts = λ sum costs. (sum, costs) }
-
-dropped_walks : (walks : List ComponentWalk) (i : ℕ) (w : ComponentWalk) → i < length walks → w ≡ get_or walks i w → drop i walks ≡ w ∷ drop (i + 1) walks
-dropped_walks walks i w lt is =
-    let next : suc i ≡ i + 1 = omega arith in
-    subst (λ (v : ComponentWalk). drop i walks ≡ v ∷ drop (i + 1) walks) (sym is) (subst (λ (n : ℕ). drop i walks ≡ get_or walks i w ∷ drop n walks) next (drop-cons walks i w lt))
-
-pub summed_further : (node : Node) (walks : List ComponentWalk) (i total : ℕ) (w : ComponentWalk) (price more : ℕ) → i < length walks → w ≡ get_or walks i w → AreSummedUp node walks i total → IsCapped node w price → more ≡ capped (total + price)
-    → AreSummedUp node walks (i + 1) more
-summed_further node walks i total w price more lt is before capped_is more_is = record {
-  done = before.done + capped_is.cost;
-  total_is = omega (arith, more_is, before.total_is, capped_is.found_is);
-  whole = λ rest costs.
-      let here : WalksCost node (drop i walks) (capped_is.cost + rest) = subst (λ (l : List ComponentWalk). WalksCost node l (capped_is.cost + rest)) (sym (dropped_walks walks i w lt is)) (capped_is.cost, rest, capped_is.costs, costs, refl) in
-      let same : before.done + (capped_is.cost + rest) ≡ before.done + capped_is.cost + rest = omega arith in
-      subst (WalksCost node walks) same (before.whole (capped_is.cost + rest) here);
-  parts = λ sum costs.
-      let part = before.parts sum costs in
-      let here = subst (λ (l : List ComponentWalk). WalksCost node l part.0) (dropped_walks walks i w lt is) part.1 in
-      (here.1, here.3);
+pub walks_are_sums : (node : Node) → AreSums (WalkCosts node) (WalksCost node)
+walks_are_sums node = record {
+  nothing = refl;
+  joined = λ w walks cost rest costs more. (cost, rest, costs, more, refl);
+  parted = λ w walks sum costs. (costs.0, costs.1, costs.2, costs.3);
 }
 
-pub sum_stuck : (node : Node) (walks : List ComponentWalk) (i total : ℕ) (w : ComponentWalk) → i < length walks → w ≡ get_or walks i w → AreSummedUp node walks i total → ((cost : ℕ) → WalkCosts node w cost → ⊥) → (sum : ℕ) → WalksCost node walks sum → ⊥
-sum_stuck node walks i total w lt is before none sum costs =
-    let part = before.parts sum costs in
-    let here = subst (λ (l : List ComponentWalk). WalksCost node l part.0) (dropped_walks walks i w lt is) part.1 in
-    none here.0 here.2
-
-pub summed_up : (node : Node) (walks : List ComponentWalk) (i total : ℕ) → length walks ≤ i → AreSummedUp node walks i total → IsCappedSum node walks total
-summed_up node walks i total past before = record {
-  sum = before.done + 0;
-  sum_is = before.whole 0 (subst (λ (l : List ComponentWalk). WalksCost node l 0) (sym (drop_all i walks past)) refl);
-  found_is = omega (arith, before.total_is);
-}
+pub summed_up : (node : Node) (walks : List ComponentWalk) (i total : ℕ) → length walks ≤ i → AreAddedUp (WalksCost node) walks i total → IsCappedSum node walks total
+summed_up node walks i total past before =
+    let all = all_added_up (WalkCosts node) (WalksCost node) walks i total (walks_are_sums node) past before in
+    record { sum = all.0; sum_is = all.1; found_is = all.2 }

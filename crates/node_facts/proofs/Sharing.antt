@@ -1,54 +1,23 @@
--- Release times of shared resources, and the arcs of decided orders.
-use Rattle.std.proofs.Common.{◌≡◌, ℕ, ◌+◌, ◌<◌, ◌≤◌, List, [], ◌∷◌, ◌++◌, length, take, get_or, Option, Some, None, refl, sym, ap, subst, ◌∙◌, inl, inr, arith}
-use Rattle.std.specs.Prelude.{Contains, max, MatchOption, ◌==◌, ◌↔◌, ◌⊎◌}
-use Rattle.std.specs.List.{list_any}
+-- The arcs of decided orders.
+use Rattle.std.proofs.Common.{◌≡◌, ℕ, ◌+◌, ◌<◌, ◌≤◌, List, length, get_or, Option, Some, None, refl, sym, ap, subst, ◌∙◌, inl, inr, arith}
+use Rattle.std.specs.Prelude.{Contains, max, ◌↔◌, ◌⊎◌}
 use Rattle.std.proofs.lemmas.Bool.{cases_lt}
 use Rattle.std.proofs.lemmas.Option.{none-some, same_Some, slice_get-get_or}
-use Rattle.std.proofs.lemmas.List.{take_more}
-use Rattle.std.proofs.lemmas.List.Elements.{filter-append}
 use Rattle.disp_model.specs.declared.train.Op.{Op}
-use Rattle.disp_model.specs.declared.train.Listing.{Listing}
 use Rattle.disp_model.specs.declared.decision.Decision.{Decision}
 use Rattle.disp_model.specs.declared.decision.Decision.TheVariants.{First}
 use Rattle.disp_model.specs.declared.problem.Problem.{Problem}
-use Rattle.disp_model.specs.WellFormed.{greatest_release}
 use Rattle.disp_model.specs.Node.{Node}
 use Rattle.disp_model.specs.Routes.{IsAllowed, IsForced}
 use Rattle.disp_model.specs.Fixing.{after}
-use Rattle.disp_model.specs.Arcs.{listings_of, shared_listings, Conflicts, release_of, min_of, IsTrainArc, IsOrderArc, IsReleaseArc, IsArc, IsLongestArc}
+use Rattle.disp_model.specs.Arcs.{Conflicts, release_of, min_of, IsTrainArc, IsOrderArc, IsReleaseArc, IsArc, IsLongestArc}
 use Rattle.disp_laws.proofs.Composed.{own_arc}
 use Rattle.disp_laws.proofs.LongestArcs.{one_train_arc}
+use Rattle.problem_facts.specs.Conflicts.{IsConflict}
 use Rattle.node_facts.specs.declared.train.TrainKnowledge.{TrainKnowledge}
 use Rattle.node_facts.specs.Known.{op_numbered, IsKnown, IsHolder}
-use Rattle.node_facts.specs.Orders.{IsShared, IsConflict, greater, AreKnown}
+use Rattle.node_facts.specs.Orders.{greater, AreKnown}
 use Rattle.node_facts.proofs.Stepping.{one_holder}
-
-pub greatest_push : (listings : List Listing) (l : Listing) → greatest_release (listings ++ l ∷ []) ≡ max (greatest_release listings) l.release
-greatest_push [] l = omega arith
-greatest_push (k ∷ listings) l = omega (arith, greatest_push listings l)
-
-pub not_none : (listings : List Listing) (l : Listing) → listings ++ l ∷ [] ≡ [] → ⊥
-not_none [] l e = absurd cc
-not_none (k ∷ listings) l e = absurd cc
-
-pub shared_more : (listings others : List Listing) (i : ℕ) (d : Listing) → i < length listings
-    → shared_listings (take (i + 1) listings) others ≡ shared_listings (take i listings) others ++ shared_listings (get_or listings i d ∷ []) others
-shared_more listings others i d lt =
-    ap (λ (l : List Listing). shared_listings l others) (take_more listings i d lt) ∙ filter-append (λ l. list_any (λ k. k.resource == l.resource) others) (take i listings) (get_or listings i d ∷ [])
-
-pub conflict_is : (problem : Problem) (a b : Op) (first second : List Listing) (found : Option ℕ) → (a.train ≡ b.train → ⊥) → first ≡ listings_of problem a → second ≡ listings_of problem b → IsShared (shared_listings first second) found
-    → MatchOption found (Conflicts problem a b → ⊥) (IsConflict problem a b)
-conflict_is problem a b first second None apart one two shared = λ conflicts. conflicts.shared (sym lists ∙ shared)
-  where
-    lists : shared_listings first second ≡ shared_listings (listings_of problem a) (listings_of problem b)
-    lists = ap (λ (l : List Listing). shared_listings l second) one ∙ ap (λ (l : List Listing). shared_listings (listings_of problem a) l) two
-conflict_is problem a b first second (Some release) apart one two shared = record {
-  conflicts = record { trains = apart; shared = λ none. shared.0 (lists ∙ none) };
-  release_is = shared.1 ∙ ap greatest_release lists;
-}
-  where
-    lists : shared_listings first second ≡ shared_listings (listings_of problem a) (listings_of problem b)
-    lists = ap (λ (l : List Listing). shared_listings l second) one ∙ ap (λ (l : List Listing). shared_listings (listings_of problem a) l) two
 
 -- ---- the arc of an order
 

@@ -32,14 +32,14 @@ pub record AreBars (fixings : List Fixing) (bars : List ((ℕ × ℕ) × ℕ)) :
 -- ---- trains
 
 -- the train of which a fixing speaks
-abbrev pub train_fixed : Fixing → ℕ
-train_fixed (Started t p time) = t
-train_fixed (Chosen t p next) = t
-train_fixed (NotBefore t p time) = t
+abbrev pub fixing_train : Fixing → ℕ
+fixing_train (Started t p time) = t
+fixing_train (Chosen t p next) = t
+fixing_train (NotBefore t p time) = t
 
 -- whether a fixing speaks of a train
 abbrev pub fixes_train : ℕ → Fixing → Bool
-fixes_train t fixing = train_fixed fixing == t
+fixes_train t fixing = fixing_train fixing == t
 
 -- which list is a train's: the last is of all trains that have none of their own
 abbrev pub own_list : ℕ → ℕ → ℕ
@@ -47,7 +47,7 @@ own_list last t = min t last
 
 -- whether a fixing is one of a list
 abbrev pub in_list : ℕ → ℕ → Fixing → Bool
-in_list last i fixing = own_list last (train_fixed fixing) == i
+in_list last i fixing = own_list last (fixing_train fixing) == i
 
 -- each list has the fixings that are its own, in order
 pub record AreFixedByTrain (fixings : List Fixing) (lists : List (Vec Fixing)) : Type 0 where

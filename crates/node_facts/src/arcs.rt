@@ -5,12 +5,12 @@ ghost use Rattle.disp_model.specs.Arcs.{IsOrderArc, IsReleaseArc, IsLongestArc};
 ghost use Rattle.node_facts.specs.Known.{IsKnown};
 ghost use Rattle.node_facts.specs.Orders.{greater, AreKnown};
 
-use crate::conflicts::release_between;
 use crate::reading::{min_of, train_of};
 use crate::train::TrainKnowledge;
 use crate::trains::KnownTrains;
 use decision_paths::DecisionPath;
 use disp_model::{Op, Problem};
+use problem_facts::release_between;
 
 /// Whether two names are those of one operation.
 pub fn is_same(op: Op, other: Op) -> bool

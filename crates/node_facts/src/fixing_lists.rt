@@ -1,13 +1,13 @@
 ghost use Rattle.std.specs.Prelude.{◌≡◌, ◌-◌, ◌<◌, ◌++◌, ◌∷◌, [], List, OnOk, IfOk, length};
 ghost use Rattle.disp_model.specs.declared.fixing.Fixing.{Fixing};
-ghost use Rattle.node_facts.specs.Indexed.{own_list, train_fixed, AreFixedByTrain};
+ghost use Rattle.node_facts.specs.Indexed.{own_list, fixing_train, AreFixedByTrain};
 
 use disp_model::{Fixing, Memory};
 use std::alloc::Global;
 
 /// The train of which a fixing speaks.
 fn train_fixed(fixing: &Fixing) -> u64
-    ensures { result ≡ train_fixed fixing.now }
+    ensures { result ≡ fixing_train fixing.now }
 {
     match *fixing {
         Fixing::Started { at_train, .. } => at_train,

@@ -9,7 +9,6 @@
 #![tactic(auto)]
 
 mod arcs;
-mod conflicts;
 mod costs;
 mod cycles;
 mod demands;
@@ -28,7 +27,6 @@ mod walks;
 mod windows;
 
 pub use arcs::{is_same, longest_arc};
-pub use conflicts::release_between;
 pub use costs::{ends_in, walks_cost};
 pub use cycles::{has_arc, is_cycle};
 pub use fixing_index::FixingIndex;

@@ -1,9 +1,8 @@
-ghost use Rattle.std.specs.Prelude.{◌≡◌, [], slice_get};
-ghost use Rattle.std.specs.Option.{option_map_or};
+ghost use Rattle.std.specs.Prelude.{◌≡◌};
 ghost use Rattle.disp_model.specs.Train.{next_of, duration_of};
 ghost use Rattle.disp_model.specs.Valid.{train_at};
 
-use disp_model::{Listing, Operation, Problem};
+use disp_model::{Operation, Problem};
 
 /// The operations of a train, none where there is no such train.
 pub fn train_of(problem: &Problem, train: u32) -> &[Operation]
@@ -21,16 +20,6 @@ pub fn nexts_of(train: &[Operation], op: u32) -> &[u32]
 {
     match train.get(op as usize) {
         Some(operation) => operation.next.as_slice(),
-        None => &[],
-    }
-}
-
-/// What an operation lists.
-pub(crate) fn listings_of(train: &[Operation], op: u32) -> &[Listing]
-    ensures { result.now ≡ option_map_or (λ p. p.listings) (slice_get train.now op) [] }
-{
-    match train.get(op as usize) {
-        Some(operation) => operation.listings.as_slice(),
         None => &[],
     }
 }

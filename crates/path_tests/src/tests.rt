@@ -1,6 +1,8 @@
 // Arcs that are added and withdrawn, and lowers that are raised.
 ghost use Rattle.std.specs.Prelude.{◌≡◌, ◌<◌, ◌≤◌, ◌+◌, ◌^◌, length, All, IfOk};
 
+mod witnesses;
+
 use incremental_paths::{AddNo, Arc, Memory, OrderedPaths, Paths, Steps};
 use std::alloc::Global;
 use std::marker::Brand;

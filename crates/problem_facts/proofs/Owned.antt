@@ -6,7 +6,7 @@ use Rattle.std.proofs.lemmas.List.{take_all, append-nil}
 use Rattle.std.proofs.lemmas.List.Elements.{filter_more}
 use Rattle.disp_model.specs.declared.train.Component.{Component}
 use Rattle.disp_model.specs.declared.problem.Problem.{Problem}
-use Rattle.problem_facts.specs.Components.{own_in, is_of, TakesComponent, HaveEach}
+use Rattle.problem_facts.specs.Components.{own_in, is_of_train, TakesComponent, HaveEach}
 
 same_number : (x y : ℕ) → (x ≡ y) ⊎ (x ≡ y → ⊥)
 same_number x y = elim (cases_Bool (nat_eq x y)) [ inl is ↦ inl (eqb-true x y is) | inr is ↦ inr (λ e. eqb-false x y is e) ]
@@ -28,17 +28,17 @@ pub have_more : (components : List Component) (i : ℕ) (c : Component) (old new
 have_more components i c old new lt is before takes t there = elim (same_number t c.train) [
   | inl e ↦
       let own : own_in new t ≡ own_in old t ++ c ∷ [] = subst (λ (u : ℕ). own_in new u ≡ own_in old u ++ c ∷ []) (sym e) takes.own in
-      let taken : filter (is_of t) (take (i + 1) components) ≡ filter (is_of t) (take i components) ++ c ∷ [] = rw (eq-eqb c.train t (sym e)) at more in
+      let taken : filter (is_of_train t) (take (i + 1) components) ≡ filter (is_of_train t) (take i components) ++ c ∷ [] = rw (eq-eqb c.train t (sym e)) at more in
       own ∙ ap (λ (l : List Component). l ++ c ∷ []) earlier ∙ sym taken
   | inr other ↦
-      let left : filter (is_of t) (take (i + 1) components) ≡ filter (is_of t) (take i components) ++ [] = rw (ne_eqb c.train t (λ e. other (sym e))) at more in
-      takes.others t other ∙ earlier ∙ sym (left ∙ append-nil (filter (is_of t) (take i components)))
+      let left : filter (is_of_train t) (take (i + 1) components) ≡ filter (is_of_train t) (take i components) ++ [] = rw (ne_eqb c.train t (λ e. other (sym e))) at more in
+      takes.others t other ∙ earlier ∙ sym (left ∙ append-nil (filter (is_of_train t) (take i components)))
 ]
   where
-    more : filter (is_of t) (take (i + 1) components) ≡ filter (is_of t) (take i components) ++ cond (nat_eq c.train t) (c ∷ []) []
-    more = subst (λ (x : Component). filter (is_of t) (take (i + 1) components) ≡ filter (is_of t) (take i components) ++ cond (nat_eq x.train t) (x ∷ []) []) (sym is) (filter_more (is_of t) components i c lt)
+    more : filter (is_of_train t) (take (i + 1) components) ≡ filter (is_of_train t) (take i components) ++ cond (nat_eq c.train t) (c ∷ []) []
+    more = subst (λ (x : Component). filter (is_of_train t) (take (i + 1) components) ≡ filter (is_of_train t) (take i components) ++ cond (nat_eq x.train t) (x ∷ []) []) (sym is) (filter_more (is_of_train t) components i c lt)
 
-    earlier : own_in old t ≡ filter (is_of t) (take i components)
+    earlier : own_in old t ≡ filter (is_of_train t) (take i components)
     earlier = before t (omega (arith, there, takes.long))
 
 pub have_all : (problem : Problem) (components : List Component) (i : ℕ) (each : List (List Component)) → components ≡ problem.components → length components ≤ i → HaveEach (take i components) each → HaveEach problem.components each

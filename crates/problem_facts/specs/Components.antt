@@ -7,8 +7,8 @@ use Rattle.problem_facts.specs.declared.components.OwnComponents.{OwnComponents}
 abbrev pub own_in : List (List Component) → ℕ → List Component
 own_in each t = slice_index_or each t []
 
-abbrev pub is_of : ℕ → Component → Bool
-is_of t c = c.train == t
+abbrev pub is_of_train : ℕ → Component → Bool
+is_of_train t c = c.train == t
 
 -- the component's train has one more
 pub record TakesComponent (c : Component) (old new : List (List Component)) : Type 0 where
@@ -18,7 +18,7 @@ pub record TakesComponent (c : Component) (old new : List (List Component)) : Ty
 
 -- each train has those of the components that are of it
 abbrev pub HaveEach : List Component → List (List Component) → Type 0
-HaveEach components each = (t : ℕ) → t < length each → own_in each t ≡ filter (is_of t) components
+HaveEach components each = (t : ℕ) → t < length each → own_in each t ≡ filter (is_of_train t) components
 
 pub record AreOwnOf (problem : Problem) (own : OwnComponents) : Type 0 where
   pub long : length own.each.items ≡ length problem.trains

@@ -1,1 +1,4 @@
+pub mod Adding
 pub mod Components
+pub mod Conflicts
+pub mod Prices

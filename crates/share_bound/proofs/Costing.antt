@@ -14,7 +14,8 @@ use Rattle.disp_laws.proofs.Shares.{route_grows, share_exists, train_there}
 use Rattle.route_marks.specs.Ways.{Goes, last_of}
 use Rattle.route_sets.specs.Sets.{AreAllowedRows}
 use Rattle.share_bound.specs.Times.{AreTimes, reach_in}
-use Rattle.share_bound.specs.Prices.{own_price, priced_along, AreFittedPrices, HasOwn}
+use Rattle.problem_facts.specs.Prices.{own_price}
+use Rattle.share_bound.specs.Prices.{priced_along, AreFittedPrices, HasOwn}
 use Rattle.share_bound.specs.Leasts.{IsCheapest, IsFittedShare}
 use Rattle.share_bound.proofs.Reaching.{begins, same_reach}
 use Rattle.share_bound.proofs.Pricing.{route_price}

@@ -1,24 +1,14 @@
 -- What the components of a train's operations cost at their reaches.
-use Rattle.std.specs.Prelude.{◌≡◌, ℕ, zero, suc, ◌+◌, ◌-◌, ◌*◌, ◌^◌, ◌<◌, ◌==◌, ◌&&◌, min, List, [], ◌∷◌, length, slice_index, sum_by, if◌then◌else◌}
+use Rattle.std.specs.Prelude.{◌≡◌, ℕ, zero, suc, ◌+◌, ◌-◌, ◌*◌, ◌^◌, ◌<◌, ◌==◌, min, List, [], ◌∷◌, length, slice_index, sum_by, if◌then◌else◌}
 use Rattle.disp_model.specs.declared.train.Operation.{Operation}
 use Rattle.disp_model.specs.declared.train.Component.{Component}
 use Rattle.disp_model.specs.declared.problem.Problem.{Problem}
 use Rattle.disp_model.specs.WellFormed.{most_of}
-use Rattle.disp_model.specs.Cost.{cost_at}
 use Rattle.disp_model.specs.Shares.{cost_along, route_cost}
 
 -- a cost, or the greatest number of 64 bits where it is more
 abbrev pub fitted : ℕ → ℕ
 fitted cost = min cost (2 ^ 64 - 1)
-
--- what a component costs at an operation of a train, or nothing where it is of another
-abbrev pub price_there : ℕ → (ℕ → ℕ) → ℕ → Component → ℕ
-price_there t reach o c = if (c.train == t) && (o == c.operation) then cost_at c (reach c.operation)
-    else 0
-
--- what the components of an operation cost together
-abbrev pub own_price : List Component → ℕ → (ℕ → ℕ) → ℕ → ℕ
-own_price components t reach o = sum_by (price_there t reach o) components
 
 -- the prices of operations together
 abbrev pub priced_along : (ℕ → ℕ) → List ℕ → ℕ

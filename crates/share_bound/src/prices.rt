@@ -1,10 +1,12 @@
-ghost use Rattle.std.specs.Prelude.{◌≡◌, ◌+◌, ◌<◌, ◌==◌, ℕ, IfOk, length, if◌then◌else◌, slice_index};
+ghost use Rattle.std.specs.Prelude.{◌≡◌, IfOk, length};
 ghost use Rattle.disp_model.specs.Cost.{cost_at};
+ghost use Rattle.problem_facts.specs.Prices.{own_price};
 ghost use Rattle.share_bound.specs.Times.{base_in, reach_in};
-ghost use Rattle.share_bound.specs.Prices.{fitted, own_price, AreFittedPrices};
+ghost use Rattle.share_bound.specs.Prices.{fitted, AreFittedPrices};
 
 use crate::times::reach_at;
 use disp_model::{Component, Memory, Operation};
+use problem_facts::add_components;
 use std::alloc::Global;
 
 /// What a component costs where its operation starts at a time, or the greatest number of 64 bits
@@ -12,51 +14,8 @@ use std::alloc::Global;
 pub fn cost_of(component: &Component, time: u64) -> u64
     ensures { result ≡ fitted (cost_at component.now time) }
 {
-    let threshold = u64::from(component.threshold);
-    let late = time.saturating_sub(threshold);
-    let sum = u64::from(component.coeff).saturating_mul(late);
-    if threshold <= time {
-        sum.saturating_add(u64::from(component.increment))
-    } else {
-        sum
-    }
-}
-
-/// Adds a cost at an operation, if there is such a one.
-fn add_at(prices: &mut Vec<u64>, op: u32, cost: u64)
-    ensures long { length prices.new.items ≡ length prices.old.items }
-    ensures added { (o : ℕ) → o < length prices.old.items → slice_index prices.new.items o
-        ≡ (if op == o then fitted (slice_index prices.old.items o + cost)
-        else slice_index prices.old.items o) }
-{
-    let at = op as usize;
-    if at < prices.len() {
-        let more = prices[at].saturating_add(cost);
-        prices[at] = more;
-    }
-}
-
-/// Adds what a component of a train costs at its operation's reach; one of another costs nothing.
-fn add_price(
-    prices: &mut Vec<u64>,
-    train: u32,
-    times: &[Option<u64>],
-    bases: &[u64],
-    component: &Component,
-)
-    ensures long { length prices.new.items ≡ length prices.old.items }
-    ensures added { (o : ℕ) → o < length prices.old.items → slice_index prices.new.items o
-        ≡ (if component.now.train == train
-        then (if component.now.operation == o
-        then fitted (slice_index prices.old.items o
-        + cost_at component.now (reach_in times.now (base_in bases.now) o))
-        else slice_index prices.old.items o)
-        else slice_index prices.old.items o) }
-{
-    if component.train == train {
-        let reach = reach_at(times, bases, component.operation);
-        add_at(prices, component.operation, cost_of(component, reach));
-    }
+    let cost = problem_facts::cost_of(component, u128::from(time));
+    cost.min(u128::from(u64::MAX)) as u64
 }
 
 /// What the components of each operation of a train cost together at its reach.
@@ -73,8 +32,9 @@ pub(crate) fn prices_of(
         (own_price components.now train (reach_in times.now (base_in bases.now))) prices.items) }
 {
     let mut prices = vec![in alloc; 0; operations.len()]?;
-    for component in components {
-        add_price(&mut prices, train, times, bases, component);
-    }
+    add_components(&mut prices, train, components, |price: u64, component| {
+        let reach = reach_at(times, bases, component.operation);
+        price.saturating_add(cost_of(&component, reach))
+    });
     Ok(prices)
 }

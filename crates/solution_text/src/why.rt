@@ -1,11 +1,11 @@
-ghost use Rattle.std.specs.Prelude.{◌≡◌, ◌++◌, OnOk, OnErr, codes, string_bytes};
-ghost use Rattle.std.specs.Fmt.{decimal};
+ghost use Rattle.std.specs.Prelude.{◌≡◌, ◌++◌, OnOk, OnErr, string_bytes};
 ghost use Rattle.plain_values.specs.Texts.{Adds};
 ghost use Rattle.solution_text.specs.Why.{key_text, solution_place_text, solution_why_text};
 
 use crate::fault::SolutionNo;
 use crate::place::{EventKey, SolutionPlace};
 use disp_model::Memory;
+use json_claims::{Described, describe_behind, describe_whole};
 
 impl EventKey {
     /// The key in the text.
@@ -40,15 +40,20 @@ impl SolutionPlace {
     }
 }
 
-/// Adds a word and a place.
-fn write_at(text: &mut String, word: &str, place: SolutionPlace) -> Result<(), Memory>
-    ensures { OnOk result
-        (Adds (string_bytes text.old) (string_bytes text.new)
-        (word.now ++ solution_place_text place)) }
-{
-    text.push_str(word)?;
-    place.write(text)?;
-    Ok(())
+impl Described for SolutionPlace {
+    ghost description = { solution_place_text };
+
+    fn describe(&self, text: &mut String) -> Result<(), Memory> {
+        self.write(text)
+    }
+}
+
+impl Described for SolutionNo {
+    ghost description = { solution_why_text };
+
+    fn describe(&self, text: &mut String) -> Result<(), Memory> {
+        self.add(text)
+    }
 }
 
 impl SolutionNo {
@@ -59,10 +64,7 @@ impl SolutionNo {
             (string_bytes text.new ≡ string_bytes text.old ++ solution_why_text self.now) }
         ensures err { OnErr result (string_bytes text.new ≡ string_bytes text.old) }
     {
-        let mut why = String::new(*text.allocator());
-        self.add(&mut why)?;
-        text.push_str(why.as_str())?;
-        Ok(())
+        describe_whole(text, self)
     }
 
     /// Adds the text that is printed for the refusal.
@@ -72,9 +74,9 @@ impl SolutionNo {
     {
         match *self {
             SolutionNo::NotJson => write!(text, "NotJson")?,
-            SolutionNo::Shape(place) => write_at(text, "Shape ", place)?,
-            SolutionNo::NotWhole(place) => write_at(text, "NotWhole ", place)?,
-            SolutionNo::TooLarge(place) => write_at(text, "TooLarge ", place)?,
+            SolutionNo::Shape(place) => describe_behind(text, "Shape ", &place)?,
+            SolutionNo::NotWhole(place) => describe_behind(text, "NotWhole ", &place)?,
+            SolutionNo::TooLarge(place) => describe_behind(text, "TooLarge ", &place)?,
             SolutionNo::TooMany(count) => write!(text, "TooMany {count}")?,
             SolutionNo::Memory => write!(text, "Memory")?,
         }

@@ -1,10 +1,9 @@
--- What the components of operations cost, one component after another, and along a route.
-use Rattle.std.proofs.Common.{◌≡◌, ℕ, zero, suc, ◌+◌, ◌<◌, ◌≤◌, List, [], ◌∷◌, ◌++◌, length, take, get_or, replicate, cond, Bool, true, false, refl, sym, ap, subst, ◌∙◌, inl, inr, arith}
-use Rattle.std.specs.Prelude.{nat_eq, slice_index, sum_by, ◌&&◌, ◌||◌}
+-- What the components of operations cost along a route.
+use Rattle.std.proofs.Common.{◌≡◌, ℕ, ◌+◌, List, [], ◌∷◌, cond, Bool, true, false, refl, sym, subst, ◌∙◌, inl, inr, arith}
+use Rattle.std.specs.Prelude.{nat_eq, sum_by, ◌&&◌, ◌||◌}
 use Rattle.std.specs.List.{list_any}
-use Rattle.std.proofs.lemmas.Bool.{cases_Bool, eqb-true, eq-eqb, ne_eqb}
-use Rattle.std.proofs.lemmas.List.{take_more, take_all}
-use Rattle.std.proofs.lemmas.List.Sums.{sum_by_push, sum_by-cons}
+use Rattle.std.proofs.lemmas.Bool.{cases_Bool, eqb-true}
+use Rattle.std.proofs.lemmas.List.Sums.{sum_by-cons}
 use Rattle.disp_model.specs.declared.train.Operation.{Operation}
 use Rattle.disp_model.specs.declared.train.Component.{Component}
 use Rattle.disp_model.specs.declared.problem.Problem.{Problem}
@@ -14,60 +13,7 @@ use Rattle.disp_model.specs.Cost.{cost_at}
 use Rattle.disp_model.specs.Shares.{cost_along, route_cost}
 use Rattle.disp_laws.proofs.Paths.{IsIn, never_again}
 use Rattle.disp_laws.proofs.Shares.{sum_le, sum_plus, any_in}
-use Rattle.train_orders.proofs.Places.{same_number}
-use Rattle.node_facts.specs.Costs.{capped}
-use Rattle.tree_checker.specs.TrainCosts.{cost_there, price_of, price_along, ArePrices}
-
--- ---- one component after another
-
--- the prices by the components so far
-pub record ArePriced (components : List Component) (t : ℕ) (reach : ℕ → ℕ) (count i : ℕ) (prices : List ℕ) : Type 0 where
-  pub long : length prices ≡ count
-  pub are : (o : ℕ) → o < count → slice_index prices o ≡ capped (sum_by (cost_there t reach o) (take i components))
-
-pub none_priced : (components : List Component) (t : ℕ) (reach : ℕ → ℕ) (count : ℕ) (prices : List ℕ) → prices ≡ replicate count 0 → length prices ≡ count → ArePriced components t reach count 0 prices
-none_priced components t reach count prices none long = record { long = long; are = λ o lt. subst (λ (l : List ℕ). slice_index l o ≡ 0) (sym none) (nothing count o) }
-  where
-    nothing : (k o : ℕ) → slice_index (replicate k 0) o ≡ 0
-    nothing zero o = refl
-    nothing (suc k) zero = refl
-    nothing (suc k) (suc o) = nothing k o
-
--- what one more component adds at an operation
-there_or_not : (t : ℕ) (reach : ℕ → ℕ) (o : ℕ) (c : Component) (old new : ℕ) → old ≡ capped old → new ≡ cond (nat_eq c.train t) (cond (nat_eq c.operation o) (capped (old + cost_at c (reach o))) old) old
-    → new ≡ capped (old + cost_there t reach o c)
-there_or_not t reach o c old new small is = elim (cases_Bool (nat_eq c.train t)) [
-  | inr other ↦ let same : new ≡ old = rw other at is in let none : cost_there t reach o c ≡ 0 = rw other refl in omega (arith, small, same, none)
-  | inl own ↦ elim (same_number o c.operation) [
-    | inl e ↦
-        let same : new ≡ capped (old + cost_at c (reach o)) = rw (own, eq-eqb c.operation o (sym e)) at is in
-        let whole : cost_there t reach o c ≡ cost_at c (reach c.operation) = rw (own, eq-eqb o c.operation e) refl in
-        let reaches = ap (λ (p : ℕ). cost_at c (reach p)) e in
-        omega (arith, same, whole, reaches)
-    | inr not ↦
-        let same : new ≡ old = rw (own, ne_eqb c.operation o (λ e. not (sym e))) at is in
-        let none : cost_there t reach o c ≡ 0 = rw (own, ne_eqb o c.operation not) refl in
-        omega (arith, small, same, none)
-  ]
-]
-
-pub priced_more : (components : List Component) (t : ℕ) (reach : ℕ → ℕ) (count i : ℕ) (c : Component) (prices after : List ℕ) → i < length components → c ≡ get_or components i c → length after ≡ length prices
-    → ((o : ℕ) → o < length prices → slice_index after o ≡ cond (nat_eq c.train t) (cond (nat_eq c.operation o) (capped (slice_index prices o + cost_at c (reach o))) (slice_index prices o)) (slice_index prices o))
-    → ArePriced components t reach count i prices → ArePriced components t reach count (i + 1) after
-priced_more components t reach count i c prices after lt is long adds before = record {
-  long = long ∙ before.long;
-  are = λ o within.
-      let price = before.are o within in
-      let more = there_or_not t reach o c (slice_index prices o) (slice_index after o) (omega (arith, price)) (adds o (omega (arith, within, before.long))) in
-      let taken : take (i + 1) components ≡ take i components ++ c ∷ [] = subst (λ (x : Component). take (i + 1) components ≡ take i components ++ x ∷ []) (sym is) (take_more components i c lt) in
-      let sum = ap (sum_by (cost_there t reach o)) taken ∙ sum_by_push (cost_there t reach o) (take i components) c in
-      omega (arith, price, more, sum);
-}
-
-pub priced_all : (train : List Operation) (components : List Component) (t : ℕ) (reach : ℕ → ℕ) (i : ℕ) (prices : List ℕ) → length components ≤ i → ArePriced components t reach (length train) i prices → ArePrices train (price_of components t reach) prices
-priced_all train components t reach i prices past before o within = subst (λ (l : List Component). slice_index prices o ≡ capped (sum_by (cost_there t reach o) l)) (take_all i components past) (before.are o within)
-
--- ---- along a route
+use Rattle.tree_checker.specs.TrainCosts.{cost_there, price_of, price_along}
 
 same_sums : {X : Type 0} (f g : X → ℕ) (xs : List X) → ((x : X) → f x ≡ g x) → sum_by f xs ≡ sum_by g xs
 same_sums f g xs each = omega (arith, sum_le f g xs (λ x. omega (arith, each x)), sum_le g f xs (λ x. omega (arith, each x)))

@@ -2,7 +2,8 @@ ghost use Rattle.std.specs.Prelude.{◌≡◌, ◌↔◌, IsTrue, length};
 ghost use Rattle.disp_model.specs.Trees.{children_of, IsChoice};
 
 use disp_model::{Choice, Problem};
-use node_facts::{nexts_of, release_between, train_of};
+use node_facts::{nexts_of, train_of};
+use problem_facts::release_between;
 
 /// How many children a branch on a choice has.
 fn count_of(problem: &Problem, choice: Choice) -> usize

@@ -1,66 +1,13 @@
-ghost use Rattle.std.specs.Prelude.{◌≡◌, ◌↔◌, ◌+◌, ◌<◌, ◌==◌, ℕ, IfOk, Some, length, if◌then◌else◌, slice_index};
-ghost use Rattle.disp_model.specs.Cost.{cost_at};
+ghost use Rattle.std.specs.Prelude.{◌≡◌, ◌↔◌, ℕ, IfOk, Some};
 ghost use Rattle.train_orders.specs.Orders.{IsOrder};
-ghost use Rattle.node_facts.specs.Costs.{capped};
 ghost use Rattle.node_facts.specs.Ways.{IsLeastOf, IsOnward, GoesOnward};
 ghost use Rattle.tree_checker.specs.TrainCosts.{reach_by, price_of, ArePrices, IsCostBy, AreCosts};
 
 use crate::entering::{base_at, kept_at, lesser, reach_at};
 use disp_model::{Component, Memory, Operation};
 use node_facts::TrainKnowledge;
+use problem_facts::{add_components, cost_of};
 use std::alloc::Global;
-
-/// What a component costs where its operation starts at a time, or the greatest number of 128 bits
-/// where it costs more.
-fn cost_of(component: &Component, time: u128) -> u128
-    ensures { result ≡ capped (cost_at component.now time) }
-{
-    let threshold = u128::from(component.threshold);
-    let late = time.saturating_sub(threshold);
-    let sum = u128::from(component.coeff).saturating_mul(late);
-    if threshold <= time {
-        sum.saturating_add(u128::from(component.increment))
-    } else {
-        sum
-    }
-}
-
-/// Adds a cost at an operation, if there is such a one.
-fn add_at(prices: &mut Vec<u128>, op: u32, cost: u128)
-    ensures long { length prices.new.items ≡ length prices.old.items }
-    ensures added { (o : ℕ) → o < length prices.old.items → slice_index prices.new.items o
-        ≡ (if op == o then capped (slice_index prices.old.items o + cost)
-        else slice_index prices.old.items o) }
-{
-    let at = op as usize;
-    if at < prices.len() {
-        let more = prices[at].saturating_add(cost);
-        prices[at] = more;
-    }
-}
-
-/// Adds what a component of a train costs at its operation's reach; one of another costs nothing.
-fn add_price(
-    prices: &mut Vec<u128>,
-    train: u32,
-    entered: &[Option<u128>],
-    bases: &[u128],
-    component: &Component,
-)
-    ensures long { length prices.new.items ≡ length prices.old.items }
-    ensures added { (o : ℕ) → o < length prices.old.items → slice_index prices.new.items o
-        ≡ (if component.now.train == train
-        then (if component.now.operation == o
-        then capped (slice_index prices.old.items o
-        + cost_at component.now (reach_by entered.now bases.now o))
-        else slice_index prices.old.items o)
-        else slice_index prices.old.items o) }
-{
-    if component.train == train {
-        let reach = reach_at(entered, bases, component.operation);
-        add_at(prices, component.operation, cost_of(component, reach));
-    }
-}
 
 /// What the components of each operation of a train cost together at its reach.
 fn prices_of(
@@ -75,9 +22,10 @@ fn prices_of(
         (price_of components.now train (reach_by entered.now bases.now)) prices.items) }
 {
     let mut prices = vec![in alloc; 0; operations.len()]?;
-    for component in components {
-        add_price(&mut prices, train, entered, bases, component);
-    }
+    add_components(&mut prices, train, components, |price: u128, component| {
+        let reach = reach_at(entered, bases, component.operation);
+        price.saturating_add(cost_of(&component, reach))
+    });
     Ok(prices)
 }
 

@@ -1,12 +1,9 @@
-use Rattle.std.proofs.Common.{◌≡◌, ◌∙◌, List, sym, ap, arith}
+use Rattle.std.proofs.Common.{◌∙◌, sym, arith}
 use Rattle.std.proofs.lemmas.Bool.{false≢true}
-use Rattle.disp_model.specs.declared.train.Listing.{Listing}
-use Rattle.disp_model.specs.WellFormed.{greatest_release}
 use Rattle.disp_model.specs.Node.{node_at}
-use Rattle.disp_model.specs.Arcs.{listings_of, shared_listings}
 use Rattle.event_arcs.proofs.Numbering.{forced_is_op}
 use Rattle.event_arcs.proofs.Offsets.{placed_at}
-use Rattle.event_arcs.proofs.Deciding.{listings_read, min_read, number_small, number_from}
+use Rattle.event_arcs.proofs.Deciding.{min_read, number_small, number_from}
 use Rattle.event_arcs.proofs.orders.known_order.Goals as goal
 
 pub returns-then-not-forced : goal.returns-then-not-forced
@@ -23,19 +20,12 @@ returns-then-not-forced-2 c = λ fixings decisions are one other conflicts.
     let is = placed_at node c.args.each.now c.args.b.train c.in_ok-behind.behind.now are look.3.0 look.1 in
     false≢true (sym c.if-not-forced-2.true ∙ (c.forced-2.ensures node c.args.b.train is.are_routes).1 other)
 
-pub operation-first-requires : goal.operation-first-requires
-operation-first-requires c =
+pub operation-requires : goal.operation-requires
+operation-requires c =
     let node = node_at c.args.problem.now c.requires.0 c.requires.1 in
     let look = c.in_ok-before.ensures.lookup in
     let is = placed_at node c.args.each.now c.args.a.train c.in_ok-before.before.now c.requires.2 look.3.0 look.1 in
     forced_is_op node c.args.a ((c.forced.ensures node c.args.a.train is.are_routes).0 c.if-not-forced.false)
-
-pub operation-second-requires : goal.operation-second-requires
-operation-second-requires c =
-    let node = node_at c.args.problem.now c.requires.0 c.requires.1 in
-    let look = c.in_ok-behind.ensures.lookup in
-    let is = placed_at node c.args.each.now c.args.b.train c.in_ok-behind.behind.now c.requires.2 look.3.0 look.1 in
-    forced_is_op node c.args.b ((c.forced-2.ensures node c.args.b.train is.are_routes).0 c.if-not-forced-2.false)
 
 pub overflow_add-result : goal.overflow_add-result
 overflow_add-result c =
@@ -66,18 +56,14 @@ returns c = λ fixings decisions are.
     let look_behind = c.in_ok-behind.ensures.lookup in
     let behind = placed_at node c.args.each.now c.args.b.train c.in_ok-behind.behind.now are look_behind.3.0 look_behind.1 in
     let forced = (c.forced.ensures node c.args.a.train before.are_routes).0 c.if-not-forced.false in
-    let first : listings_of problem c.args.a ≡ c.as_slice.result.now = listings_read problem c.args.a c.operation-first.result.now c.as_slice.result.now c.operation-first.ensures c.as_slice.ensures in
-    let second : listings_of problem c.args.b ≡ c.as_slice-2.result.now = listings_read problem c.args.b c.operation-second.result.now c.as_slice-2.result.now c.operation-second.ensures c.as_slice-2.ensures in
-    let shared : shared_listings (listings_of problem c.args.a) (listings_of problem c.args.b) ≡ shared_listings c.as_slice.result.now c.as_slice-2.result.now =
-    ap (λ (l : List Listing). shared_listings l (listings_of problem c.args.b)) first ∙ ap (λ (l : List Listing). shared_listings c.as_slice.result.now l) second in
-    let release = c.in_ok-release.ensures in
+    let conflict = c.in_ok-release.ensures in
     record {
       first_forced = forced;
       second_forced = (c.forced-2.ensures node c.args.b.train behind.are_routes).0 c.if-not-forced-2.false;
-      conflicts = record { trains = c.if-a-b.false; shared = λ none. release.0 (sym shared ∙ none) };
+      conflicts = conflict.conflicts;
       from_is = number_from node c.args.a.train c.args.a.op c.in_ok-before.before.now before;
       to_is = number_from node c.args.b.train c.args.b.op c.in_ok-behind.behind.now behind;
-      min_is = min_read problem c.args.a c.operation-first.result.now c.operation-first.ensures;
-      release_is = release.1 ∙ sym (ap greatest_release shared);
+      min_is = min_read problem c.args.a c.operation.result.now c.operation.ensures;
+      release_is = conflict.release_is;
       next_is = c.next_number.ensures node before forced;
     }

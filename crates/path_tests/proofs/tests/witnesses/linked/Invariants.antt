@@ -1,5 +1,5 @@
 use Rattle.std.proofs.Common.{◌≡◌, ◌<◌, ◌^◌, length, All}
-use Rattle.cycle_witness.proofs.tests.linked.Given as goal
+use Rattle.path_tests.proofs.tests.witnesses.linked.Given as goal
 
 abbrev pub invariant-loop-from : goal.invariant-loop-from
 invariant-loop-from g l = record {

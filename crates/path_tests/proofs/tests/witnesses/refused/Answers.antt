@@ -3,7 +3,7 @@ use Rattle.std.proofs.lemmas.List.{length_push}
 use Rattle.std.proofs.lemmas.List.Elements.{All-push}
 use Rattle.incremental_paths.specs.declared.arc.Arc.{Arc}
 use Rattle.incremental_paths.proofs.Bounds.{few_short}
-use Rattle.cycle_witness.proofs.tests.refused.Goals as goal
+use Rattle.path_tests.proofs.tests.witnesses.refused.Goals as goal
 
 pub add-added-requires-clause-short : goal.add-added-requires-clause-short
 add-added-requires-clause-short g c none =

@@ -1,11 +1,23 @@
 ghost use Rattle.std.specs.Prelude.{◌≡◌, ◌==◌, ◌++◌, ◌∷◌, [], List, MatchOption};
 ghost use Rattle.std.specs.List.{list_any};
 ghost use Rattle.disp_model.specs.declared.train.Listing.{Listing};
-ghost use Rattle.disp_model.specs.Arcs.{shared_listings, Conflicts};
-ghost use Rattle.node_facts.specs.Orders.{IsShared, IsConflict};
+ghost use Rattle.disp_model.specs.Arcs.{listings_of, shared_listings, Conflicts};
+ghost use Rattle.problem_facts.specs.Conflicts.{IsShared, IsConflict};
 
-use crate::reading::{listings_of, train_of};
 use disp_model::{Listing, Op, Problem};
+
+/// What an operation lists: nothing where there is no such operation.
+fn listings_of(problem: &Problem, op: Op) -> &[Listing]
+    ensures { result.now ≡ listings_of problem.now op }
+{
+    let Some(train) = problem.trains.as_slice().get(op.train as usize) else {
+        return &[];
+    };
+    match train.as_slice().get(op.op as usize) {
+        Some(operation) => operation.listings.as_slice(),
+        None => &[],
+    }
+}
 
 /// Whether a resource is among those listed.
 fn lists(listings: &[Listing], resource: u32) -> bool
@@ -48,7 +60,5 @@ pub fn release_between(problem: &Problem, a: Op, b: Op) -> Option<u32>
     if a.train == b.train {
         return None;
     }
-    let listings = listings_of(train_of(problem, a.train), a.op);
-    let others = listings_of(train_of(problem, b.train), b.op);
-    shared_release(listings, others)
+    shared_release(listings_of(problem, a), listings_of(problem, b))
 }

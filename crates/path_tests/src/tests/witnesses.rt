@@ -1,6 +1,8 @@
+// Cycles that refused arcs would close, and walks that are longer than an upper.
 ghost use Rattle.std.specs.Prelude.{◌≡◌, ◌<◌, ◌^◌, length, All, IfOk};
 
-use crate::{cycle, late};
+use super::add;
+use cycle_witness::{cycle, late};
 use incremental_paths::{AddNo, Paths};
 use std::alloc::Global;
 use std::process::Abort;
@@ -24,28 +26,6 @@ fn linked(
         add(rt, &mut paths, nodes, *from, *to, *by)?;
     }
     Ok(paths)
-}
-
-fn add(
-    rt: &impl Abort,
-    paths: &mut Paths,
-    nodes: usize,
-    from: u32,
-    to: u32,
-    by: u32,
-) -> Result<(), AddNo>
-    requires nodes { length paths.old.lowers ≡ nodes }
-    requires lowers { All (λ lower. lower < 2 ^ 32) paths.old.lowers }
-    requires lengths { All (λ arc. arc.length < 2 ^ 32) paths.old.arcs }
-    ensures nodes { length paths.new.lowers ≡ nodes }
-    ensures lowers { All (λ lower. lower < 2 ^ 32) paths.new.lowers }
-    ensures lengths { All (λ arc. arc.length < 2 ^ 32) paths.new.arcs }
-{
-    let kept = paths.arcs().len();
-    assert!(rt; kept < 1000);
-    assert!(rt; (from as usize) < nodes);
-    assert!(rt; (to as usize) < nodes);
-    paths.add(from, to, u64::from(by))
 }
 
 // The cycle that an arc of length 0 would close.

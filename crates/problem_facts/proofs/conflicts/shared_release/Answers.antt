@@ -1,9 +1,9 @@
 use Rattle.std.proofs.Common.{List, take, sym, subst}
 use Rattle.disp_model.specs.declared.train.Listing.{Listing}
 use Rattle.disp_model.specs.Arcs.{shared_listings}
-use Rattle.event_arcs.specs.Ordering.{IsShared}
-use Rattle.event_arcs.proofs.Deciding.{shared_more}
-use Rattle.event_arcs.proofs.orders.shared_release.Goals as goal
+use Rattle.problem_facts.specs.Conflicts.{IsShared}
+use Rattle.problem_facts.proofs.Releasing.{shared_more}
+use Rattle.problem_facts.proofs.conflicts.shared_release.Goals as goal
 
 pub loop-listing-preserved : goal.loop-listing-preserved
 loop-listing-preserved c =

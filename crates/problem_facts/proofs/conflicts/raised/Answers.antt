@@ -1,7 +1,7 @@
 use Rattle.std.proofs.Common.{sym, subst, ◌∙◌, arith}
-use Rattle.event_arcs.specs.Ordering.{IsShared}
-use Rattle.event_arcs.proofs.Deciding.{greatest_push, not_none}
-use Rattle.event_arcs.proofs.orders.raised.Goals as goal
+use Rattle.problem_facts.specs.Conflicts.{IsShared}
+use Rattle.problem_facts.proofs.Releasing.{greatest_push, not_none}
+use Rattle.problem_facts.proofs.conflicts.raised.Goals as goal
 
 pub returns-in-Some : goal.returns-in-Some
 returns-in-Some c = λ shared is.
