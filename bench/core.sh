@@ -8,7 +8,7 @@
 set -eu
 events=${1:-100000}
 . "$(dirname "$0")/scratch.sh"
-below='plain_values disp_model disp_laws train_orders route_marks route_sets packed_nodes open_nodes tree_growth tree_replay decision_paths node_facts
+below='plain_values disp_model disp_laws train_orders route_marks route_sets problem_facts packed_nodes least_bounds open_nodes tree_growth tree_replay decision_paths node_facts
 tree_checker fixing_editions history_laws solution_verifier dispatch_core worked_problems'
 open_scratch core_bench "$(lines_of $below)
 core_bench: serde_json thiserror $(echo $below)" $below

@@ -8,6 +8,8 @@
 # it held, or a whole text.
 # Build first: (cd crates/dispatch && rt run -- solve ../../examples/delay.json)
 # Words behind it run only the commands that begin with one of them, as: failing_memory.sh "roll p" make
+# A search makes some ten thousand allocations: with FAILURES=300 in the environment at most so many of a run fail in turn, evenly
+# spaced from the first to the last.
 set -eu
 cd "$(dirname "$0")/.."
 program=${PROGRAM:-$PWD/crates/dispatch/out/dispatch}
@@ -153,6 +155,22 @@ def is_wanted(words):
     return not wanted_rows or any(words.startswith(front) for front in wanted_rows)
 
 
+def points(words, on):
+    """The calls that fail in turn: each, or as many as are wanted."""
+    most = int(os.environ.get("FAILURES", "0"))
+    if not most:
+        return range(1, sys.maxsize)
+    last = 1
+    while run(words, 2 * last, on)[3]:
+        last *= 2
+    step = last // 2
+    while step:
+        if run(words, last + step, on)[3]:
+            last += step
+        step //= 2
+    return range(1, last + 1, max(1, -(-last // most)))
+
+
 jobs = [(words, status, None) for words, status in rows if is_wanted(words)]
 jobs += [(words, status, rolled(status, feeds, verdict)) for words, status, feeds, verdict in rolls if is_wanted(words)]
 wrong, all_whole, all_short = 0, 0, 0
@@ -170,8 +188,8 @@ for words, status, judge in jobs:
         wrong += 1
         print("%s: %r" % (words, answer[:2]))
     for on in (False, True):
-        whole, short, failing = 0, 0, 1
-        while True:
+        whole, short = 0, 0
+        for failing in points(words, on):
             got = run(words, failing, on)
             if not got[3]:
                 break
@@ -183,7 +201,6 @@ for words, status, judge in jobs:
             else:
                 wrong += 1
                 print("%s, %d%s: %r" % (words, failing, " and on" if on else "", got[:3]))
-            failing += 1
         print("%s, %s: %d whole, %d want of memory" % (words, "all from one on fail" if on else "one call fails", whole, short), flush=True)
         all_whole, all_short = all_whole + whole, all_short + short
 print("in all: %d whole, %d want of memory, %d else" % (all_whole, all_short, wrong))

@@ -11,7 +11,7 @@ sizes=("$@")
 if [ ${#sizes[@]} = 0 ]; then sizes=(10 40 160); fi
 . "$(dirname "$0")/scratch.sh"
 crates=(plain_values disp_model disp_laws json_claims fault_counts disp_outside incremental_paths timed_paths
-    train_graphs displib_reader train_orders route_marks route_sets event_windows event_arcs event_graph cost_bound)
+    train_graphs displib_reader problem_facts train_orders route_marks route_sets event_windows event_arcs event_graph cost_bound)
 open_scratch graph_bench "$(for crate in "${crates[@]}"; do grep "^$crate[: ]" "$(dirname "$0")/../crates.txt"; done)
 graph_bench: disp_model disp_outside displib_reader event_graph cost_bound" "${crates[@]}"
 python3 - "${sizes[@]}" <<'PYTHON'

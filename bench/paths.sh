@@ -154,12 +154,12 @@ use Rattle.std.proofs.Common.{◌+◌, ◌<◌, ◌≤◌, ◌^◌, ◌∷◌, �
 use Rattle.std.specs.Prelude.{All, sum_by}
 use Rattle.std.proofs.lemmas.List.Sums.{sum_by_push}
 use Rattle.incremental_paths.specs.declared.arc.Arc.{Arc}
-use Rattle.incremental_paths.specs.Walks.{HasCycle, WalksAreShort}
+use Rattle.incremental_paths.specs.Walks.{ArcsHaveCycle, WalksAreShort}
 use Rattle.incremental_paths.proofs.Bounds.{walks_bounded}
 use Rattle.paths_bench.proofs.BODY.add_all.Goals as goal
 
 short_with : (lowers : List ℕ) (arcs : List Arc) (new : Arc) → All (λ lower. lower ≤ 0) lowers → sum_by (λ arc. arc.length) arcs + new.length < 2 ^ 63
-    → (HasCycle (arcs ++ new ∷ []) → ⊥) → WalksAreShort lowers (arcs ++ new ∷ [])
+    → (ArcsHaveCycle (arcs ++ new ∷ []) → ⊥) → WalksAreShort lowers (arcs ++ new ∷ [])
 short_with lowers arcs new low few none v nodes walk =
     omega (arith, few, sum_by_push (λ (arc : Arc). arc.length) arcs new, walks_bounded lowers (arcs ++ new ∷ []) 0 low none v nodes walk)
 

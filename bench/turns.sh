@@ -7,7 +7,7 @@
 set -eu
 turns=${1:-1000000}
 . "$(dirname "$0")/scratch.sh"
-below='plain_values disp_model disp_laws turn_lock train_orders route_marks route_sets packed_nodes open_nodes tree_growth tree_replay decision_paths node_facts
+below='plain_values disp_model disp_laws turn_lock train_orders route_marks route_sets problem_facts packed_nodes least_bounds open_nodes tree_growth tree_replay decision_paths node_facts
 tree_checker fixing_editions history_laws solution_verifier dispatch_core shared_board worked_problems'
 open_scratch turns_bench "$(lines_of $below)
 turns_bench: atomic_table serde_json thiserror $(echo $below)" $below
