@@ -48,8 +48,8 @@ pub record AnswerAlike (old new other later : Outside) (status code : ℕ) : Typ
   pub written : Writes old.written new.written text
   pub also_written : Writes other.written later.written text
 
--- two marks of one edition of one problem: optimal costs are one, what is optimal is not infeasible,
--- and no bound is above the optimal cost; none is worked on
+-- two marks of one edition of one problem: optimal costs are one, what is optimal is not
+-- infeasible, and no bound is above the optimal cost; none is worked on
 abbrev pub AreOfOne : Mark → Mark → Type 0
 AreOfOne Working other = ⊥
 AreOfOne (Optimal cost) Working = ⊥

@@ -65,9 +65,9 @@ puts_of task edition plan settled =
 abbrev pub best_plan : Standing → Option (List Event × ℕ) → Option (List Event × ℕ)
 best_plan standing last = option_and_then (λ cost. last) standing.best
 
--- where the search of a problem stands, with the changes that are asked: the journal is a legal history,
--- which begins with these and was searched until the edition is closed; its mark promises what it says,
--- and where it tells a verdict a tree shows that
+-- where the search of a problem stands, with the changes that are asked: the journal is a legal
+-- history, which begins with these and was searched until the edition is closed; its mark promises
+-- what it says, and where it tells a verdict a tree shows that
 pub record IsFinished (problem : Problem) (settings : Settings) (asked : List Change)
     (journal : List Entry) (standing : Standing) : Type 0 where
   pub searched : IsSearched problem settings asked journal
@@ -110,7 +110,8 @@ pub record SaysValid (telling : Telling) (problem : Problem) (fixings : List Fix
   pub lines_are : lines ≡ told_lines telling problem plan cost
 
 -- the plan has this first fault
-pub record SaysFault (problem : Problem) (fixings : List Fixing) (plan : List Event) (stated : Option ℕ) (status : ℕ) (lines : List (List ℕ)) : Type 0 where
+pub record SaysFault (problem : Problem) (fixings : List Fixing) (plan : List Event)
+    (stated : Option ℕ) (status : ℕ) (lines : List (List ℕ)) : Type 0 where
   pub fault : Fault
   pub first : IsFirstFault problem fixings plan stated fault
   pub status_is : status ≡ 1
@@ -125,7 +126,8 @@ pub record IsJudged (telling : Telling) (problem : Problem) (fixings : List Fixi
       ⊎ SaysFault problem fixings plan stated answer.status answer.lines
 
 -- the named files are a problem's, fixings', if they are given, and a solution's, which is judged
-pub record AnswersJudge (holds : Holdings) (telling : Telling) (task : JudgeTask) (answer : Answer) :
+pub record AnswersJudge (holds : Holdings) (telling : Telling) (task : JudgeTask) (answer : Answer)
+    :
     Type 0 where
   pub problem : Problem
   pub problem_file : IsProblemFile holds task.problem problem
@@ -136,21 +138,25 @@ pub record AnswersJudge (holds : Holdings) (telling : Telling) (task : JudgeTask
   pub solution_file : IsSolutionFile holds task.solution plan stated
   pub judged : IsJudged telling problem fixings plan stated answer
 
--- the first fault of a plan under a verdict of this cost: the first with the plan's own stated cost, or where it has none, the
--- first with the verdict's cost as stated
+-- the first fault of a plan under a verdict of this cost: the first with the plan's own stated
+-- cost, or where it has none, the first with the verdict's cost as stated
 abbrev pub IsFaultUnder : Problem → List Fixing → List Event → Option ℕ → ℕ → Fault → Type 0
 IsFaultUnder problem fixings plan stated cost fault =
     IsFirstFault problem fixings plan stated fault
-    ⊎ ((actual : ℕ) × IsRight problem fixings plan stated actual × IsFirstFault problem fixings plan (Some cost) fault)
+    ⊎ ((actual : ℕ) × IsRight problem fixings plan stated actual
+    × IsFirstFault problem fixings plan (Some cost) fault)
 
--- the line that is said of a plan with its stated cost behind a tree that is accepted, if one is: none where the plan is valid,
--- costs what the verdict says, and a stated cost is that
-abbrev pub IsSaidOfPlan : Problem → List Fixing → Verdict → Option (List Event × Option ℕ) → Option (List ℕ) → Type 0
+-- the line that is said of a plan with its stated cost behind a tree that is accepted, if one is:
+-- none where the plan is valid, costs what the verdict says, and a stated cost is that
+abbrev pub IsSaidOfPlan : Problem → List Fixing → Verdict → Option (List Event × Option ℕ)
+    → Option (List ℕ) → Type 0
 IsSaidOfPlan problem fixings verdict None said = said ≡ None
 IsSaidOfPlan problem fixings verdict.Infeasible (Some plan) said = said ≡ Some no_plan_line
-IsSaidOfPlan problem fixings (verdict.Optimal cost) (Some plan) None = IsRight problem fixings plan.0 plan.1 cost
+IsSaidOfPlan problem fixings (verdict.Optimal cost) (Some plan) None =
+    IsRight problem fixings plan.0 plan.1 cost
 IsSaidOfPlan problem fixings (verdict.Optimal cost) (Some plan) (Some line) =
-    (fault : Fault) × IsFaultUnder problem fixings plan.0 plan.1 cost fault × (line ≡ plan_fault_line problem fault)
+    (fault : Fault) × IsFaultUnder problem fixings plan.0 plan.1 cost fault
+        × (line ≡ plan_fault_line problem fault)
 
 -- the lines for a tree that is accepted, with what is said of a plan, and the status
 abbrev pub accepted_lines : Verdict → Option (List ℕ) → List (List ℕ)
@@ -162,22 +168,27 @@ accepted_status None = 0
 accepted_status (Some said) = 1
 
 -- what is printed where the checker answers so
-abbrev pub SaysChecked : Problem → List Fixing → Verdict → Option (List Event × Option ℕ) → Checked → ℕ → List (List ℕ) → Type 0
+abbrev pub SaysChecked : Problem → List Fixing → Verdict → Option (List Event × Option ℕ) → Checked
+    → ℕ → List (List ℕ) → Type 0
 SaysChecked problem fixings verdict plan Accepted status lines =
-    (said : Option (List ℕ)) × IsSaidOfPlan problem fixings verdict plan said × (status ≡ accepted_status said) × (lines ≡ accepted_lines verdict said)
-SaysChecked problem fixings verdict plan (Refused node why) status lines = (status ≡ 1) × (lines ≡ refused_line node why ∷ [])
+    (said : Option (List ℕ)) × IsSaidOfPlan problem fixings verdict plan said
+        × (status ≡ accepted_status said) × (lines ≡ accepted_lines verdict said)
+SaysChecked problem fixings verdict plan (Refused node why) status lines = (status ≡ 1)
+    × (lines ≡ refused_line node why ∷ [])
 
 -- a tree is checked for its verdict, and where it is accepted the plan is judged
-pub record IsTreeChecked (problem : Problem) (fixings : List Fixing) (verdict : Verdict) (tree : List TreeNode) (plan : Option (List Event × Option ℕ)) (answer : Answer) : Type 0 where
+pub record IsTreeChecked (problem : Problem) (fixings : List Fixing) (verdict : Verdict)
+    (tree : List TreeNode) (plan : Option (List Event × Option ℕ)) (answer : Answer) : Type 0 where
   pub journal : answer.journal ≡ []
   pub puts : answer.puts ≡ []
   pub checked : Checked
   pub is_checked : IsChecked problem fixings verdict tree checked
   pub says : SaysChecked problem fixings verdict plan checked answer.status answer.lines
 
--- the named files are a problem's, fixings', if they are given, that of a tree of their edition, and a solution's, if it is
--- given; the tree is checked
-pub record AnswersCheck (holds : Holdings) (problem_name tree_name : List ℕ) (fixings_name plan_name : Option (List ℕ)) (answer : Answer) : Type 0 where
+-- the named files are a problem's, fixings', if they are given, that of a tree of their edition,
+-- and a solution's, if it is given; the tree is checked
+pub record AnswersCheck (holds : Holdings) (problem_name tree_name : List ℕ)
+    (fixings_name plan_name : Option (List ℕ)) (answer : Answer) : Type 0 where
   pub problem : Problem
   pub problem_file : IsProblemFile holds problem_name problem
   pub fixings : List Fixing
@@ -230,7 +241,8 @@ pub record IsDuePut (words : List (List ℕ)) (holds : Holdings) (name : List �
 -- ---- for private clauses
 
 -- so it is with the changes that lines of a file ask for, if there is one
-pub record IsSolvedWith (holds : Holdings) (problem : Problem) (task : SolveTask) (answer : Answer) :
+pub record IsSolvedWith (holds : Holdings) (problem : Problem) (task : SolveTask) (answer : Answer)
+    :
     Type 0 where
   pub asked : List Change
   pub lines : AreAsked holds problem task.fixings asked
@@ -274,33 +286,40 @@ pub record IsTwoLines (first second : List ℕ) (status : ℕ) (answer : Answer)
   pub status_is : answer.status ≡ status
 
 -- the tree is accepted, and this is said of the plan
-pub record IsAcceptedWith (verdict : Verdict) (said : Option (List ℕ)) (answer : Answer) : Type 0 where
+pub record IsAcceptedWith (verdict : Verdict) (said : Option (List ℕ)) (answer : Answer)
+    : Type 0 where
   pub journal : answer.journal ≡ []
   pub puts : answer.puts ≡ []
   pub status_is : answer.status ≡ accepted_status said
   pub lines_are : answer.lines ≡ accepted_lines verdict said
 
 -- the tree is accepted, and the plan is judged
-pub record IsAcceptedFor (problem : Problem) (fixings : List Fixing) (verdict : Verdict) (plan : Option (List Event × Option ℕ)) (answer : Answer) : Type 0 where
+pub record IsAcceptedFor (problem : Problem) (fixings : List Fixing) (verdict : Verdict)
+    (plan : Option (List Event × Option ℕ)) (answer : Answer) : Type 0 where
   pub said : Option (List ℕ)
   pub said_of_plan : IsSaidOfPlan problem fixings verdict plan said
   pub accepted : IsAcceptedWith verdict said answer
 
 -- the plan of a file, if there is one, is read, and the tree is checked
-pub record IsCheckedWithPlan (holds : Holdings) (problem : Problem) (fixings : List Fixing) (verdict : Verdict) (tree : List TreeNode) (plan_name : Option (List ℕ)) (answer : Answer) : Type 0 where
+pub record IsCheckedWithPlan (holds : Holdings) (problem : Problem) (fixings : List Fixing)
+    (verdict : Verdict) (tree : List TreeNode) (plan_name : Option (List ℕ)) (answer : Answer)
+    : Type 0 where
   pub plan : Option (List Event × Option ℕ)
   pub plan_file : IsPlanFile holds plan_name plan
   pub checked : IsTreeChecked problem fixings verdict tree plan answer
 
 -- so is the tree of a file, of this edition
-pub record IsCheckedFile (holds : Holdings) (problem : Problem) (fixings : List Fixing) (edition : ℕ) (tree_name : List ℕ) (plan_name : Option (List ℕ)) (answer : Answer) : Type 0 where
+pub record IsCheckedFile (holds : Holdings) (problem : Problem) (fixings : List Fixing)
+    (edition : ℕ) (tree_name : List ℕ) (plan_name : Option (List ℕ)) (answer : Answer)
+    : Type 0 where
   pub verdict : Verdict
   pub tree : List TreeNode
   pub tree_file : IsTreeFile holds tree_name edition verdict tree
   pub rest : IsCheckedWithPlan holds problem fixings verdict tree plan_name answer
 
 -- so it is with the fixings of a file, if there is one
-pub record IsCheckedBy (holds : Holdings) (problem : Problem) (fixings_name : Option (List ℕ)) (tree_name : List ℕ) (plan_name : Option (List ℕ)) (answer : Answer) : Type 0 where
+pub record IsCheckedBy (holds : Holdings) (problem : Problem) (fixings_name : Option (List ℕ))
+    (tree_name : List ℕ) (plan_name : Option (List ℕ)) (answer : Answer) : Type 0 where
   pub fixings : List Fixing
   pub edition : ℕ
   pub fixings_file : AreOfEdition holds problem fixings_name fixings edition

@@ -14,7 +14,8 @@ use Rattle.answered_tasks.specs.Causes.{StopsRun, IsReadingFault, IsAnswerStatus
 use Rattle.answered_tasks.specs.Outside.{FailsOfOne}
 
 -- status 0, 1 or 3: what was to be put is held, and the lines of the answer were written
-pub record EndsAnswered (words : List (List ℕ)) (old new : Outside) (status : ℕ) (journal : List Entry) : Type 0 where
+pub record EndsAnswered (words : List (List ℕ)) (old new : Outside) (status : ℕ)
+    (journal : List Entry) : Type 0 where
   pub answer : Answer
   pub is_answer : IsAnswer words old.holds answer
   pub status_is : status ≡ answer.status
@@ -27,8 +28,10 @@ pub record PutsNothing (old new : Outside) : Type 0 where
   pub held : (name : List ℕ) → new.holds name ≡ old.holds name
   pub counts : (name : List ℕ) → new.putting name ≡ old.putting name
 
--- status 2: the words or a file were refused, and the line for it was written, or some of it where a write failed
-pub record EndsRefused (words : List (List ℕ)) (old new : Outside) (journal : List Entry) : Type 0 where
+-- status 2: the words or a file were refused, and the line for it was written, or some of it where
+-- a write failed
+pub record EndsRefused (words : List (List ℕ)) (old new : Outside) (journal : List Entry)
+    : Type 0 where
   pub cause : Cause
   pub stops : StopsRun words old.holds old.reading new.reading cause
   pub status : status_of cause ≡ 2
@@ -37,8 +40,10 @@ pub record EndsRefused (words : List (List ℕ)) (old new : Outside) (journal : 
   pub whole : new.faults ≡ old.faults → Writes old.written new.written (line_of cause)
   pub puts : PutsNothing old new
 
--- a named file could not be read, and the line for it was written, or some of it where a write failed
-pub record CannotRead (words : List (List ℕ)) (old new : Outside) (journal : List Entry) : Type 0 where
+-- a named file could not be read, and the line for it was written, or some of it where a write
+-- failed
+pub record CannotRead (words : List (List ℕ)) (old new : Outside) (journal : List Entry)
+    : Type 0 where
   pub which : Input
   pub stops : StopsRun words old.holds old.reading new.reading (Failed which)
   pub journal_is : journal ≡ []
@@ -51,7 +56,8 @@ abbrev pub ReadsWell : Outside → Outside → Type 0
 ReadsWell old new = (name : List ℕ) → new.reading name ≡ old.reading name
 
 -- something could not be put, and nothing was put or written behind it
-pub record CannotPut (words : List (List ℕ)) (old new : Outside) (journal : List Entry) : Type 0 where
+pub record CannotPut (words : List (List ℕ)) (old new : Outside) (journal : List Entry)
+    : Type 0 where
   pub answer : Answer
   pub is_answer : IsAnswer words old.holds answer
   pub journal_is : journal ≡ answer.journal
@@ -61,7 +67,8 @@ pub record CannotPut (words : List (List ℕ)) (old new : Outside) (journal : Li
   pub read : ReadsWell old new
 
 -- what was to be put is held, and a write of the lines failed
-pub record CannotWrite (words : List (List ℕ)) (old new : Outside) (journal : List Entry) : Type 0 where
+pub record CannotWrite (words : List (List ℕ)) (old new : Outside) (journal : List Entry)
+    : Type 0 where
   pub answer : Answer
   pub is_answer : IsAnswer words old.holds answer
   pub journal_is : journal ≡ answer.journal
@@ -72,10 +79,12 @@ pub record CannotWrite (words : List (List ℕ)) (old new : Outside) (journal : 
 
 -- status 4: a reading of a named file, a putting under a named one, or a write failed
 abbrev pub EndsFailed : List (List ℕ) → Outside → Outside → List Entry → Type 0
-EndsFailed words old new journal = CannotRead words old new journal ⊎ (CannotPut words old new journal ⊎ CannotWrite words old new journal)
+EndsFailed words old new journal = CannotRead words old new journal
+    ⊎ (CannotPut words old new journal ⊎ CannotWrite words old new journal)
 
 -- the lines of an answer are due, and what was to be put is held
-pub record IsDueAnswer (words : List (List ℕ)) (old new : Outside) (text : List ℕ) (journal : List Entry) : Type 0 where
+pub record IsDueAnswer (words : List (List ℕ)) (old new : Outside) (text : List ℕ)
+    (journal : List Entry) : Type 0 where
   pub answer : Answer
   pub is_answer : IsAnswer words old.holds answer
   pub text_is : text ≡ concat answer.lines
@@ -84,7 +93,8 @@ pub record IsDueAnswer (words : List (List ℕ)) (old new : Outside) (text : Lis
   pub read : ReadsWell old new
 
 -- nothing is due, since not all that was to be put of an answer is
-pub record IsDueUnput (words : List (List ℕ)) (old new : Outside) (text : List ℕ) (journal : List Entry) : Type 0 where
+pub record IsDueUnput (words : List (List ℕ)) (old new : Outside) (text : List ℕ)
+    (journal : List Entry) : Type 0 where
   pub answer : Answer
   pub is_answer : IsAnswer words old.holds answer
   pub text_is : text ≡ []
@@ -93,7 +103,8 @@ pub record IsDueUnput (words : List (List ℕ)) (old new : Outside) (text : List
   pub read : ReadsWell old new
 
 -- the line for what stopped the run is due, or nothing where that was want of memory
-pub record IsDueCause (words : List (List ℕ)) (old new : Outside) (text : List ℕ) (journal : List Entry) : Type 0 where
+pub record IsDueCause (words : List (List ℕ)) (old new : Outside) (text : List ℕ)
+    (journal : List Entry) : Type 0 where
   pub cause : Cause
   pub stops : StopsRun words old.holds old.reading new.reading cause
   pub text_is : text ≡ due_line cause
@@ -103,9 +114,11 @@ pub record IsDueCause (words : List (List ℕ)) (old new : Outside) (text : List
 
 -- what would have been written, and the journal that goes with it
 abbrev pub IsDue : List (List ℕ) → Outside → Outside → List ℕ → List Entry → Type 0
-IsDue words old new text journal = IsDueAnswer words old new text journal ⊎ (IsDueUnput words old new text journal ⊎ IsDueCause words old new text journal)
+IsDue words old new text journal = IsDueAnswer words old new text journal
+    ⊎ (IsDueUnput words old new text journal ⊎ IsDueCause words old new text journal)
 
--- status 5: some of what would have been written went out, and behind it some of the line for want of memory, once
+-- status 5: some of what would have been written went out, and behind it some of the line for want
+-- of memory, once
 pub record GivesUp (words : List (List ℕ)) (old new : Outside) (journal : List Entry) : Type 0 where
   pub text : List ℕ
   pub due : IsDue words old new text journal
@@ -113,8 +126,10 @@ pub record GivesUp (words : List (List ℕ)) (old new : Outside) (journal : List
   pub part : WritesPart old.written between text
   pub memory : WritesPart between new.written (line_of Memory)
 
--- the count of failed puttings of a name does not fall, and stays where nothing is to be put under the name
-pub record CountsPutting (words : List (List ℕ)) (holds : Holdings) (old new : Counts) (name : List ℕ) : Type 0 where
+-- the count of failed puttings of a name does not fall, and stays where nothing is to be put under
+-- the name
+pub record CountsPutting (words : List (List ℕ)) (holds : Holdings) (old new : Counts)
+    (name : List ℕ) : Type 0 where
   pub never_falls : old name ≤ new name
   pub stays : (IsDuePut words holds name → ⊥) → new name ≡ old name
 
@@ -150,7 +165,8 @@ pub record WritesThenGivesUp (old new : Option (List ℕ)) (text : List ℕ) : T
   pub memory : WritesPart between new (line_of Memory)
 
 -- how the writing of the line for what stopped a run ends
-pub record Halts (old_faults new_faults : ℕ) (old new : Option (List ℕ)) (cause : Cause) (status : ℕ) : Type 0 where
+pub record Halts (old_faults new_faults : ℕ) (old new : Option (List ℕ)) (cause : Cause)
+    (status : ℕ) : Type 0 where
   pub counted : old_faults ≤ new_faults
   pub statuses : (status ≡ status_of cause) ⊎ (status ≡ 5)
   pub part : status ≢ 5 → WritesPart old new (line_of cause)
@@ -160,7 +176,8 @@ pub record Halts (old_faults new_faults : ℕ) (old new : Option (List ℕ)) (ca
 -- ---- for private clauses
 
 -- how the writing of the lines of an answer ends
-pub record Finishes (old_faults new_faults : ℕ) (old new : Option (List ℕ)) (text : List ℕ) (wanted status : ℕ) : Type 0 where
+pub record Finishes (old_faults new_faults : ℕ) (old new : Option (List ℕ)) (text : List ℕ)
+    (wanted status : ℕ) : Type 0 where
   pub counted : old_faults ≤ new_faults
   pub statuses : (status ≡ wanted) ⊎ ((status ≡ 4) ⊎ (status ≡ 5))
   pub done : status ≢ 4 → status ≢ 5 → Writes old new text × (new_faults ≡ old_faults)

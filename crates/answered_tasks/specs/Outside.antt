@@ -5,7 +5,8 @@ use Rattle.disp_model.specs.declared.limits.TheConstants.{MOST_FILE_BYTES}
 
 -- the name holds a file that is too long, as far as is told
 abbrev pub HoldsTooMuch : Holdings → List ℕ → Type 0
-HoldsTooMuch holds name = IfSome (holds name) (λ file. IsSomeAnd file (λ bytes. MOST_FILE_BYTES < length bytes))
+HoldsTooMuch holds name = IfSome (holds name)
+    (λ file. IsSomeAnd file (λ bytes. MOST_FILE_BYTES < length bytes))
 
 -- the name holds these bytes, as far as is told, and they are not too many to be read
 pub record IsFile (holds : Holdings) (name bytes : List ℕ) : Type 0 where
@@ -17,15 +18,18 @@ abbrev pub FailsOfOne : Counts → Counts → Type 0
 FailsOfOne old new = (one other : List ℕ) → old one < new one → old other < new other → one ≡ other
 
 -- one name was read: its count does not fall, and where it rises there is a fault; all else stays
-pub record ReadsOne (name : List ℕ) (old new : Counts) (old_puts new_puts : Counts) (old_holds new_holds : Holdings) (Fault : Type 0) : Type 0 where
+pub record ReadsOne (name : List ℕ) (old new : Counts) (old_puts new_puts : Counts)
+    (old_holds new_holds : Holdings) (Fault : Type 0) : Type 0 where
   pub counted : old name ≤ new name
   pub fault : old name < new name → Fault
   pub others : (other : List ℕ) → other ≢ name → new other ≡ old other
   pub puttings : (other : List ℕ) → new_puts other ≡ old_puts other
   pub held : (other : List ℕ) → new_holds other ≡ old_holds other
 
--- names were read, and no others, up to the first fault: no count falls, and where one rises there is a fault; all else stays
-pub record ReadsNames (Given : List ℕ → Type 0) (old new : Counts) (old_puts new_puts : Counts) (old_holds new_holds : Holdings) (Fault : Type 0) : Type 0 where
+-- names were read, and no others, up to the first fault: no count falls, and where one rises there
+-- is a fault; all else stays
+pub record ReadsNames (Given : List ℕ → Type 0) (old new : Counts) (old_puts new_puts : Counts)
+    (old_holds new_holds : Holdings) (Fault : Type 0) : Type 0 where
   pub counted : (name : List ℕ) → old name ≤ new name
   pub fault : (name : List ℕ) → old name < new name → Fault
   pub one : FailsOfOne old new
@@ -68,4 +72,5 @@ IsBehindProblem fixings tree plan name = IsGiven fixings name ⊎ IsTreeOrPlan t
 
 -- or that of the problem
 abbrev pub IsOneOfFour : List ℕ → Option (List ℕ) → List ℕ → Option (List ℕ) → List ℕ → Type 0
-IsOneOfFour problem fixings tree plan name = IsName problem name ⊎ IsBehindProblem fixings tree plan name
+IsOneOfFour problem fixings tree plan name = IsName problem name
+    ⊎ IsBehindProblem fixings tree plan name

@@ -11,7 +11,8 @@ use Rattle.disp_model.specs.declared.tree.Verdict.{Verdict}
 use Rattle.disp_model.specs.History.{mark_of_verdict}
 use Rattle.disp_model.specs.Trees.{Accepts}
 
--- a verdict on an edition with its tree, after this entry; there is none where the edition is stopped
+-- a verdict on an edition with its tree, after this entry; there is none where the edition is
+-- stopped
 abbrev pub tree_after : ℕ → Option (Verdict × List TreeNode) → Entry
     → Option (Verdict × List TreeNode)
 tree_after number before (Asked feed line change reply) = before

@@ -44,15 +44,18 @@ infeasible_line = line (codes "infeasible")
 
 abbrev pub unfinished_line : Option ℕ → ℕ → ℕ → List ℕ
 unfinished_line best bound spent =
-    line (codes "unfinished best " ++ cost_or_none best ++ codes " bound " ++ decimal bound ++ codes " spent " ++ decimal spent)
+    line (codes "unfinished best " ++ cost_or_none best ++ codes " bound " ++ decimal bound
+        ++ codes " spent " ++ decimal spent)
 
--- the lines for where the search stands, with the last published plan: the edition, the verdict, and the plan, where
--- there is one
+-- the lines for where the search stands, with the last published plan: the edition, the verdict,
+-- and the plan, where there is one
 abbrev pub answer_lines : Standing → Option (List Event × ℕ) → Mark → List (List ℕ)
 answer_lines standing plan Working = []
-answer_lines standing plan (Optimal cost) = edition_line standing.edition ∷ optimal_line cost ∷ plan_lines plan
+answer_lines standing plan (Optimal cost) = edition_line standing.edition ∷ optimal_line cost
+    ∷ plan_lines plan
 answer_lines standing plan Infeasible = edition_line standing.edition ∷ infeasible_line ∷ []
-answer_lines standing plan (Stopped spent bound) = edition_line standing.edition ∷ unfinished_line standing.best bound spent ∷ plan_lines plan
+answer_lines standing plan (Stopped spent bound) = edition_line standing.edition
+    ∷ unfinished_line standing.best bound spent ∷ plan_lines plan
 
 -- the line of the verdict, where there is one
 abbrev pub standing_verdict_line : Standing → Mark → List ℕ

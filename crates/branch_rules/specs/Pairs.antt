@@ -43,8 +43,10 @@ pub record IsEarlier (known : Option Pair) (pair : Pair) (first : Option Pair) :
   pub up_to : IsUpTo first pair.a pair.b
   pub kept : (c d : Op) → IsUpTo known c d → IsUpTo first c d
 
--- the first pair stays where two events are of one train or keep apart; else their pair may come first
-abbrev pub IsTried : List Listing → List Listing → End → ℕ → Event → Event → Option Pair → Option Pair → Type 0
+-- the first pair stays where two events are of one train or keep apart; else their pair may come
+-- first
+abbrev pub IsTried : List Listing → List Listing → End → ℕ → Event → Event → Option Pair
+    → Option Pair → Type 0
 IsTried listings others end j e f known first =
     (((e.train ≡ f.train) ⊎ AreReleased listings others end j f) × (first ≡ known))
     ⊎ ((e.train ≢ f.train) × (AreReleased listings others end j f → ⊥)
@@ -54,14 +56,17 @@ IsTried listings others end j e f known first =
 abbrev pub AreClashing : Problem → List Event → Pair → Type 0
 AreClashing problem plan pair = (pair.a.train < pair.b.train) × Clash problem plan pair.a pair.b
 
--- two events have been looked at: the first stands before a place, or there and the second before another place
+-- two events have been looked at: the first stands before a place, or there and the second before
+-- another place
 abbrev pub AreLookedAt : ℕ → ℕ → ℕ → ℕ → Type 0
 AreLookedAt place later i j = (i < place) ⊎ ((i ≡ place) × (j < later))
 
 -- the first pair that clashes of those that have been looked at
-pub record IsFirstPast (problem : Problem) (plan : List Event) (place later : ℕ) (first : Option Pair) : Type 0 where
+pub record IsFirstPast (problem : Problem) (plan : List Event) (place later : ℕ)
+    (first : Option Pair) : Type 0 where
   pub clash : IfSome first (AreClashing problem plan)
-  pub each : (a b : Op) → a.train < b.train → (c : Clash problem plan a b) → AreLookedAt place later c.i c.j → IsUpTo first a b
+  pub each : (a b : Op) → a.train < b.train → (c : Clash problem plan a b)
+      → AreLookedAt place later c.i c.j → IsUpTo first a b
 
 -- the first pair that clashes
 pub record IsFirstPair (problem : Problem) (plan : List Event) (pair : Pair) : Type 0 where

@@ -8,7 +8,8 @@ use Rattle.branch_rules.specs.declared.pick.Pick.TheVariants.{Choice, Plan}
 
 -- of these first trains each that has a route has one alone
 abbrev pub AreAlone : Node → ℕ → Type 0
-AreAlone node count = (t : ℕ) → t < count → HasRoute node t → (route : List ℕ) × HasOneRoute node t route
+AreAlone node count = (t : ℕ) → t < count → HasRoute node t → (route : List ℕ)
+    × HasOneRoute node t route
 
 -- each of these first trains has its one of these routes, and no other
 abbrev pub AreTheOnly : Node → ℕ → List (List ℕ) → Type 0
@@ -16,9 +17,11 @@ AreTheOnly node count found = (t : ℕ) → t < count → HasOneRoute node t (sl
 
 -- some of these first trains has not one route alone
 abbrev pub IsSomeNotAlone : Node → ℕ → Type 0
-IsSomeNotAlone node count = (t : ℕ) × (t < count) × ((route : List ℕ) → HasOneRoute node t route → ⊥)
+IsSomeNotAlone node count = (t : ℕ) × (t < count)
+    × ((route : List ℕ) → HasOneRoute node t route → ⊥)
 
--- what the fixed rule finds: the choice that is picked, or that none is, and the plan of earliest starts
+-- what the fixed rule finds: the choice that is picked, or that none is, and the plan of earliest
+-- starts
 abbrev pub IsPickAt : Node → Pick → Type 0
 IsPickAt node (Choice choice) = IsFixedPick node (Some choice)
 IsPickAt node (Plan plan) = IsFixedPick node None × IsEarliest node plan

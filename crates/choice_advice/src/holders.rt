@@ -277,8 +277,8 @@ impl Holders {
         Ok(())
     }
 
-    /// Gives a resource of which a holder has moved, and looks again at how its holders meet where a
-    /// forced one has.
+    /// Gives a resource of which a holder has moved, and looks again at how its holders meet where
+    /// a forced one has.
     pub(crate) fn look_at_next(&mut self) -> Result<Option<Moved>, Memory> {
         let Some(number) = self.stale.pop() else {
             return Ok(None);

@@ -10,7 +10,8 @@ use Rattle.disp_model.specs.Walks.{IsLongest}
 use Rattle.disp_model.specs.Nodes.{component_op}
 use Rattle.cost_bound.specs.declared.arrival.Arrival.{Arrival}
 
--- the number of a component's operation, which is forced, and what the component costs at its longest walk
+-- the number of a component's operation, which is forced, and what the component costs at its
+-- longest walk
 pub record IsArrival (node : Node) (c : Component) (arrival : Arrival) : Type 0 where
   pub forced : IsForced node (component_op c)
   pub number_is : arrival.number ≡ number_of node.problem (component_op c)

@@ -17,7 +17,8 @@ pub record IsLongWalk (node : Node) (o : Op) (walk : List Op) : Type 0 where
   pub is_walk : IsWalk node walk total
   pub longest : IsLongest node o total
 
--- a walk for a component that costs something at its length, and names only where it enters and leaves trains
+-- a walk for a component that costs something at its length, and names only where it enters and
+-- leaves trains
 pub record AddsCost (node : Node) (w : ComponentWalk) : Type 0 where
   pub cost : ℕ
   pub costs : WalkCosts node w cost
@@ -26,13 +27,15 @@ pub record AddsCost (node : Node) (w : ComponentWalk) : Type 0 where
 
 -- their components are in the order of the problem, none of them twice
 abbrev pub AreInOrder : List ComponentWalk → Type 0
-AreInOrder walks = (i j : ℕ) (v w : ComponentWalk) → i < j → slice_get walks i ≡ Some v → slice_get walks j ≡ Some w → v.component < w.component
+AreInOrder walks = (i j : ℕ) (v w : ComponentWalk) → i < j → slice_get walks i ≡ Some v
+    → slice_get walks j ≡ Some w → v.component < w.component
 
 -- what the first so many components add up to, with the walks that show it
 pub record IsBoundTo (node : Node) (count : ℕ) (bound : Bound) : Type 0 where
   pub there : count ≤ length node.problem.components
   pub adds : ForcedAddUp node (take count node.problem.components) bound.cost
-  pub most : bound.cost ≤ sum_by (most_of (horizon node.problem.trains)) (take count node.problem.components)
+  pub most : bound.cost ≤ sum_by (most_of (horizon node.problem.trains))
+      (take count node.problem.components)
   pub costs : WalksCost node bound.walks bound.cost
   pub order : AreInOrder bound.walks
   pub below : All (λ w. w.component < count) bound.walks

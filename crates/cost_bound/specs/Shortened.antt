@@ -11,7 +11,8 @@ is_end (Some before) o (Some next) = not ((before.train == o.train) && (o.train 
 -- the operations of a walk, behind one, that do not stand between two others of their train
 abbrev pub ends_from : Option Op → List Op → List Op
 ends_from before [] = []
-ends_from before (o ∷ rest) = if is_end before o (slice_get rest 0) then o ∷ ends_from (Some o) rest else ends_from (Some o) rest
+ends_from before (o ∷ rest) = if is_end before o (slice_get rest 0) then o ∷ ends_from (Some o) rest
+    else ends_from (Some o) rest
 
 abbrev pub ends_of : List Op → List Op
 ends_of walk = ends_from None walk
@@ -21,4 +22,5 @@ abbrev pub NamesEnds : List Op → Type 0
 NamesEnds [] = Unit {0}
 NamesEnds (a ∷ []) = Unit {0}
 NamesEnds (a ∷ b ∷ []) = Unit {0}
-NamesEnds (a ∷ b ∷ c ∷ rest) = (a.train ≡ b.train → b.train ≡ c.train → ⊥) × NamesEnds (b ∷ c ∷ rest)
+NamesEnds (a ∷ b ∷ c ∷ rest) = (a.train ≡ b.train → b.train ≡ c.train → ⊥)
+    × NamesEnds (b ∷ c ∷ rest)

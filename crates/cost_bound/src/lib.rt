@@ -2,8 +2,8 @@
 //!
 //! `cost` adds up what the components of forced operations cost at the lengths of their longest
 //! walks, in one look at each component. `bound` also gives a walk for each component that adds to
-//! it, which costs what the walk names and the arcs into what it passes. `longest_walk` is one to one
-//! operation.
+//! it, which costs what the walk names and the arcs into what it passes. `longest_walk` is one to
+//! one operation.
 #![tactic(auto)]
 
 mod arrival;

@@ -15,7 +15,8 @@ use Rattle.crew_runs.specs.declared.searcher.Searcher.{Searcher}
 
 -- the searcher is one of the crew, with a pass to the board, which goes by this rule
 abbrev pub IsSeated : Board → Crew → Rule → Searcher → Type 0
-IsSeated board crew rule searcher = IsAtWork board rule 0 searcher.pass × IsHandOf crew searcher.hand
+IsSeated board crew rule searcher = IsAtWork board rule 0 searcher.pass
+    × IsHandOf crew searcher.hand
 
 -- calls of the searcher came between, and it knows the places of its entries
 pub record HasRun (before after : Searcher) : Type 0 where
@@ -25,7 +26,8 @@ pub record HasRun (before after : Searcher) : Type 0 where
 -- so it is with each of these
 pub record HaveRun (before after : List Searcher) : Type 0 where
   pub as_many : length after ≡ length before
-  pub each : (place : ℕ) (d : Searcher) → place < length before → HasRun (get_or before place d) (get_or after place d)
+  pub each : (place : ℕ) (d : Searcher) → place < length before
+      → HasRun (get_or before place d) (get_or after place d)
 
 -- so many callers from the first searcher's on
 abbrev pub searchers_to : ℕ → List ℕ
@@ -47,10 +49,12 @@ pub record MaySeat (v : Known Entry Terms) (count : ℕ) : Type 0 where
   pub none_given : (caller : ℕ) → Contains v.given caller → caller < searcher_caller 0
 
 -- the pass of the searcher of this number begins with what the first pass has seen
-pub record IsSeat (board : Board) (v : Known Entry Terms) (place : ℕ) (searcher : Searcher) : Type 0 where
+pub record IsSeat (board : Board) (v : Known Entry Terms) (place : ℕ) (searcher : Searcher)
+    : Type 0 where
   pub board_is : own_board searcher.pass ≡ board_of board
   pub knows : known searcher.pass ≡ given_known v (searcher_caller place)
   pub none : lines searcher.pass ≡ 0
 
 abbrev pub AreSeats : Board → Known Entry Terms → List Searcher → Type 0
-AreSeats board v searchers = (place : ℕ) (one : Searcher) → slice_get searchers place ≡ Some one → IsSeat board v place one
+AreSeats board v searchers = (place : ℕ) (one : Searcher) → slice_get searchers place ≡ Some one
+    → IsSeat board v place one

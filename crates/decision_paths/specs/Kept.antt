@@ -1,4 +1,5 @@
--- What is kept beside decisions: where each order stands first, and those that speak of routes, by their trains.
+-- What is kept beside decisions: where each order stands first, and those that speak of routes, by
+-- their trains.
 use Rattle.std.specs.Prelude.{◌≡◌, ℕ, Bool, false, ◌==◌, ◌<◌, ◌≤◌, ◌-◌, min, List, length, Option, Some, None, slice_get}
 use Rattle.std.specs.Global.{Vec}
 use Rattle.std.specs.BTreeMap.{is_at}
@@ -27,8 +28,10 @@ place_in orders a b = lookup (is_at (pair_cmp (a, b))) orders
 
 -- of each order that is decided the first place in which it stands is kept, and of no other
 pub record AreFirsts (decisions : List Decision) (orders : List ((Op × Op) × ℕ)) : Type 0 where
-  pub there : (a b : Op) (k : ℕ) → place_in orders a b ≡ Some k → slice_get decisions k ≡ Some (First a b)
-  pub first : (a b : Op) (k : ℕ) → slice_get decisions k ≡ Some (First a b) → (i : ℕ) × (place_in orders a b ≡ Some i) × (i ≤ k)
+  pub there : (a b : Op) (k : ℕ) → place_in orders a b ≡ Some k
+      → slice_get decisions k ≡ Some (First a b)
+  pub first : (a b : Op) (k : ℕ) → slice_get decisions k ≡ Some (First a b) → (i : ℕ)
+      × (place_in orders a b ≡ Some i) × (i ≤ k)
 
 -- ---- routes
 
@@ -56,12 +59,15 @@ abbrev pub is_listed : ℕ → ℕ → Decision → Bool
 is_listed last i = about_one (λ u. list_of last u == i)
 
 -- each list has the decisions that are its own, in order
-pub record AreRoutesByTrain (decisions : List Decision) (routes : List (Vec Decision)) : Type 0 where
+pub record AreRoutesByTrain (decisions : List Decision) (routes : List (Vec Decision))
+    : Type 0 where
   pub some : 0 < length routes
-  pub each : (i : ℕ) (own : Vec Decision) → slice_get routes i ≡ Some own → own.items ≡ filter (is_listed (length routes - 1) i) decisions
+  pub each : (i : ℕ) (own : Vec Decision) → slice_get routes i ≡ Some own
+      → own.items ≡ filter (is_listed (length routes - 1) i) decisions
 
 -- ---- both
 
-pub record AreDecisionsKept (decisions : List Decision) (orders : List ((Op × Op) × ℕ)) (routes : List (Vec Decision)) : Type 0 where
+pub record AreDecisionsKept (decisions : List Decision) (orders : List ((Op × Op) × ℕ))
+    (routes : List (Vec Decision)) : Type 0 where
   pub firsts : AreFirsts decisions orders
   pub by_train : AreRoutesByTrain decisions routes

@@ -33,7 +33,8 @@ pub(crate) fn note_route(
 ) -> Result<(), Memory>
     requires some { 0 < length lists.old.items }
     requires about { train_about decision ≡ Some train }
-    ensures ok { OnOk result ((decisions : List Decision) → AreRoutesByTrain decisions lists.old.items
+    ensures ok { OnOk result ((decisions : List Decision)
+        → AreRoutesByTrain decisions lists.old.items
         → AreRoutesByTrain (decisions ++ decision ∷ []) lists.new.items) }
     ensures err { OnErr result ((decisions : List Decision)
         → AreRoutesByTrain decisions lists.old.items → AreRoutesByTrain decisions lists.new.items) }

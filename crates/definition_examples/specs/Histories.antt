@@ -27,27 +27,33 @@ a0_at_0 = Started 0 0 0
 
 -- the fixing is accepted, and a feed is shown edition 1
 abbrev pub asked : List Entry
-asked = Asked 0 1 (Fix a0_at_0) (Accepted 1) ∷ Shown 0 2 (record { edition = 1; best = None; mark = mark.Working }) ∷ []
+asked = Asked 0 1 (Fix a0_at_0) (Accepted 1)
+    ∷ Shown 0 2 (record { edition = 1; best = None; mark = mark.Working }) ∷ []
 
 -- then a plan is published for edition 1
 abbrev pub published : List Event → ℕ → List Entry
 published plan cost =
-    Asked 0 1 (Fix a0_at_0) (Accepted 1) ∷ Shown 0 2 (record { edition = 1; best = None; mark = mark.Working }) ∷ Published 1 plan cost ∷ []
+    Asked 0 1 (Fix a0_at_0) (Accepted 1) ∷ Shown 0 2
+        (record { edition = 1; best = None; mark = mark.Working }) ∷ Published 1 plan cost ∷ []
 
 -- a plan is published before the fixing is accepted, and a feed is shown the edition after it
 abbrev pub outdated : List Entry
 outdated =
-    Published 0 second_first 18 ∷ Asked 0 1 (Fix a0_at_0) (Accepted 1) ∷ Shown 0 2 (record { edition = 1; best = None; mark = mark.Working }) ∷ []
+    Published 0 second_first 18 ∷ Asked 0 1 (Fix a0_at_0) (Accepted 1)
+        ∷ Shown 0 2 (record { edition = 1; best = None; mark = mark.Working }) ∷ []
 
 -- an edition is stopped
 abbrev pub stopped : ℕ → ℕ → List Entry
 stopped spent bound = Stopped 0 spent bound ∷ []
 
--- the fixing is accepted; a searcher splits the tree's one leaf by the order of the two trains; then a plan is published, and the edition settled
+-- the fixing is accepted; a searcher splits the tree's one leaf by the order of the two trains;
+-- then a plan is published, and the edition settled
 abbrev pub settled : List Event → ℕ → List Entry
 settled plan cost =
-    Asked 0 1 (Fix a0_at_0) (Accepted 1) ∷ Shown 0 2 (record { edition = 1; best = None; mark = mark.Working })
-    ∷ Grown 0 1 1 0 (record { node = 0; choice = Order a0 b0 } ∷ []) ∷ Published 1 plan cost ∷ Settled 1 (Optimal cost) late_tree ∷ []
+    Asked 0 1 (Fix a0_at_0) (Accepted 1) ∷ Shown 0 2
+        (record { edition = 1; best = None; mark = mark.Working })
+    ∷ Grown 0 1 1 0 (record { node = 0; choice = Order a0 b0 } ∷ []) ∷ Published 1 plan cost
+    ∷ Settled 1 (Optimal cost) late_tree ∷ []
 
 -- the same edition is settled again, with whatever tree
 abbrev pub settled_again : List TreeNode → List Entry
@@ -55,4 +61,5 @@ settled_again tree = settled first_first 24 ++ Settled 1 (Optimal 24) tree ∷ [
 
 -- a searcher splits the tree by the order of the two trains, before a fixing is accepted
 abbrev pub grown_before : List Entry
-grown_before = Grown 0 0 0 0 (record { node = 0; choice = Order a0 b0 } ∷ []) ∷ Asked 0 1 (Fix a0_at_0) (Accepted 1) ∷ []
+grown_before = Grown 0 0 0 0 (record { node = 0; choice = Order a0 b0 } ∷ [])
+    ∷ Asked 0 1 (Fix a0_at_0) (Accepted 1) ∷ []

@@ -25,7 +25,8 @@ b1 = op_named 1 1
 
 -- an operation that may start from 0 on, of a duration, with what it lists and what may come next
 abbrev pub lasting : ℕ → List Listing → List ℕ → Operation
-lasting min listings next = record { lower = 0; upper = None; min = min; listings = listings; next = next }
+lasting min listings next = record { lower = 0; upper = None; min = min; listings = listings;
+    next = next }
 
 -- a resource, with a release time
 abbrev pub listing : ℕ → ℕ → Listing
@@ -54,7 +55,8 @@ pub record HasTwoTrains (release : ℕ) (problem : Problem) : Type 0 where
 
 -- two trains that swap two resources: each holds one first, then the other
 abbrev pub swapping : ℕ → ℕ → List Operation
-swapping first then = lasting 5 (listing first 0 ∷ []) (1 ∷ []) ∷ lasting 5 (listing then 0 ∷ []) [] ∷ []
+swapping first then = lasting 5 (listing first 0 ∷ []) (1 ∷ []) ∷ lasting 5 (listing then 0 ∷ []) []
+    ∷ []
 
 abbrev pub swap_trains : List (List Operation)
 swap_trains = swapping 0 1 ∷ swapping 1 0 ∷ []
@@ -66,7 +68,8 @@ pub record HasSwapTrains (problem : Problem) : Type 0 where
 
 -- one train that forks: from 0 by 1, of duration 5, or by 2, of duration 3, to 3
 abbrev pub forked : List Operation
-forked = lasting 0 [] (1 ∷ 2 ∷ []) ∷ lasting 5 [] (3 ∷ []) ∷ lasting 3 [] (3 ∷ []) ∷ lasting 0 [] [] ∷ []
+forked = lasting 0 [] (1 ∷ 2 ∷ []) ∷ lasting 5 [] (3 ∷ []) ∷ lasting 3 [] (3 ∷ []) ∷ lasting 0 [] []
+    ∷ []
 
 -- a problem with the forked train
 pub record HasForkedTrain (problem : Problem) : Type 0 where
@@ -75,7 +78,8 @@ pub record HasForkedTrain (problem : Problem) : Type 0 where
 
 -- the costs of the forked train's branches: one unit for each unit of time by 1, two by 2
 abbrev pub branch_costs : List Component
-branch_costs = each_unit 0 1 ∷ record { train = 0; operation = 2; threshold = 0; increment = 0; coeff = 2 } ∷ []
+branch_costs = each_unit 0 1 ∷ record { train = 0; operation = 2; threshold = 0; increment = 0;
+    coeff = 2 } ∷ []
 
 -- a problem with the forked train, and costs on its branches
 pub record HasBranchCosts (problem : Problem) : Type 0 where
@@ -84,7 +88,8 @@ pub record HasBranchCosts (problem : Problem) : Type 0 where
 
 -- one train whose first operation may start from 2 to 5
 abbrev pub windowed : List Operation
-windowed = record { lower = 2; upper = Some 5; min = 1; listings = []; next = 1 ∷ [] } ∷ lasting 0 [] [] ∷ []
+windowed = record { lower = 2; upper = Some 5; min = 1; listings = []; next = 1 ∷ [] }
+    ∷ lasting 0 [] [] ∷ []
 
 -- a problem with the train of a window
 pub record HasWindowedTrain (problem : Problem) : Type 0 where

@@ -33,7 +33,8 @@ order_tree = Branch (Order a0 b0) 2 ∷ first_costs ∷ second_costs ∷ []
 abbrev pub counted_twice : List TreeNode
 counted_twice =
     Branch (Order a0 b0) 2 ∷ first_costs
-    ∷ Leaf (Costs (walk_to 0 (b0 ∷ b1 ∷ a0 ∷ a1 ∷ []) ∷ walk_to 0 (b0 ∷ b1 ∷ a0 ∷ a1 ∷ []) ∷ [])) ∷ []
+    ∷ Leaf (Costs (walk_to 0 (b0 ∷ b1 ∷ a0 ∷ a1 ∷ []) ∷ walk_to 0 (b0 ∷ b1 ∷ a0 ∷ a1 ∷ []) ∷ []))
+    ∷ []
 
 -- the same with a walk that is too late at the second leaf
 abbrev pub late_tree : List TreeNode

@@ -17,7 +17,8 @@ use Rattle.disp_model.specs.Routes.{IsAllowed, IsForced}
 
 -- what an operation lists
 abbrev pub listings_of : Problem → Op → List Listing
-listings_of problem o = option_map_or (λ p. p.listings) (slice_get (train_at problem o.train) o.op) []
+listings_of problem o = option_map_or (λ p. p.listings) (slice_get (train_at problem o.train) o.op)
+    []
 
 -- the listings of a of resources that b lists too
 abbrev pub shared_listings : List Listing → List Listing → List Listing
@@ -30,12 +31,14 @@ pub record Conflicts (problem : Problem) (a b : Op) : Type 0 where
 
 -- the greatest release time of a's listings of resources that b lists too
 abbrev pub release_of : Problem → Op → Op → ℕ
-release_of problem a b = greatest_release (shared_listings (listings_of problem a) (listings_of problem b))
+release_of problem a b = greatest_release
+    (shared_listings (listings_of problem a) (listings_of problem b))
 
 abbrev pub min_of : Problem → Op → ℕ
 min_of problem o = duration_of (train_at problem o.train) o.op
 
--- a route passes u, and v behind it; the durations from u up to but not including v add up to the total
+-- a route passes u, and v behind it; the durations from u up to but not including v add up to the
+-- total
 pub record Passes (train : List Operation) (route : List ℕ) (u v total : ℕ) : Type 0 where
   pub before : List ℕ
   pub between : List ℕ
@@ -43,14 +46,19 @@ pub record Passes (train : List Operation) (route : List ℕ) (u v total : ℕ) 
   pub route_is : route ≡ before ++ u ∷ (between ++ v ∷ behind)
   pub total_is : total ≡ sum_by (duration_of train) (u ∷ between)
 
--- in one train, u before v: the least sum of durations over the allowed routes (2002 paper: fixed arcs)
+-- in one train, u before v: the least sum of durations over the allowed routes (2002 paper: fixed
+-- arcs)
 pub record IsTrainArc (node : Node) (u v : Op) (arc_length : ℕ) : Type 0 where
   pub same_train : u.train ≡ v.train
-  pub reached : (route : List ℕ) × IsAllowed node u.train route × Passes (train_at node.problem u.train) route u.op v.op arc_length
-  pub least : (route : List ℕ) (total : ℕ) → IsAllowed node u.train route → Passes (train_at node.problem u.train) route u.op v.op total → arc_length ≤ total
+  pub reached : (route : List ℕ) × IsAllowed node u.train route
+      × Passes (train_at node.problem u.train) route u.op v.op arc_length
+  pub least : (route : List ℕ) (total : ℕ) → IsAllowed node u.train route
+      → Passes (train_at node.problem u.train) route u.op v.op total → arc_length ≤ total
 
--- a is decided before b: its duration and its release time (2002 paper: selected arcs; release times are this project's)
-pub record IsOrderArc (problem : Problem) (decisions : List Decision) (a b : Op) (arc_length : ℕ) : Type 0 where
+-- a is decided before b: its duration and its release time (2002 paper: selected arcs; release
+-- times are this project's)
+pub record IsOrderArc (problem : Problem) (decisions : List Decision) (a b : Op) (arc_length : ℕ)
+    : Type 0 where
   pub decided : Contains decisions (First a b)
   pub conflicts : Conflicts problem a b
   pub length_is : arc_length ≡ min_of problem a + release_of problem a b
@@ -58,7 +66,8 @@ pub record IsOrderArc (problem : Problem) (decisions : List Decision) (a b : Op)
 -- each allowed route goes on from a to n
 abbrev pub GoesTo : Node → Op → Op → Type 0
 GoesTo node a n =
-    (n.train ≡ a.train) × ((route : List ℕ) → IsAllowed node a.train route → after a.op route ≡ Some n.op)
+    (n.train ≡ a.train) × ((route : List ℕ) → IsAllowed node a.train route
+        → after a.op route ≡ Some n.op)
 
 -- a is decided before b, and n follows a on each allowed route: from n the release time
 pub record IsReleaseArc (node : Node) (n b : Op) (arc_length : ℕ) : Type 0 where
@@ -69,11 +78,13 @@ pub record IsReleaseArc (node : Node) (n b : Op) (arc_length : ℕ) : Type 0 whe
   pub goes_to : GoesTo node holder n
   pub length_is : arc_length ≡ release_of node.problem holder b
 
--- an arc between forced operations, of a length: the later one stands behind the earlier and starts so much later
+-- an arc between forced operations, of a length: the later one stands behind the earlier and starts
+-- so much later
 pub record IsArc (node : Node) (u v : Op) (arc_length : ℕ) : Type 0 where
   pub from_forced : IsForced node u
   pub to_forced : IsForced node v
-  pub kind : IsTrainArc node u v arc_length ⊎ (IsOrderArc node.problem node.decisions u v arc_length ⊎ IsReleaseArc node u v arc_length)
+  pub kind : IsTrainArc node u v arc_length
+      ⊎ (IsOrderArc node.problem node.decisions u v arc_length ⊎ IsReleaseArc node u v arc_length)
 
 -- there is an arc
 abbrev pub HasArc : Node → Op → Op → Type 0

@@ -14,11 +14,13 @@ withdraws number (Withdraw other) = other == number
 abbrev pub is_withdrawn : ℕ → List Change → Bool
 is_withdrawn number changes = list_any (withdraws number) changes
 
--- of the changes from a number on: the fixings that none of all changes takes back, each with its number
+-- of the changes from a number on: the fixings that none of all changes takes back, each with its
+-- number
 abbrev pub standing_from : List Change → ℕ → List Change → List (ℕ × Fixing)
 standing_from all number [] = []
 standing_from all number (Fix fixing ∷ changes) =
-    if is_withdrawn number all then standing_from all (number + 1) changes else (number, fixing) ∷ standing_from all (number + 1) changes
+    if is_withdrawn number all then standing_from all (number + 1) changes else (number, fixing)
+        ∷ standing_from all (number + 1) changes
 standing_from all number (Withdraw other ∷ changes) = standing_from all (number + 1) changes
 
 -- the fixings that stand, each with the number of its change
@@ -34,7 +36,9 @@ abbrev pub change_at : List Change → ℕ → Option Change
 change_at changes zero = None
 change_at changes (suc n) = slice_get changes n
 
--- the number of the first of these changes, counted from a number on, that takes back the fixing of a number
+-- the number of the first of these changes, counted from a number on, that takes back the fixing of
+-- a number
 abbrev pub withdrawn_from : ℕ → ℕ → List Change → Option ℕ
 withdrawn_from taken number [] = None
-withdrawn_from taken number (change ∷ changes) = if withdraws taken change then Some number else withdrawn_from taken (number + 1) changes
+withdrawn_from taken number (change ∷ changes) = if withdraws taken change then Some number
+    else withdrawn_from taken (number + 1) changes

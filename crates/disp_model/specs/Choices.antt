@@ -10,12 +10,13 @@ use Rattle.disp_model.specs.Routes.{IsAllowed, IsForced}
 use Rattle.disp_model.specs.Arcs.{Conflicts, release_of, min_of, GoesTo}
 use Rattle.disp_model.specs.Walks.{IsLongest}
 
--- the end of a forced operation: the longest walk of its only next, where each allowed route goes on to the same one;
--- else its own longest walk and its duration (this project)
+-- the end of a forced operation: the longest walk of its only next, where each allowed route goes
+-- on to the same one; else its own longest walk and its duration (this project)
 abbrev pub IsEnd : Node → Op → ℕ → Type 0
 IsEnd node o end =
     ((n : Op) × GoesTo node o n × IsLongest node n end)
-    ⊎ (((n : Op) → GoesTo node o n → ⊥) × ((start : ℕ) × IsLongest node o start × (end ≡ start + min_of node.problem o)))
+    ⊎ (((n : Op) → GoesTo node o n → ⊥) × ((start : ℕ) × IsLongest node o start
+    × (end ≡ start + min_of node.problem o)))
 
 -- the end of a, with its release time, is no later than the start of b, and is below it
 pub record Clears (node : Node) (a b : Op) : Type 0 where
@@ -35,7 +36,8 @@ pub record IsOpenRoute (node : Node) (o : Op) : Type 0 where
   pub other_allowed : IsAllowed node o.train other
   pub apart : after o.op one ≢ after o.op other
 
--- two forced operations that conflict, the lower train first, in no decided order, of which neither clears the other
+-- two forced operations that conflict, the lower train first, in no decided order, of which neither
+-- clears the other
 pub record IsOpenOrder (node : Node) (a b : Op) : Type 0 where
   pub trains : a.train < b.train
   pub from_forced : IsForced node a

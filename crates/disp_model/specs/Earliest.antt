@@ -22,7 +22,8 @@ op_of e = record { train = e.train; op = e.operation }
 -- by time, then train, then operation
 abbrev pub ComesBefore : Event → Event → Type 0
 ComesBefore e f =
-    (e.time < f.time) ⊎ ((e.time ≡ f.time) × ((e.train < f.train) ⊎ ((e.train ≡ f.train) × (e.operation < f.operation))))
+    (e.time < f.time) ⊎ ((e.time ≡ f.time) ×
+        ((e.train < f.train) ⊎ ((e.train ≡ f.train) × (e.operation < f.operation))))
 
 -- the events before those that are left have all from which an arc leads to this one
 abbrev pub IsReady : Node → List Event → Event → Type 0
@@ -36,29 +37,35 @@ pub record IsNext (node : Node) (stood rest : List Event) (e : Event) : Type 0 w
 
 -- each train has one allowed route
 abbrev pub HaveOneRoute : Node → Type 0
-HaveOneRoute node = (t : ℕ) → t < length node.problem.trains → (route : List ℕ) × HasOneRoute node t route
+HaveOneRoute node = (t : ℕ) → t < length node.problem.trains → (route : List ℕ)
+    × HasOneRoute node t route
 
--- the plan of earliest starts: each forced operation once, at its longest walk; of the events whose predecessors
--- all stand, the first by time, train and operation comes next (this project)
+-- the plan of earliest starts: each forced operation once, at its longest walk; of the events whose
+-- predecessors all stand, the first by time, train and operation comes next (this project)
 pub record IsEarliest (node : Node) (plan : List Event) : Type 0 where
   pub one_route : HaveOneRoute node
   pub no_cycle : HasCycle node → ⊥
   pub each_run : (o : Op) → IsForced node o → (e : Event) × Contains plan e × Starts o e
-  pub none_else : (e : Event) → Contains plan e → IsForced node (op_of e) × IsLongest node (op_of e) e.time
-  pub none_twice : (i j : ℕ) (e f : Event) → i < j → slice_get plan i ≡ Some e → slice_get plan j ≡ Some f → op_of e ≢ op_of f
-  pub ordered : (i : ℕ) (e : Event) → slice_get plan i ≡ Some e → IsNext node (take i plan) (drop i plan) e
+  pub none_else : (e : Event) → Contains plan e → IsForced node (op_of e)
+      × IsLongest node (op_of e) e.time
+  pub none_twice : (i j : ℕ) (e f : Event) → i < j → slice_get plan i ≡ Some e
+      → slice_get plan j ≡ Some f → op_of e ≢ op_of f
+  pub ordered : (i : ℕ) (e : Event) → slice_get plan i ≡ Some e
+      → IsNext node (take i plan) (drop i plan) e
 
 -- ---- the choice that is picked
 
 -- a train has two allowed routes
 abbrev pub HasTwoRoutes : Node → ℕ → Type 0
 HasTwoRoutes node t =
-    (route : List ℕ) × (other : List ℕ) × IsAllowed node t route × IsAllowed node t other × (route ≢ other)
+    (route : List ℕ) × (other : List ℕ) × IsAllowed node t route × IsAllowed node t other
+        × (route ≢ other)
 
 -- all allowed routes of the train reach the operation alike, and two go on differently from there
 pub record IsFork (node : Node) (o : Op) : Type 0 where
   pub front : List ℕ
-  pub alike : (route : List ℕ) → IsAllowed node o.train route → (rest : List ℕ) × (route ≡ front ++ o.op ∷ rest)
+  pub alike : (route : List ℕ) → IsAllowed node o.train route → (rest : List ℕ)
+      × (route ≡ front ++ o.op ∷ rest)
   pub one : List ℕ
   pub other : List ℕ
   pub one_allowed : IsAllowed node o.train one
@@ -115,15 +122,17 @@ pub record PicksNone (node : Node) : Type 0 where
   pub earliest : IsEarliest node plan
   pub valid : IsValid node.problem node.fixings plan
 
--- the choice that the fixed rule picks at a node that is not dead: the fork of the first train with two allowed routes; else
--- the first undecided pair that does not keep apart in the earliest plan; none where that plan is valid (this project)
+-- the choice that the fixed rule picks at a node that is not dead: the fork of the first train with
+-- two allowed routes; else the first undecided pair that does not keep apart in the earliest plan;
+-- none where that plan is valid (this project)
 abbrev pub IsFixedPick : Node → Option Choice → Type 0
 IsFixedPick node (Some (Route o)) = IsFirstFork node o
 IsFixedPick node (Some (Order a b)) = PicksOrder node a b
 IsFixedPick node (Some (Run o)) = ⊥
 IsFixedPick node None = PicksNone node
 
--- the choice that is picked: under the free rule any that is open, where the earliest plan is not valid (this project)
+-- the choice that is picked: under the free rule any that is open, where the earliest plan is not
+-- valid (this project)
 abbrev pub IsPicked : Node → Rule → Option Choice → Type 0
 IsPicked node Fixed choice = IsFixedPick node choice
 IsPicked node Free None = PicksNone node

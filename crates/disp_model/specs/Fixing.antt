@@ -11,8 +11,9 @@ after o [] = None
 after o (p ∷ []) = None
 after o (p ∷ q ∷ rest) = if p == o then Some q else after o (q ∷ rest)
 
--- a started operation is run and starts at that time; after a chosen one, which is run, comes the one named; an operation
--- that is not to start before a time is not run, or starts then or later (this project)
+-- a started operation is run and starts at that time; after a chosen one, which is run, comes the
+-- one named; an operation that is not to start before a time is not run, or starts then or later
+-- (this project)
 abbrev pub IsMet : List Event → Fixing → Type 0
 IsMet plan (Started t o time) = start_of plan t o ≡ Some time
 IsMet plan (Chosen t o next) = after o (operations_of t plan) ≡ Some next

@@ -66,11 +66,13 @@ last_from before (entry ∷ history) = last_from (plan_after before entry) histo
 abbrev pub last_plan : List Entry → Option (List Event × ℕ)
 last_plan history = last_from None history
 
--- the best cost: that of the last published plan where it is valid for the newest edition, else none
+-- the best cost: that of the last published plan where it is valid for the newest edition, else
+-- none
 abbrev pub IsBestCost : Problem → List Entry → Option ℕ → Type 0
 IsBestCost problem history best =
     MatchOption (last_plan history) (best ≡ None)
-    (λ p. (IsValid problem (edition_of history) p.0 × (best ≡ Some p.1)) ⊎ ((IsValid problem (edition_of history) p.0 → ⊥) × (best ≡ None)))
+    (λ p. (IsValid problem (edition_of history) p.0 × (best ≡ Some p.1))
+        ⊎ ((IsValid problem (edition_of history) p.0 → ⊥) × (best ≡ None)))
 
 -- the mark of a verdict
 abbrev pub mark_of_verdict : Verdict → Mark
@@ -84,19 +86,23 @@ mark_after number before (Unread feed line why) = before
 mark_after number before (Shown feed line standing) = before
 mark_after number before (Grown searcher edition seen node splits) = before
 mark_after number before (Published edition plan cost) = before
-mark_after number before (Settled edition verdict tree) = if edition == number then mark_of_verdict verdict else before
-mark_after number before (Stopped edition spent bound) = if edition == number then mark.Stopped spent bound else before
+mark_after number before (Settled edition verdict tree) = if edition == number
+    then mark_of_verdict verdict else before
+mark_after number before (Stopped edition spent bound) = if edition == number
+    then mark.Stopped spent bound else before
 
 abbrev pub mark_from : ℕ → Mark → List Entry → Mark
 mark_from number before [] = before
-mark_from number before (entry ∷ history) = mark_from number (mark_after number before entry) history
+mark_from number before (entry ∷ history) =
+    mark_from number (mark_after number before entry) history
 
 -- the mark of an edition: by the last entry that settled or stopped it, else it is worked on
 abbrev pub mark_of : ℕ → List Entry → Mark
 mark_of number history = mark_from number mark.Working history
 
 -- where the search stands after a history
-pub record IsStanding (problem : Problem) (history : List Entry) (standing : Standing) : Type 0 where
+pub record IsStanding (problem : Problem) (history : List Entry) (standing : Standing)
+    : Type 0 where
   pub edition : standing.edition ≡ newest history
   pub best : IsBestCost problem history standing.best
   pub mark : standing.mark ≡ mark_of (newest history) history

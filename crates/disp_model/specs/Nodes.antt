@@ -16,7 +16,8 @@ pub record HasLate (node : Node) : Type 0 where
   pub upper_is : upper_of node.problem node.fixings operation ≡ Some upper
   pub late : upper < total
 
--- a dead node: a train has no allowed route, the arcs have a cycle, or an operation cannot start in time
+-- a dead node: a train has no allowed route, the arcs have a cycle, or an operation cannot start in
+-- time
 abbrev pub IsDead : Node → Type 0
 IsDead node = HasNoRoute node ⊎ (HasCycle node ⊎ HasLate node)
 
@@ -27,14 +28,16 @@ component_op c = record { train = c.train; op = c.operation }
 -- what a component adds: its cost at the longest walk to its operation, where that is forced
 abbrev pub AddsForced : Node → Component → ℕ → Type 0
 AddsForced node c cost =
-    ((total : ℕ) × IsForced node (component_op c) × IsLongest node (component_op c) total × (cost ≡ cost_at c total))
+    ((total : ℕ) × IsForced node (component_op c) × IsLongest node (component_op c) total
+        × (cost ≡ cost_at c total))
     ⊎ ((IsForced node (component_op c) → ⊥) × (cost ≡ 0))
 
 -- what these components add up to
 abbrev pub ForcedAddUp : Node → List Component → ℕ → Type 0
 ForcedAddUp node [] bound = bound ≡ 0
 ForcedAddUp node (c ∷ components) bound =
-    (cost : ℕ) × (rest : ℕ) × AddsForced node c cost × ForcedAddUp node components rest × (bound ≡ cost + rest)
+    (cost : ℕ) × (rest : ℕ) × AddsForced node c cost × ForcedAddUp node components rest
+        × (bound ≡ cost + rest)
 
 -- what all components add up to
 abbrev pub IsForcedBound : Node → ℕ → Type 0

@@ -39,7 +39,8 @@ known_as fixing (p ∷ standing) = if is_same p.1 fixing then Some p.0 else know
 abbrev pub fixed_next : List Fixing → Op → Option ℕ
 fixed_next [] o = None
 fixed_next (Started t p time ∷ fixings) o = fixed_next fixings o
-fixed_next (Chosen t p next ∷ fixings) o = if (t == o.train) && (p == o.op) then Some next else fixed_next fixings o
+fixed_next (Chosen t p next ∷ fixings) o = if (t == o.train) && (p == o.op) then Some next
+    else fixed_next fixings o
 fixed_next (NotBefore t p time ∷ fixings) o = fixed_next fixings o
 
 -- the answer where the row holds, and what the other rows say where it does not
@@ -48,12 +49,14 @@ Row holds answer reply others = (holds × (reply ≡ answer)) ⊎ ((holds → �
 
 -- there are as many changes as are taken, or it is accepted
 abbrev pub IsCounted : List Change → Reply → Type 0
-IsCounted changes reply = Row (length changes ≡ MOST_CHANGES) (Refused (Full MOST_CHANGES)) reply (reply ≡ Accepted (length changes + 1))
+IsCounted changes reply = Row (length changes ≡ MOST_CHANGES) (Refused (Full MOST_CHANGES)) reply
+    (reply ≡ Accepted (length changes + 1))
 
 -- no route is left, or it is counted
 abbrev pub IsRouted : Problem → List Change → ℕ → Fixing → Reply → Type 0
 IsRouted problem changes t fixing reply =
-    Row (HasRoute (root_of problem (standing_of changes ++ fixing ∷ [])) t → ⊥) (Refused NoRoute) reply (IsCounted changes reply)
+    Row (HasRoute (root_of problem (standing_of changes ++ fixing ∷ [])) t → ⊥) (Refused NoRoute)
+        reply (IsCounted changes reply)
 
 -- of a started operation, from the rows on its time on
 abbrev pub RepliesToStart : Problem → List Change → ℕ → ℕ → ℕ → Operation → Reply → Type 0
@@ -66,7 +69,9 @@ RepliesToStart problem changes t o time operation reply =
     Rest =
         MatchOption (known_as (Started t o time) (numbered_standing changes))
         (MatchOption (fixed_start (standing_of changes) (record { train = t; op = o }))
-        (Row (time < not_before (standing_of changes) (record { train = t; op = o })) (Refused (EarliestIs (not_before (standing_of changes) (record { train = t; op = o })))) reply
+        (Row (time < not_before (standing_of changes) (record { train = t; op = o }))
+            (Refused (EarliestIs (not_before (standing_of changes) (record { train = t; op = o }))))
+            reply
         (IsRouted problem changes t (Started t o time) reply))
         (λ kept. reply ≡ Refused (StartedAt kept)))
         (λ k. reply ≡ Known k)
@@ -106,18 +111,23 @@ abbrev pub RepliesToWithdrawal : List Change → ℕ → Option Change → Reply
 RepliesToWithdrawal changes number None reply = reply ≡ Refused NoSuchChange
 RepliesToWithdrawal changes number (Some (Withdraw other)) reply = reply ≡ Refused NoSuchChange
 RepliesToWithdrawal changes number (Some (Fix fixing)) reply =
-    MatchOption (withdrawn_from number 1 changes) (IsCounted changes reply) (λ k. reply ≡ Refused (Withdrawn k))
+    MatchOption (withdrawn_from number 1 changes) (IsCounted changes reply)
+        (λ k. reply ≡ Refused (Withdrawn k))
 
 -- the reply to a change, with the changes accepted before (this project)
 abbrev pub IsReply : Problem → List Change → Change → Reply → Type 0
 IsReply problem changes (Fix (Started t o time)) reply =
-    RepliesToFixing problem t o reply (λ operation. RepliesToStart problem changes t o time operation reply)
+    RepliesToFixing problem t o reply (λ operation. RepliesToStart problem changes t o time
+        operation reply)
 IsReply problem changes (Fix (Chosen t o next)) reply =
     RepliesToFixing problem t o reply (λ operation. RepliesToChoice problem changes t o next reply)
 IsReply problem changes (Fix (NotBefore t o time)) reply =
     RepliesToFixing problem t o reply (λ operation. RepliesToEarliest changes t o time reply)
-IsReply problem changes (Withdraw number) reply = RepliesToWithdrawal changes number (change_at changes number) reply
+IsReply problem changes (Withdraw number) reply =
+    RepliesToWithdrawal changes number (change_at changes number) reply
 
--- the changes are those of an edition: each was accepted behind the ones before it, with the next number
+-- the changes are those of an edition: each was accepted behind the ones before it, with the next
+-- number
 abbrev pub IsEdition : Problem → List Change → Type 0
-IsEdition problem changes = (i : ℕ) (change : Change) → slice_get changes i ≡ Some change → IsReply problem (take i changes) change (Accepted (i + 1))
+IsEdition problem changes = (i : ℕ) (change : Change) → slice_get changes i ≡ Some change
+    → IsReply problem (take i changes) change (Accepted (i + 1))

@@ -1,4 +1,5 @@
--- Which routes of a train agree with fixings and decisions, and which operations every such route has.
+-- Which routes of a train agree with fixings and decisions, and which operations every such route
+-- has.
 use Rattle.std.specs.Prelude.{◌≡◌, ℕ, ◌<◌, List, All, Contains, Some, length}
 use Rattle.disp_model.specs.declared.train.Op.{Op}
 use Rattle.disp_model.specs.declared.fixing.Fixing.{Fixing}
@@ -11,20 +12,24 @@ use Rattle.disp_model.specs.Valid.{train_at}
 use Rattle.disp_model.specs.Fixing.{after}
 use Rattle.disp_model.specs.Node.{Node}
 
--- the route has the operation that a started or chosen fixing of its train names, followed as a chosen one says (this project)
+-- the route has the operation that a started or chosen fixing of its train names, followed as a
+-- chosen one says (this project)
 abbrev pub AgreesWithFixing : ℕ → List ℕ → Fixing → Type 0
 AgreesWithFixing t route (Started u o time) = u ≡ t → Contains route o
 AgreesWithFixing t route (Chosen u o next) = u ≡ t → after o route ≡ Some next
 AgreesWithFixing t route (NotBefore u o time) = Unit {0}
 
--- where the operation is on the route, the decided one follows it; an operation to run is on it, one to skip is not
+-- where the operation is on the route, the decided one follows it; an operation to run is on it,
+-- one to skip is not
 abbrev pub AgreesWithDecision : ℕ → List ℕ → Decision → Type 0
-AgreesWithDecision t route (Go o next) = o.train ≡ t → Contains route o.op → after o.op route ≡ Some next
+AgreesWithDecision t route (Go o next) = o.train ≡ t → Contains route o.op
+    → after o.op route ≡ Some next
 AgreesWithDecision t route (First a b) = Unit {0}
 AgreesWithDecision t route (Run o) = o.train ≡ t → Contains route o.op
 AgreesWithDecision t route (Skip o) = o.train ≡ t → Contains route o.op → ⊥
 
--- an allowed route of train t: a route that agrees with the fixings and the decisions (this project)
+-- an allowed route of train t: a route that agrees with the fixings and the decisions (this
+-- project)
 pub record IsAllowed (node : Node) (t : ℕ) (route : List ℕ) : Type 0 where
   pub is_route : IsRoute (train_at node.problem t) route
   pub fixings_agree : All (AgreesWithFixing t route) node.fixings

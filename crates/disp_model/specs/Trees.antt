@@ -50,11 +50,13 @@ pub record WalkCosts (node : Node) (w : ComponentWalk) (cost : ℕ) : Type 0 whe
 abbrev pub WalksCost : Node → List ComponentWalk → ℕ → Type 0
 WalksCost node [] sum = sum ≡ 0
 WalksCost node (w ∷ walks) sum =
-    (cost : ℕ) × (rest : ℕ) × WalkCosts node w cost × WalksCost node walks rest × (sum ≡ cost + rest)
+    (cost : ℕ) × (rest : ℕ) × WalkCosts node w cost × WalksCost node walks rest
+        × (sum ≡ cost + rest)
 
 -- no component has two walks
 abbrev pub HaveDistinct : List ComponentWalk → Type 0
-HaveDistinct walks = (i j : ℕ) (v w : ComponentWalk) → i < j → slice_get walks i ≡ Some v → slice_get walks j ≡ Some w → v.component ≢ w.component
+HaveDistinct walks = (i j : ℕ) (v w : ComponentWalk) → i < j → slice_get walks i ≡ Some v
+    → slice_get walks j ≡ Some w → v.component ≢ w.component
 
 -- walks to distinct components that cost as much as the verdict
 pub record CostsEnough (node : Node) (walks : List ComponentWalk) (cost : ℕ) : Type 0 where
@@ -63,8 +65,10 @@ pub record CostsEnough (node : Node) (walks : List ComponentWalk) (cost : ℕ) :
   pub sum_is : WalksCost node walks sum
   pub enough : cost ≤ sum
 
--- walks to distinct components and the shares of other trains, each listed once, cost together as much as the verdict
-pub record SharesEnough (node : Node) (walks : List ComponentWalk) (trains : List TrainWalks) (cost : ℕ) : Type 0 where
+-- walks to distinct components and the shares of other trains, each listed once, cost together as
+-- much as the verdict
+pub record SharesEnough (node : Node) (walks : List ComponentWalk) (trains : List TrainWalks)
+    (cost : ℕ) : Type 0 where
   pub distinct : HaveDistinct walks
   pub distinct_trains : HaveDistinctTrains trains
   pub others : AreOfOthers node.problem walks trains
@@ -95,14 +99,15 @@ Shows node verdict (Shares walks trains) = ShareVerdict node verdict walks train
 abbrev pub LeafHolds : Node → Verdict → TreeLeaf → Type 0
 LeafHolds node verdict leaf = HasNoRoute node ⊎ Shows node verdict leaf
 
--- the children of a choice: one for each successor in the problem's order; the two orders; run or skip
+-- the children of a choice: one for each successor in the problem's order; the two orders; run or
+-- skip
 abbrev pub children_of : Problem → Choice → List Decision
 children_of problem (Route o) = map (λ s. Go o s) (next_of (train_at problem o.train) o.op)
 children_of problem (Order a b) = First a b ∷ First b a ∷ []
 children_of problem (Run o) = RunIt o ∷ Skip o ∷ []
 
--- a choice that a branch may have: of an operation with two successors at least, of two that conflict, or whether one that
--- there is is run
+-- a choice that a branch may have: of an operation with two successors at least, of two that
+-- conflict, or whether one that there is is run
 abbrev pub IsChoice : Problem → Choice → Type 0
 IsChoice problem (Route o) = 2 ≤ length (next_of (train_at problem o.train) o.op)
 IsChoice problem (Order a b) = Conflicts problem a b
@@ -113,7 +118,8 @@ abbrev pub Fills : Verdict → List Node → List TreeNode → Type 0
 Fills verdict [] [] = Unit {0}
 Fills verdict (node ∷ places) [] = ⊥
 Fills verdict [] (top ∷ tree) = ⊥
-Fills verdict (node ∷ places) (Leaf leaf ∷ tree) = LeafHolds node verdict leaf × Fills verdict places tree
+Fills verdict (node ∷ places) (Leaf leaf ∷ tree) = LeafHolds node verdict leaf
+    × Fills verdict places tree
 Fills verdict (node ∷ places) (Branch choice children ∷ tree) =
     IsChoice node.problem choice × (children ≡ length (children_of node.problem choice))
     × Fills verdict (map (with_decision node) (children_of node.problem choice) ++ places) tree
@@ -131,14 +137,16 @@ abbrev pub FitsWalk : ComponentWalk → Type 0
 FitsWalk w = (w.component ≤ GREATEST_NUMBER) × All FitsOp w.walk
 
 abbrev pub FitsTrain : TrainWalks → Type 0
-FitsTrain listed = (listed.train ≤ GREATEST_NUMBER) × (length listed.walks ≤ MOST_COMPONENTS) × All (All FitsOp) listed.walks
+FitsTrain listed = (listed.train ≤ GREATEST_NUMBER) × (length listed.walks ≤ MOST_COMPONENTS)
+    × All (All FitsOp) listed.walks
 
 abbrev pub FitsLeaf : TreeLeaf → Type 0
 FitsLeaf NoRoute = Unit {0}
 FitsLeaf (Cycle nodes) = All FitsOp nodes
 FitsLeaf (Late walk) = All FitsOp walk
 FitsLeaf (Costs walks) = (length walks ≤ MOST_COMPONENTS) × All FitsWalk walks
-FitsLeaf (Shares walks trains) = (length walks ≤ MOST_COMPONENTS) × All FitsWalk walks × (length trains ≤ MOST_COMPONENTS) × All FitsTrain trains
+FitsLeaf (Shares walks trains) = (length walks ≤ MOST_COMPONENTS) × All FitsWalk walks
+    × (length trains ≤ MOST_COMPONENTS) × All FitsTrain trains
 
 abbrev pub FitsChoice : Choice → Type 0
 FitsChoice (Route o) = FitsOp o

@@ -31,7 +31,8 @@ pub record HasFitNumbers (o : Operation) : Type 0 where
   pub min : o.min ≤ GREATEST_NUMBER
   pub releases : All (λ l. l.release ≤ GREATEST_NUMBER) o.listings
 
--- an operation goes on to operations of its train, each named once, and lists resources that have names
+-- an operation goes on to operations of its train, each named once, and lists resources that have
+-- names
 pub record RefersInside (operations resources : ℕ) (o : Operation) : Type 0 where
   pub next : All (λ s. s < operations) o.next
   pub once : (i j : ℕ) (s : ℕ) → i < j → slice_get o.next i ≡ Some s → slice_get o.next j ≢ Some s
@@ -55,18 +56,21 @@ pub record IsComponent (trains : List (List Operation)) (c : Component) : Type 0
   pub increment : c.increment ≤ GREATEST_NUMBER
   pub coeff : c.coeff ≤ GREATEST_NUMBER
   pub train : c.train < length trains
-  pub operation : (train : List Operation) → slice_get trains c.train ≡ Some train → c.operation < length train
+  pub operation : (train : List Operation) → slice_get trains c.train ≡ Some train
+      → c.operation < length train
 
 -- what a component costs at most, at the horizon
 abbrev pub most_of : ℕ → Component → ℕ
 most_of last c = c.coeff * last + c.increment
 
-pub record IsWellFormed (trains : List (List Operation)) (components : List Component) (names : List (List ℕ)) : Type 0 where
+pub record IsWellFormed (trains : List (List Operation)) (components : List Component)
+    (names : List (List ℕ)) : Type 0 where
   pub numbers : All (λ train. All HasFitNumbers train) trains
   pub references : All (λ train. All (RefersInside (length train) (length names)) train) trains
   pub acyclic : All IsAcyclic trains
   pub named : All (IsComponent trains) components
-  pub distinct : (i j : ℕ) (name : List ℕ) → i < j → slice_get names i ≡ Some name → slice_get names j ≢ Some name
+  pub distinct : (i j : ℕ) (name : List ℕ) → i < j → slice_get names i ≡ Some name
+      → slice_get names j ≢ Some name
   pub trains_fit : length trains ≤ MOST_TRAINS
   pub operations_fit : operation_count trains ≤ MOST_OPERATIONS
   pub components_fit : length components ≤ MOST_COMPONENTS

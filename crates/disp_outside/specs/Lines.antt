@@ -10,7 +10,8 @@ put_before byte (line ∷ lines) = (byte ∷ line) ∷ lines
 -- the lines of bytes, each with the LF that ends it; the last one may lack it, and then has a byte
 abbrev pub feed_lines : List ℕ → List (List ℕ)
 feed_lines [] = []
-feed_lines (byte ∷ bytes) = if byte == 10 then (byte ∷ []) ∷ feed_lines bytes else put_before byte (feed_lines bytes)
+feed_lines (byte ∷ bytes) = if byte == 10 then (byte ∷ []) ∷ feed_lines bytes
+    else put_before byte (feed_lines bytes)
 
 -- the line without its LF
 abbrev pub without_end : List ℕ → List ℕ
@@ -24,7 +25,8 @@ text_of line = if ends_with_byte 10 line then strip_last 13 (without_end line) e
 abbrev pub GivesLine : Option (List (List ℕ)) → Option (List (List ℕ)) → List ℕ → Type 0
 GivesLine None new text = new ≡ None
 GivesLine (Some []) new text = ⊥
-GivesLine (Some (line ∷ lines)) new text = (text ≡ text_of line) × (length (without_end line) ≤ 256) × (new ≡ Some lines)
+GivesLine (Some (line ∷ lines)) new text = (text ≡ text_of line) × (length (without_end line) ≤ 256)
+    × (new ≡ Some lines)
 
 -- the first of the lines left is skipped: it has more than 256 bytes before its LF
 abbrev pub Skips : Option (List (List ℕ)) → Option (List (List ℕ)) → Type 0
@@ -37,7 +39,8 @@ abbrev pub NoneLeft : Option (List (List ℕ)) → Type 0
 NoneLeft None = ⊤
 NoneLeft (Some lines) = lines ≡ []
 
--- the lines left of a new feed are those of what the name holds, where that is told, and a name without a file has none
+-- the lines left of a new feed are those of what the name holds, where that is told, and a name
+-- without a file has none
 abbrev pub HasLinesOf : Option (Option (List ℕ)) → Option (List (List ℕ)) → Type 0
 HasLinesOf None told = ⊤
 HasLinesOf (Some None) told = ⊥

@@ -4,7 +4,8 @@ use Rattle.std.specs.Io.KnownBytes.{Consumes}
 
 -- what a reader lost is what stands behind the bytes that were there
 abbrev pub LosesRead : Option (List ℕ) → Option (List ℕ) → List ℕ → List ℕ → Type 0
-LosesRead left_old left_new old new = (more : List ℕ) × (new ≡ old ++ more) × Consumes left_old left_new more
+LosesRead left_old left_new old new = (more : List ℕ) × (new ≡ old ++ more)
+    × Consumes left_old left_new more
 
 -- with what a reader has left there are more than this many
 abbrev pub IsPast : ℕ → ℕ → Option (List ℕ) → Type 0

@@ -36,14 +36,18 @@ StopsFeed one number old new (FeedFailed told) = (told ≡ number) × (old one <
 StopsFeed one number old new Memory = new one ≡ old one
 
 module _ {F : Type 0} where
-  -- feeds of the names, in order, of which nothing was read: each has the lines of what its name holds
-  pub record AreOpened (name : F → List ℕ) (told : F → Option (List (List ℕ))) (has_ended : F → Bool) (faults : F → ℕ) (holds : Holdings) (names : List (List ℕ)) (feeds : List F) : Type 0 where
+  -- feeds of the names, in order, of which nothing was read: each has the lines of what its name
+  -- holds
+  pub record AreOpened (name : F → List ℕ) (told : F → Option (List (List ℕ)))
+      (has_ended : F → Bool) (faults : F → ℕ) (holds : Holdings) (names : List (List ℕ))
+      (feeds : List F) : Type 0 where
     pub names_are : map name feeds ≡ names
     pub lines : All (λ feed. HasLinesOf (holds (name feed)) (told feed)) feeds
     pub are_new : AreNew has_ended faults feeds
 
   -- one more feed, of a name, of which nothing was read
-  pub record OpensOne (name : F → List ℕ) (told : F → Option (List (List ℕ))) (has_ended : F → Bool) (faults : F → ℕ) (holds : Holdings) (one : List ℕ) (old new : List F) : Type 0 where
+  pub record OpensOne (name : F → List ℕ) (told : F → Option (List (List ℕ))) (has_ended : F → Bool)
+      (faults : F → ℕ) (holds : Holdings) (one : List ℕ) (old new : List F) : Type 0 where
     pub feed : F
     pub is : new ≡ old ++ feed ∷ []
     pub name_is : name feed ≡ one

@@ -30,7 +30,8 @@ abbrev pub HasFewFeeds : RollTask → Type 0
 HasFewFeeds task = length task.feeds ≤ MOST_CALLERS
 
 -- there is a problem, and the feed of this number was not opened
-pub record IsWithoutFeed (task : RollTask) (holds : Holdings) (old new : Counts) (number : ℕ) : Type 0 where
+pub record IsWithoutFeed (task : RollTask) (holds : Holdings) (old new : Counts) (number : ℕ)
+    : Type 0 where
   pub problem : Problem
   pub file : IsProblemFile holds task.problem problem
   pub unopened : IsUnopened task.feeds old new number
@@ -38,19 +39,22 @@ pub record IsWithoutFeed (task : RollTask) (holds : Holdings) (old new : Counts)
 
 -- this has happened, so that the roll did not begin
 abbrev pub StopsRoll : RollTask → Holdings → Counts → Counts → RollNo → Type 0
-StopsRoll task holds old new (roll_no.TooManyFeeds count) = (count ≡ length task.feeds) × (MOST_CALLERS < count)
+StopsRoll task holds old new (roll_no.TooManyFeeds count) = (count ≡ length task.feeds)
+    × (MOST_CALLERS < count)
 StopsRoll task holds old new (roll_no.Problem why) =
     HasFewFeeds task × StopsProblem holds old new task.problem why
 StopsRoll task holds old new (roll_no.FeedFailed number) = IsWithoutFeed task holds old new number
 StopsRoll task holds old new roll_no.Memory = Unit {0}
 
--- only names of the task were read, a count rose only where that is the cause, and of one name alone; nothing is put, and every name
--- holds what it held
+-- only names of the task were read, a count rose only where that is the cause, and of one name
+-- alone; nothing is put, and every name holds what it held
 abbrev pub ReadsInputs : RollTask → Outside → Outside → RollNo → Type 0
-ReadsInputs task old new why = ReadsNames (IsInput task) old.reading new.reading old.putting new.putting old.holds new.holds (IsFault why)
+ReadsInputs task old new why = ReadsNames (IsInput task) old.reading new.reading old.putting
+    new.putting old.holds new.holds (IsFault why)
 
 -- it did not begin: the cause is told, and the journal is empty
-pub record EndsStopped (task : RollTask) (old new : Outside) (status : ℕ) (journal : List Entry) : Type 0 where
+pub record EndsStopped (task : RollTask) (old new : Outside) (status : ℕ) (journal : List Entry)
+    : Type 0 where
   pub why : RollNo
   pub stops : StopsRoll task old.holds old.reading new.reading why
   pub reads : ReadsInputs task old new why
@@ -68,10 +72,12 @@ pub record IsOutsideAsBefore (old new : Outside) : Type 0 where
 -- where the newest edition is settled or stopped its mark says true of it
 abbrev pub NewestIsPromised : RollTask → Problem → List Entry → Type 0
 NewestIsPromised task problem journal = mark_of (newest journal) journal ≢ Working
-    → Promises problem (roll_settings_of task) (edition_of journal) (mark_of (newest journal) journal)
+    → Promises problem (roll_settings_of task) (edition_of journal)
+    (mark_of (newest journal) journal)
 
 -- the feeds, at most 64, were opened, which left all as before, and ran with a problem
-pub record RunsFeeds (task : RollTask) (problem : Problem) (old new : Outside) (status : ℕ) (journal : List Entry) : Type 0 where
+pub record RunsFeeds (task : RollTask) (problem : Problem) (old new : Outside) (status : ℕ)
+    (journal : List Entry) : Type 0 where
   pub few : HasFewFeeds task
   pub feeds : List Fed
   pub fed : AreFed old.holds task.feeds feeds
@@ -81,24 +87,28 @@ pub record RunsFeeds (task : RollTask) (problem : Problem) (old new : Outside) (
   pub promise : NewestIsPromised task problem journal
 
 -- the problem was read, and the feeds ran with it
-pub record EndsRun (task : RollTask) (old new : Outside) (status : ℕ) (journal : List Entry) : Type 0 where
+pub record EndsRun (task : RollTask) (old new : Outside) (status : ℕ) (journal : List Entry)
+    : Type 0 where
   pub problem : Problem
   pub file : IsProblemFile old.holds task.problem problem
   pub runs : RunsFeeds task problem old new status journal
 
 -- how a roll ends
 abbrev pub EndsRoll : RollTask → Outside → Outside → ℕ → List Entry → Type 0
-EndsRoll task old new status journal = EndsStopped task old new status journal ⊎ EndsRun task old new status journal
+EndsRoll task old new status journal = EndsStopped task old new status journal
+    ⊎ EndsRun task old new status journal
 
 -- the words ask for a roll, and it ends so
-pub record RollsAs (words : List (List ℕ)) (old new : Outside) (status : ℕ) (journal : List Entry) : Type 0 where
+pub record RollsAs (words : List (List ℕ)) (old new : Outside) (status : ℕ) (journal : List Entry)
+    : Type 0 where
   pub task : RollTask
   pub is_task : IsTask words (Roll task)
   pub ends : EndsRoll task old new status journal
 
 -- how the program ends
 abbrev pub EndsAs : List (List ℕ) → Outside → Outside → ℕ → List Entry → Type 0
-EndsAs words old new status journal = Ends words old new status journal ⊎ RollsAs words old new status journal
+EndsAs words old new status journal = Ends words old new status journal
+    ⊎ RollsAs words old new status journal
 
 -- ---- for private clauses
 

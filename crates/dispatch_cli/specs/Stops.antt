@@ -38,9 +38,10 @@ IsFault (Problem why) = IsReadingFault why
 IsFault (FeedFailed number) = Unit {0}
 IsFault Memory = ⊥
 
--- how the writing of a line ends that is due: the status is the wanted one, and the line went out, or some of it where a write failed;
--- or it is that for want of memory
-pub record Tells (old_faults new_faults : ℕ) (old new : Option (List ℕ)) (text due : List ℕ) (wanted status : ℕ) : Type 0 where
+-- how the writing of a line ends that is due: the status is the wanted one, and the line went out,
+-- or some of it where a write failed; or it is that for want of memory
+pub record Tells (old_faults new_faults : ℕ) (old new : Option (List ℕ)) (text due : List ℕ)
+    (wanted status : ℕ) : Type 0 where
   pub counted : old_faults ≤ new_faults
   pub statuses : (status ≡ wanted) ⊎ (status ≡ 5)
   pub part : status ≢ 5 → WritesPart old new text
@@ -49,4 +50,6 @@ pub record Tells (old_faults new_faults : ℕ) (old new : Option (List ℕ)) (te
 
 -- how the writing of the line for what stopped a roll ends
 abbrev pub StopsWith : ℕ → ℕ → Option (List ℕ) → Option (List ℕ) → RollNo → ℕ → Type 0
-StopsWith old_faults new_faults old new why status = Tells old_faults new_faults old new (roll_line_of why) (roll_due_line why) (roll_status_of why) status
+StopsWith old_faults new_faults old new why status =
+    Tells old_faults new_faults old new (roll_line_of why) (roll_due_line why) (roll_status_of why)
+    status

@@ -10,15 +10,19 @@ use Rattle.dispatch_core.specs.declared.event.CoreEvent.{CoreEvent}
 use Rattle.dispatch_core.specs.declared.event.CoreEvent.TheVariants as event
 use Rattle.dispatch_core.specs.States.{Core, IsExamined}
 
--- under the fixings of its work's edition the fragment grows at the work's node, by no more branches than were allowed
+-- under the fixings of its work's edition the fragment grows at the work's node, by no more
+-- branches than were allowed
 pub record IsGrowth (core : Core) (fragment : Fragment) : Type 0 where
-  pub grows : GrowsBelow core.settings.rule fragment.work.best (node_at core.problem (fixings_after fragment.work.edition core.history) fragment.work.decisions ∷ []) fragment.subtree fragment.bounds
+  pub grows : GrowsBelow core.settings.rule fragment.work.best
+      (node_at core.problem (fixings_after fragment.work.edition core.history)
+      fragment.work.decisions ∷ []) fragment.subtree fragment.bounds
   pub few : branches fragment.subtree ≤ fragment.work.allowance
 
 -- a work comes back as examined only where it is
 abbrev pub MayGiveBack : Core → Work → Bool → Type 0
 MayGiveBack core work examined =
-    examined ≡ true → IsExamined core.settings.rule (node_at core.problem (fixings_after work.edition core.history) work.decisions) work.bound
+    examined ≡ true → IsExamined core.settings.rule
+        (node_at core.problem (fixings_after work.edition core.history) work.decisions) work.bound
 
 abbrev pub MayStep : Core → CoreEvent → Type 0
 MayStep core (event.Ask feed line change) = Unit {0}

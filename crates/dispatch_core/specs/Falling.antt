@@ -28,17 +28,20 @@ fixings_left_standing (Withdraw number) taken = []
 
 -- the flag of each change is set exactly where it is taken back
 abbrev pub AreTakenBack : List Change → List Bool → Type 0
-AreTakenBack changes taken = (length taken ≡ length changes) × ((i : ℕ) (flag : Bool) → slice_get taken i ≡ Some flag → flag ≡ is_withdrawn (i + 1) changes)
+AreTakenBack changes taken = (length taken ≡ length changes)
+    × ((i : ℕ) (flag : Bool) → slice_get taken i ≡ Some flag → flag ≡ is_withdrawn (i + 1) changes)
 
 -- of the first numbers, those of leaves that do not hold
 abbrev pub AreFailing : Problem → List Fixing → State → ℕ → List ℕ → Type 0
-AreFailing problem fixings state count numbers = (n : ℕ) (place : Place) → n < count → slice_get state.places n ≡ Some place
+AreFailing problem fixings state count numbers = (n : ℕ) (place : Place) → n < count
+    → slice_get state.places n ≡ Some place
     → (Contains numbers n ↔ DoesNotHold problem fixings state n place)
 
 -- the numbers of the leaves that do not hold behind an accepted change: none where it is a fixing
 abbrev pub AreFallen : Problem → List Fixing → State → Change → List ℕ → Type 0
 AreFallen problem fixings state (Fix fixing) numbers = numbers ≡ []
-AreFallen problem fixings state (Withdraw number) numbers = AreFailing problem fixings state (length state.places) numbers
+AreFallen problem fixings state (Withdraw number) numbers =
+    AreFailing problem fixings state (length state.places) numbers
 
 -- leaves have fallen back, one after the other
 abbrev pub fallen_all : State → List ℕ → State

@@ -11,5 +11,7 @@ use Rattle.dispatch_core.specs.States.{Core}
 
 -- the plan is valid for the newest edition and costs so much, or has this first fault
 abbrev pub IsPlanJudged : Core → List Event → Judged → Type 0
-IsPlanJudged core plan (Costs cost) = IsValid core.problem (edition_of core.history) plan × (cost ≡ cost_of core.problem.components plan)
-IsPlanJudged core plan (Fault fault) = IsFirstFault core.problem (edition_of core.history) plan None fault
+IsPlanJudged core plan (Costs cost) = IsValid core.problem (edition_of core.history) plan
+    × (cost ≡ cost_of core.problem.components plan)
+IsPlanJudged core plan (Fault fault) = IsFirstFault core.problem (edition_of core.history) plan None
+    fault

@@ -16,7 +16,8 @@ use Rattle.dispatch_core.specs.States.{Core}
 abbrev pub IsCostUnder : Problem → List Fixing → Option (List Event × ℕ) → Option ℕ → Type 0
 IsCostUnder problem fixings last cost =
     MatchOption last (cost ≡ None)
-    (λ p. (IsValid problem fixings p.0 × (cost ≡ Some p.1)) ⊎ ((IsValid problem fixings p.0 → ⊥) × (cost ≡ None)))
+    (λ p. (IsValid problem fixings p.0 × (cost ≡ Some p.1))
+        ⊎ ((IsValid problem fixings p.0 → ⊥) × (cost ≡ None)))
 
 -- the last published plan stands in the entry of this place
 pub record IsLastAt (history : List Entry) (place : ℕ) : Type 0 where
@@ -31,7 +32,8 @@ IsLastEntry history None = last_plan history ≡ None
 IsLastEntry history (Some place) = IsLastAt history place
 
 -- the changes are those of the history, and so are the best cost, the mark and what is spent
-pub record AreCountsKept (core : Core) (edition : Edition) (best : Option ℕ) (mark : Mark) (spent : ℕ) (last : Option ℕ) : Type 0 where
+pub record AreCountsKept (core : Core) (edition : Edition) (best : Option ℕ) (mark : Mark)
+    (spent : ℕ) (last : Option ℕ) : Type 0 where
   pub problem : edition.problem ≡ core.problem
   pub changes : edition.changes ≡ changes_of core.history
   pub best_is : IsBestCost core.problem core.history best

@@ -1,4 +1,5 @@
--- What is left of a fragment under the newest edition: all of it, where since its edition no change was taken back.
+-- What is left of a fragment under the newest edition: all of it, where since its edition no change
+-- was taken back.
 use Rattle.std.specs.Prelude.{ℕ, List, [], ◌∷◌, All}
 use Rattle.disp_model.specs.declared.fixing.Change.{Change}
 use Rattle.disp_model.specs.declared.fixing.Change.TheVariants.{Fix, Withdraw}
@@ -21,7 +22,8 @@ AreFixingChanges changes = All (λ change. IsWithdrawal change → ⊥) changes
 -- these nodes and bounds are what is left of the fragment's
 abbrev pub AreLeftOf : Core → Fragment → List TreeNode → List ℕ → Type 0
 AreLeftOf core fragment nodes bounds =
-    AreLeft (node_at core.problem (edition_of core.history) fragment.work.decisions ∷ []) fragment.subtree fragment.bounds nodes bounds
+    AreLeft (node_at core.problem (edition_of core.history) fragment.work.decisions ∷ [])
+        fragment.subtree fragment.bounds nodes bounds
 
 -- the fragment with other nodes and bounds
 abbrev pub with_tree : Fragment → List TreeNode → List ℕ → Fragment

@@ -11,7 +11,8 @@ trains_given d = length (members_at (codes "trains") d)
 
 -- over all trains
 abbrev pub operations_given : Data → ℕ
-operations_given d = sum_by (λ train. length (members_in (Some train))) (members_at (codes "trains") d)
+operations_given d = sum_by (λ train. length (members_in (Some train)))
+    (members_at (codes "trains") d)
 
 abbrev pub components_given : Data → ℕ
 components_given d = length (members_at (codes "objective") d)
@@ -21,4 +22,5 @@ abbrev pub too_many : Data → Option (Kind × ℕ)
 too_many d =
     if nat_lt MOST_TRAINS (trains_given d) then Some (Trains, trains_given d) else
     (if nat_lt MOST_OPERATIONS (operations_given d) then Some (Operations, operations_given d) else
-    (if nat_lt MOST_COMPONENTS (components_given d) then Some (Components, components_given d) else None))
+    (if nat_lt MOST_COMPONENTS (components_given d) then Some (Components, components_given d)
+        else None))

@@ -31,7 +31,8 @@ broken_at rule d = first_broken rule (problem_claims d)
 abbrev pub IsPlain : Data → Type 0
 IsPlain d = ArePlain (problem_claims d)
 
--- there are few enough trains, operations and components, and each index names something that is there
+-- there are few enough trains, operations and components, and each index names something that is
+-- there
 pub record IsLinked (d : Data) : Type 0 where
   pub plain : IsPlain d
   pub few : too_many d ≡ None
@@ -48,7 +49,8 @@ pub record HasComponents (d : Data) (components : List Component) : Type 0 where
   pub components_are : components_of d ≡ Some components
 
 -- no rule is broken
-pub record KeepsRules (d : Data) (trains : List (List Operation)) (components : List Component) : Type 0 where
+pub record KeepsRules (d : Data) (trains : List (List Operation)) (components : List Component)
+    : Type 0 where
   pub has_trains : HasTrains d trains
   pub graphs : HaveGraphs trains
   pub has_components : HasComponents d components
@@ -72,8 +74,10 @@ BreaksGraphs trains (TooLarge place) = ⊥
 BreaksGraphs trains (TooMany kind count) = ⊥
 BreaksGraphs trains (BadIndex place) = ⊥
 BreaksGraphs trains (NotOneEntry t count) = first_not_one entry_count 0 trains ≡ Some (t, count)
-BreaksGraphs trains (NotOneExit t count) = (first_not_one entry_count 0 trains ≡ None) × (first_not_one exit_count 0 trains ≡ Some (t, count))
-BreaksGraphs trains (Loop t o) = (first_not_one entry_count 0 trains ≡ None) × (first_not_one exit_count 0 trains ≡ None) × IsFirstLoop trains t o
+BreaksGraphs trains (NotOneExit t count) = (first_not_one entry_count 0 trains ≡ None)
+    × (first_not_one exit_count 0 trains ≡ Some (t, count))
+BreaksGraphs trains (Loop t o) = (first_not_one entry_count 0 trains ≡ None)
+    × (first_not_one exit_count 0 trains ≡ None) × IsFirstLoop trains t o
 BreaksGraphs trains (UnknownObjective c) = ⊥
 BreaksGraphs trains (TooCostly sum) = ⊥
 BreaksGraphs trains Memory = Unit {0}
@@ -106,7 +110,8 @@ abbrev pub Breaks : Data → ProblemNo → Type 0
 Breaks d NotJson = ⊥
 Breaks d (Shape place) = broken_at rule.Shape d ≡ Some place
 Breaks d (NotWhole place) = (broken_at rule.Shape d ≡ None) × (broken_at rule.Whole d ≡ Some place)
-Breaks d (TooLarge place) = (broken_at rule.Shape d ≡ None) × (broken_at rule.Whole d ≡ None) × (broken_at rule.Limit d ≡ Some place)
+Breaks d (TooLarge place) = (broken_at rule.Shape d ≡ None) × (broken_at rule.Whole d ≡ None)
+    × (broken_at rule.Limit d ≡ Some place)
 Breaks d (TooMany kind count) = IsPlain d × (too_many d ≡ Some (kind, count))
 Breaks d (BadIndex place) = IsPlain d × (too_many d ≡ None) × (broken_at rule.Index d ≡ Some place)
 Breaks d (NotOneEntry t count) = HasBrokenGraphs d (NotOneEntry t count)
@@ -133,7 +138,8 @@ IsRefused bytes Memory = Unit {0}
 
 -- a problem is read of the text, or it is refused for another cause than want of memory
 abbrev pub HasAnswer : List ℕ → Type 0
-HasAnswer bytes = ((problem : Problem) × IsReadAs bytes problem) ⊎ ((why : ProblemNo) × IsRefused bytes why × (why ≢ Memory))
+HasAnswer bytes = ((problem : Problem) × IsReadAs bytes problem)
+    ⊎ ((why : ProblemNo) × IsRefused bytes why × (why ≢ Memory))
 
 -- ---- for private clauses
 

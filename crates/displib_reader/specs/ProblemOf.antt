@@ -1,4 +1,5 @@
--- The problem of a JSON value, in the DISPLIB 2025 format. Keys that are not named here do not matter.
+-- The problem of a JSON value, in the DISPLIB 2025 format. Keys that are not named here do not
+-- matter.
 use Rattle.std.specs.Prelude.{◌≡◌, ℕ, List, [], ◌∷◌, Bool, not, Option, Some, None, option_map, filter, codes, if◌then◌else◌, nat_eq}
 use Rattle.std.specs.List.{flat_map, filter_map, position_or_len}
 use Rattle.std.specs.Str.{bytes_eq}
@@ -45,7 +46,8 @@ operation_read names d = do
   listings ← each (listing_of names) resources
   successors ← array_or_empty (codes "successors") d
   next ← each (whole_of GREATEST_NUMBER) successors
-  Some (record { lower = lower; upper = upper; min = min; listings = listings; next = once nat_eq next })
+  Some (record { lower = lower; upper = upper; min = min; listings = listings;
+      next = once nat_eq next })
 
 abbrev pub train_read_as : List (List ℕ) → Data → Option (List Operation)
 train_read_as names d = option_map values_of (as_array d) >>= each (operation_read names)
@@ -62,7 +64,8 @@ component_of d = do
   threshold ← number_or (codes "threshold") GREATEST_NUMBER 0 d
   increment ← number_or (codes "increment") GREATEST_NUMBER 0 d
   coeff ← number_or (codes "coeff") GREATEST_NUMBER 0 d
-  if is_delay kind then Some (record { train = train; operation = operation; threshold = threshold; increment = increment; coeff = coeff }) else None
+  if is_delay kind then Some (record { train = train; operation = operation; threshold = threshold;
+      increment = increment; coeff = coeff }) else None
 
 -- the trains, where the resources have these names
 abbrev pub trains_with : List (List ℕ) → Data → Option (List (List Operation))
@@ -74,8 +77,8 @@ trains_of d = trains_with (names_in d) d
 abbrev pub components_of : Data → Option (List Component)
 components_of d = array_at (codes "objective") d >>= each component_of
 
--- the problem is that of the value: it has the value's trains, components and names. (That it is well
--- formed is part of every problem: a value whose parts are not well formed has no problem.)
+-- the problem is that of the value: it has the value's trains, components and names. (That it is
+-- well formed is part of every problem: a value whose parts are not well formed has no problem.)
 pub record IsProblemOf (d : Data) (problem : Problem) : Type 0 where
   pub trains : trains_of d ≡ Some problem.trains
   pub components : components_of d ≡ Some problem.components

@@ -1,4 +1,5 @@
--- The printed text of a refusal: the variant's name, then its numbers and places, one space between.
+-- The printed text of a refusal: the variant's name, then its numbers and places, one space
+-- between.
 use Rattle.std.specs.Prelude.{ℕ, List, ◌++◌, codes}
 use Rattle.std.specs.Fmt.{decimal}
 use Rattle.displib_reader.specs.declared.place.Place.{Place}

@@ -19,20 +19,24 @@ pub record Extends (node : Node) (old new : List Arc) : Type 0 where
 
 -- the list leads from one operation to the other, over at least their arc
 abbrev pub LeadsAlong : Node → List Arc → Op → Op → ℕ → Type 0
-LeadsAlong node arcs u v arc_length = LeadsOver arcs (number_of node.problem u) (number_of node.problem v) arc_length
+LeadsAlong node arcs u v arc_length = LeadsOver arcs (number_of node.problem u)
+    (number_of node.problem v) arc_length
 
 -- a train's routes, an order of its operations, and its first number
-pub record IsOrderGiven (node : Node) (t : ℕ) (routes : Routes) (order : List ℕ) (first : ℕ) : Type 0 where
+pub record IsOrderGiven (node : Node) (t : ℕ) (routes : Routes) (order : List ℕ) (first : ℕ)
+    : Type 0 where
   pub there : t < length node.problem.trains
   pub are_routes : AreRoutesOf node t routes
   pub is_order : IsOrder (train_at node.problem t) order
   pub first_is : first ≡ number_of node.problem (op_of_train t 0)
 
--- each forced operation of the order from a place on is the last one, or the list leads from it there
+-- each forced operation of the order from a place on is the last one, or the list leads from it
+-- there
 pub record EndsAt (node : Node) (t : ℕ) (arcs : List Arc) (last : Option ℕ) (o : ℕ) : Type 0 where
   pub end : ℕ
   pub is_last : last ≡ Some end
-  pub leads : (o ≡ end) ⊎ ((sum : ℕ) × IsTrainArc node (op_of_train t o) (op_of_train t end) sum × LeadsAlong node arcs (op_of_train t o) (op_of_train t end) sum)
+  pub leads : (o ≡ end) ⊎ ((sum : ℕ) × IsTrainArc node (op_of_train t o) (op_of_train t end) sum
+      × LeadsAlong node arcs (op_of_train t o) (op_of_train t end) sum)
 
 -- a forced operation of the order from a place on
 pub record StandsFrom (node : Node) (t : ℕ) (order : List ℕ) (place o : ℕ) : Type 0 where
@@ -42,18 +46,23 @@ pub record StandsFrom (node : Node) (t : ℕ) (order : List ℕ) (place o : ℕ)
   pub forced : IsForced node (op_of_train t o)
 
 -- the list leads between the forced operations of the order from a place on
-pub record IsChained (node : Node) (t : ℕ) (order : List ℕ) (place : ℕ) (base arcs : List Arc) (last : Option ℕ) : Type 0 where
+pub record IsChained (node : Node) (t : ℕ) (order : List ℕ) (place : ℕ) (base arcs : List Arc)
+    (last : Option ℕ) : Type 0 where
   pub extends : Extends node base arcs
   pub last_stands : IfSome last (StandsFrom node t order place)
   pub to_last : (o : ℕ) → StandsFrom node t order place o → EndsAt node t arcs last o
-  pub between : (o q sum : ℕ) → StandsFrom node t order place o → StandsFrom node t order place q → IsTrainArc node (op_of_train t o) (op_of_train t q) sum → LeadsAlong node arcs (op_of_train t o) (op_of_train t q) sum
+  pub between : (o q sum : ℕ) → StandsFrom node t order place o → StandsFrom node t order place q
+      → IsTrainArc node (op_of_train t o) (op_of_train t q) sum
+      → LeadsAlong node arcs (op_of_train t o) (op_of_train t q) sum
 
 -- with the arcs of a train
 pub record AddsChain (node : Node) (t : ℕ) (old new : List Arc) : Type 0 where
   pub extends : Extends node old new
-  pub leads : (u v : Op) (sum : ℕ) → u.train ≡ t → IsForced node u → IsForced node v → IsTrainArc node u v sum → LeadsAlong node new u v sum
+  pub leads : (u v : Op) (sum : ℕ) → u.train ≡ t → IsForced node u → IsForced node v
+      → IsTrainArc node u v sum → LeadsAlong node new u v sum
 
 -- with the arcs of the first so many trains
 pub record AddsChains (node : Node) (count : ℕ) (old new : List Arc) : Type 0 where
   pub extends : Extends node old new
-  pub leads : (u v : Op) (sum : ℕ) → u.train < count → IsForced node u → IsForced node v → IsTrainArc node u v sum → LeadsAlong node new u v sum
+  pub leads : (u v : Op) (sum : ℕ) → u.train < count → IsForced node u → IsForced node v
+      → IsTrainArc node u v sum → LeadsAlong node new u v sum

@@ -45,7 +45,8 @@ pub fn walks_are_carried_over()
 pub fn longest_are_shared()
     ensures { (node : Node) (arcs : List Arc) (lowers : List ℕ) (o : Op) (total : ℕ)
         → AreArcsOf node arcs → AreLowersOf node lowers → (HasCycleAt node → ⊥) → IsForced node o
-        → (IsLongestAt node o total ↔ IsLongestLength lowers arcs (number_of node.problem o) total) }
+        → (IsLongestAt node o total
+        ↔ IsLongestLength lowers arcs (number_of node.problem o) total) }
 {}
 
 /// With an edition's fixings, where the arcs have no cycle, no walk along the list is longer than

@@ -13,10 +13,12 @@ use Rattle.event_graph.specs.Kept.{state_of, MayDecide}
 
 -- without its last decision
 abbrev pub without_last_decision : Node → Node
-without_last_decision node = node_at node.problem node.fixings (take (length node.decisions - 1) node.decisions)
+without_last_decision node = node_at node.problem node.fixings
+    (take (length node.decisions - 1) node.decisions)
 
 -- the last of these changes leads back to what was kept before its decision, and so on to the first
-pub record LeadsBack (Before : GraphState → Type 0) (problem : Problem) (fixings : List Fixing) (decisions : List Decision) (trail : List Change) (k : ℕ) (state : GraphState) : Type 0 where
+pub record LeadsBack (Before : GraphState → Type 0) (problem : Problem) (fixings : List Fixing)
+    (decisions : List Decision) (trail : List Change) (k : ℕ) (state : GraphState) : Type 0 where
   pub change : Change
   pub there : slice_get trail k ≡ Some change
   pub may : MayRestore change state
@@ -25,9 +27,12 @@ pub record LeadsBack (Before : GraphState → Type 0) (problem : Problem) (fixin
 
 abbrev pub ArePast : Problem → List Fixing → List Decision → List Change → ℕ → GraphState → Type 0
 ArePast problem fixings decisions trail zero state = Unit {0}
-ArePast problem fixings decisions trail (suc k) state = LeadsBack (λ before. ArePast problem fixings decisions trail k before) problem fixings decisions trail k state
+ArePast problem fixings decisions trail (suc k) state =
+    LeadsBack (λ before. ArePast problem fixings decisions trail k before) problem fixings decisions
+    trail k state
 
-pub record IsGraph (problem : Problem) (fixings : List Fixing) (ops closed : List Op) (decisions : List Decision) (parts : Parts) (trail : List Change) : Type 0 where
+pub record IsGraph (problem : Problem) (fixings : List Fixing) (ops closed : List Op)
+    (decisions : List Decision) (parts : Parts) (trail : List Change) : Type 0 where
   pub uppers_are : AreUppersOf problem fixings parts.paths.uppers
   pub closed_are : AreClosedOf problem fixings closed
   pub may : MayDecide (node_at problem fixings decisions) ops parts

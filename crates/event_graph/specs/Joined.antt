@@ -15,7 +15,8 @@ use Rattle.event_graph.specs.declared.faults.ExtendNo.TheVariants.{NoRoute, Cycl
 
 -- the node's fixings are those that stand in an edition
 abbrev pub IsOfEdition : Node → Type 0
-IsOfEdition node = (changes : List Change) × IsEdition node.problem changes × (node.fixings ≡ standing_of changes)
+IsOfEdition node = (changes : List Change) × IsEdition node.problem changes
+    × (node.fixings ≡ standing_of changes)
 
 -- with these arcs behind the kept ones they stand for the node
 pub record MayJoin (node : Node) (ops : List Op) (paths : Timed) (arcs : List Arc) : Type 0 where

@@ -23,7 +23,12 @@ use Rattle.event_graph.specs.Joined.{IsOfEdition, IsCycleOr}
 use Rattle.event_windows.specs.Operations.{AreOperationsOf}
 
 abbrev pub state_of : Parts → GraphState
-state_of parts = record { owns = parts.owns.items; each = parts.each.items; pairs = parts.orders.pairs; arcs = parts.paths.arcs }
+state_of parts = record {
+  owns = parts.owns.items;
+  each = parts.each.items;
+  pairs = parts.orders.pairs;
+  arcs = parts.paths.arcs;
+}
 
 -- a decision may be added to what is kept
 pub record MayDecide (node : Node) (ops : List Op) (parts : Parts) : Type 0 where
@@ -33,10 +38,12 @@ pub record MayDecide (node : Node) (ops : List Op) (parts : Parts) : Type 0 wher
   pub edition : IsOfEdition node
   pub size : parts.orders.size ≡ operation_count node.problem.trains
 
--- why the node is none to go on from: the first train without_last_of a route; else a cycle; or memory ran out
+-- why the node is none to go on from: the first train without_last_of a route; else a cycle; or
+-- memory ran out
 abbrev pub IsRefusedAt : Node → ExtendNo → Type 0
 IsRefusedAt node (NoRoute t) = IsFirstWithout node t
-IsRefusedAt node (Cycle ops) = ((t : ℕ) → t < length node.problem.trains → HasRoute node t) × IsCycle node ops
+IsRefusedAt node (Cycle ops) = ((t : ℕ) → t < length node.problem.trains → HasRoute node t)
+    × IsCycle node ops
 IsRefusedAt node Memory = Unit {0}
 
 -- what is kept stands for the node then, and the change puts back what was kept before
@@ -47,11 +54,13 @@ pub record Decides (node : Node) (change : Change) (old new : GraphState) : Type
 
 -- arcs of the node are added behind the others, or none
 abbrev pub AddsArcs : Node → List Arc → List Arc → Result ℕ ExtendNo → Type 0
-AddsArcs node old new (Ok count) = AreArcsOf node new × (HasCycle node → ⊥) × (count ≤ length new) × (without_last_of count new ≡ old)
+AddsArcs node old new (Ok count) = AreArcsOf node new × (HasCycle node → ⊥) × (count ≤ length new)
+    × (without_last_of count new ≡ old)
 AddsArcs node old new (Err why) = IsCycleOr node why
 
 -- the arcs of an order may be added
-pub record MayAddOrder (node : Node) (ops : List Op) (each : List Placed) (paths : Timed) (decision : Decision) : Type 0 where
+pub record MayAddOrder (node : Node) (ops : List Op) (each : List Placed) (paths : Timed)
+    (decision : Decision) : Type 0 where
   pub is_order : (a : Op) × (b : Op) × (decision ≡ First a b)
   pub ops_are : AreOperationsOf node.problem ops
   pub lowers_are : AreLowersOf node paths.lowers
@@ -60,7 +69,8 @@ pub record MayAddOrder (node : Node) (ops : List Op) (each : List Placed) (paths
   pub arcs_are : AreArcsOf node paths.arcs
 
 -- the arcs of a train whose routes a decision has changed may be added
-pub record MayAddTrain (node : Node) (decision : Decision) (ops : List Op) (each : List Placed) (orders : Ordered) (paths : Timed) (before : Placed) (t : ℕ) : Type 0 where
+pub record MayAddTrain (node : Node) (decision : Decision) (ops : List Op) (each : List Placed)
+    (orders : Ordered) (paths : Timed) (before : Placed) (t : ℕ) : Type 0 where
   pub about : train_of_decision decision ≡ Some t
   pub there : t < length node.problem.trains
   pub ops_are : AreOperationsOf node.problem ops

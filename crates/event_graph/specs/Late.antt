@@ -27,18 +27,23 @@ pub record IsWindowClosed (window : Window) : Type 0 where
   pub below : upper < window.lower
 
 -- until when each operation may start, in the order of their numbers, where it may start at all
-pub record AreUppersOf (problem : Problem) (fixings : List Fixing) (uppers : List (Option ℕ)) : Type 0 where
+pub record AreUppersOf (problem : Problem) (fixings : List Fixing) (uppers : List (Option ℕ))
+    : Type 0 where
   pub long : length uppers ≡ operation_count problem.trains
-  pub at : (o : Op) → HasOperation problem o → slice_get uppers (number_of problem o) ≡ Some (open_until (window_by problem fixings o))
+  pub at : (o : Op) → HasOperation problem o
+      → slice_get uppers (number_of problem o) ≡ Some (open_until (window_by problem fixings o))
 
 -- those of the first so many operations whose windows are never open
-pub record AreClosedTo (problem : Problem) (fixings : List Fixing) (count : ℕ) (closed : List Op) : Type 0 where
-  pub found : (o : Op) → HasOperation problem o → number_of problem o < count → IsWindowClosed (window_by problem fixings o) → Contains closed o
+pub record AreClosedTo (problem : Problem) (fixings : List Fixing) (count : ℕ) (closed : List Op)
+    : Type 0 where
+  pub found : (o : Op) → HasOperation problem o → number_of problem o < count
+      → IsWindowClosed (window_by problem fixings o) → Contains closed o
   pub only : All (λ o. HasOperation problem o × IsWindowClosed (window_by problem fixings o)) closed
 
 -- the operations whose windows are never open
 pub record AreClosedOf (problem : Problem) (fixings : List Fixing) (closed : List Op) : Type 0 where
-  pub found : (o : Op) → HasOperation problem o → IsWindowClosed (window_by problem fixings o) → Contains closed o
+  pub found : (o : Op) → HasOperation problem o → IsWindowClosed (window_by problem fixings o)
+      → Contains closed o
   pub only : All (λ o. HasOperation problem o × IsWindowClosed (window_by problem fixings o)) closed
 
 -- the operation is late: its longest walk is longer than its upper

@@ -29,10 +29,13 @@ abbrev pub Touches : Pair → ℕ → Type 0
 Touches pair number = (pair.from ≡ number) ⊎ (pair.to ≡ number)
 
 -- with the arcs of those of the orders that are picked
-pub record AddsTouching (Picks : Pair → Type 0) (node : Node) (pairs : List Pair) (old new : List Arc) : Type 0 where
+pub record AddsTouching (Picks : Pair → Type 0) (node : Node) (pairs : List Pair)
+    (old new : List Arc) : Type 0 where
   pub kept : (arc : Arc) → Contains old arc → Contains new arc
   pub sound : All (IsDecidedAt node) pairs → All (IsArcOf node) old → All (IsArcOf node) new
-  pub leads : (pair : Pair) → Contains pairs pair → Picks pair → IsForced node pair.first → IsForced node pair.second → Conflicts node.problem pair.first pair.second → LeadsAsOrdered node new pair.first pair.second
+  pub leads : (pair : Pair) → Contains pairs pair → Picks pair → IsForced node pair.first
+      → IsForced node pair.second → Conflicts node.problem pair.first pair.second
+      → LeadsAsOrdered node new pair.first pair.second
 
 -- a place of a number among keys: 0, or that of one of them
 pub record IsPlaceOf (keys : List ℕ) (number place : ℕ) : Type 0 where
@@ -40,8 +43,11 @@ pub record IsPlaceOf (keys : List ℕ) (number place : ℕ) : Type 0 where
   pub last : 0 < place → slice_index keys (place - 1) ≡ number
 
 -- with the arcs of those of the orders from a place on whose key is the number
-pub record AddsFrom (key : Pair → ℕ) (number : ℕ) (node : Node) (pairs : List Pair) (place : ℕ) (old new : List Arc) : Type 0 where
+pub record AddsFrom (key : Pair → ℕ) (number : ℕ) (node : Node) (pairs : List Pair) (place : ℕ)
+    (old new : List Arc) : Type 0 where
   pub kept : (arc : Arc) → Contains old arc → Contains new arc
   pub sound : All (IsDecidedAt node) pairs → All (IsArcOf node) old → All (IsArcOf node) new
-  pub leads : (i : ℕ) (pair : Pair) → place ≤ i → slice_get pairs i ≡ Some pair → key pair ≡ number → IsForced node pair.first → IsForced node pair.second → Conflicts node.problem pair.first pair.second
+  pub leads : (i : ℕ) (pair : Pair) → place ≤ i → slice_get pairs i ≡ Some pair → key pair ≡ number
+      → IsForced node pair.first → IsForced node pair.second
+      → Conflicts node.problem pair.first pair.second
       → LeadsAsOrdered node new pair.first pair.second

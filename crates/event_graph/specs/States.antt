@@ -26,26 +26,37 @@ use Rattle.event_graph.specs.Pairs.{IsDecidedAt}
 -- ---- orders
 
 abbrev pub pair_of : Problem → Op → Op → Pair
-pair_of problem a b = record { first = a; second = b; from = number_of problem a; to = number_of problem b }
+pair_of problem a b = record {
+  first = a;
+  second = b;
+  from = number_of problem a;
+  to = number_of problem b;
+}
 
 -- the orders that are decided of operations that there are
 pub record AreOrdersOf (node : Node) (pairs : List Pair) : Type 0 where
   pub decided : All (IsDecidedAt node) pairs
-  pub listed : (a b : Op) → Contains node.decisions (First a b) → HasOperation node.problem a → HasOperation node.problem b → Contains pairs (pair_of node.problem a b)
+  pub listed : (a b : Op) → Contains node.decisions (First a b) → HasOperation node.problem a
+      → HasOperation node.problem b → Contains pairs (pair_of node.problem a b)
 
 -- ---- what a decision about the routes of a train adds
 
--- an order of two operations that are forced now was so before, with what follows the first; or the new arcs lead as it asks
+-- an order of two operations that are forced now was so before, with what follows the first; or the
+-- new arcs lead as it asks
 abbrev pub IsOldOrNew : Node → Decision → List Arc → Op → Op → Type 0
 IsOldOrNew node d new a b =
-    (IsForced node a × IsForced node b × ((n : Op) → GoesTo (with_decision node d) a n → GoesTo node a n)) ⊎ LeadsAsOrdered (with_decision node d) new a b
+    (IsForced node a × IsForced node b × ((n : Op) → GoesTo (with_decision node d) a n
+    → GoesTo node a n)) ⊎ LeadsAsOrdered (with_decision node d) new a b
 
 -- the arcs of the train, and those of orders that have changed
 pub record AddsTrain (node : Node) (d : Decision) (t : ℕ) (new : List Arc) : Type 0 where
   pub about : train_of_decision d ≡ Some t
   pub sound : All (IsArcOf (with_decision node d)) new
-  pub chained : (u v : Op) (sum : ℕ) → u.train ≡ t → IsForced (with_decision node d) u → IsForced (with_decision node d) v → IsTrainArc (with_decision node d) u v sum → LeadsAlong node new u v sum
-  pub ordered : (a b : Op) → Contains node.decisions (First a b) → IsForced (with_decision node d) a → IsForced (with_decision node d) b → Conflicts node.problem a b → IsOldOrNew node d new a b
+  pub chained : (u v : Op) (sum : ℕ) → u.train ≡ t → IsForced (with_decision node d) u
+      → IsForced (with_decision node d) v → IsTrainArc (with_decision node d) u v sum
+      → LeadsAlong node new u v sum
+  pub ordered : (a b : Op) → Contains node.decisions (First a b) → IsForced (with_decision node d) a
+      → IsForced (with_decision node d) b → Conflicts node.problem a b → IsOldOrNew node d new a b
 
 -- ---- what is kept
 
@@ -72,11 +83,23 @@ without_last_of n xs = take (length xs - n) xs
 
 abbrev pub restored_state : Change → GraphState → GraphState
 restored_state Nothing state = state
-restored_state (Order arcs) state = record { owns = state.owns; each = state.each; pairs = without_last_of 1 state.pairs; arcs = without_last_of arcs state.arcs }
-restored_state (Train t own placed arcs) state = record { owns = slice_set state.owns t own; each = slice_set state.each t placed; pairs = state.pairs; arcs = without_last_of arcs state.arcs }
+restored_state (Order arcs) state = record {
+  owns = state.owns;
+  each = state.each;
+  pairs = without_last_of 1 state.pairs;
+  arcs = without_last_of arcs state.arcs;
+}
+restored_state (Train t own placed arcs) state =
+    record {
+      owns = slice_set state.owns t own;
+      each = slice_set state.each t placed;
+      pairs = state.pairs;
+      arcs = without_last_of arcs state.arcs;
+    }
 
 -- what the change names is there
 abbrev pub MayRestore : Change → GraphState → Type 0
 MayRestore Nothing state = Unit {0}
 MayRestore (Order arcs) state = (0 < length state.pairs) × (arcs ≤ length state.arcs)
-MayRestore (Train t own placed arcs) state = (t < length state.owns) × (t < length state.each) × (arcs ≤ length state.arcs)
+MayRestore (Train t own placed arcs) state = (t < length state.owns) × (t < length state.each)
+    × (arcs ≤ length state.arcs)

@@ -129,8 +129,8 @@ impl<'p> Graph<'p> {
         &self.parts.each[train as usize].routes
     }
 
-    /// An operation that is late: its longest walk is longer than the time until which it may start.
-    /// `None` where there is none; then the node is not dead. It takes no memory.
+    /// An operation that is late: its longest walk is longer than the time until which it may
+    /// start. `None` where there is none; then the node is not dead. It takes no memory.
     pub fn late(&self) -> Option<Op>
         ensures { MatchOption result (¬ IsDead self.now) (IsLateAt self.now) }
     {
@@ -140,8 +140,8 @@ impl<'p> Graph<'p> {
         }
     }
 
-    /// Adds a decision. Fails where a train would have no allowed route, or else the arcs would have
-    /// a cycle, and for want of memory; then nothing has changed.
+    /// Adds a decision. Fails where a train would have no allowed route, or else the arcs would
+    /// have a cycle, and for want of memory; then nothing has changed.
     pub fn extend(&mut self, decision: Decision) -> Result<(), ExtendNo>
         ensures ok { OnOk result (self.new ≡ with_decision self.old decision) }
         ensures err { OnErr result (self.new ≡ self.old) }

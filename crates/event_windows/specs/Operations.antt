@@ -17,7 +17,8 @@ operations_before problem t = sum_by (λ train. length train) (take t problem.tr
 
 -- each operation of a number below their count stands at its number
 abbrev pub ListsFirst : Problem → List Op → Type 0
-ListsFirst problem ops = (o : Op) → HasOperation problem o → number_of problem o < length ops → slice_get ops (number_of problem o) ≡ Some o
+ListsFirst problem ops = (o : Op) → HasOperation problem o → number_of problem o < length ops
+    → slice_get ops (number_of problem o) ≡ Some o
 
 -- that is the operation's number
 pub record IsAtNumber (problem : Problem) (o : Op) (n : ℕ) : Type 0 where
@@ -33,4 +34,5 @@ pub record AreOperationsOf (problem : Problem) (ops : List Op) : Type 0 where
 -- the number of each train's first operation
 pub record AreFirstNumbers (problem : Problem) (firsts : List ℕ) : Type 0 where
   pub long : length firsts ≡ length problem.trains
-  pub first : (t : ℕ) → t < length problem.trains → slice_get firsts t ≡ Some (operations_before problem t)
+  pub first : (t : ℕ) → t < length problem.trains
+      → slice_get firsts t ≡ Some (operations_before problem t)

@@ -26,22 +26,28 @@ operation_fixed (NotBefore t p time) = p
 abbrev pub times_with : Fixing → FixedTimes → FixedTimes
 times_with (Started t p time) times = record { start = Some time; not_before = times.not_before }
 times_with (Chosen t p next) times = times
-times_with (NotBefore t p time) times = record { start = times.start; not_before = max time times.not_before }
+times_with (NotBefore t p time) times = record { start = times.start;
+    not_before = max time times.not_before }
 
 -- what fixings say of an operation
 abbrev pub fixed_times : List Fixing → Op → FixedTimes
 fixed_times fixings o = record { start = fixed_start fixings o; not_before = not_before fixings o }
 
 -- what fixings say of each operation stands at its number
-pub record AreTimesOf (problem : Problem) (fixings : List Fixing) (times : List FixedTimes) : Type 0 where
+pub record AreTimesOf (problem : Problem) (fixings : List Fixing) (times : List FixedTimes)
+    : Type 0 where
   pub long : length times ≡ operation_count problem.trains
-  pub said : (o : Op) → HasOperation problem o → slice_get times (number_of problem o) ≡ Some (fixed_times fixings o)
+  pub said : (o : Op) → HasOperation problem o
+      → slice_get times (number_of problem o) ≡ Some (fixed_times fixings o)
 
 -- when an operation may start
 abbrev pub window_by : Problem → List Fixing → Op → Window
-window_by problem fixings o = record { lower = lower_of problem fixings o; upper = upper_of problem fixings o }
+window_by problem fixings o = record { lower = lower_of problem fixings o;
+    upper = upper_of problem fixings o }
 
 -- when each operation may start stands at its number
-pub record AreWindowsOf (problem : Problem) (fixings : List Fixing) (windows : List Window) : Type 0 where
+pub record AreWindowsOf (problem : Problem) (fixings : List Fixing) (windows : List Window)
+    : Type 0 where
   pub long : length windows ≡ operation_count problem.trains
-  pub said : (o : Op) → HasOperation problem o → slice_get windows (number_of problem o) ≡ Some (window_by problem fixings o)
+  pub said : (o : Op) → HasOperation problem o
+      → slice_get windows (number_of problem o) ≡ Some (window_by problem fixings o)

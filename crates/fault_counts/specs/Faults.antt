@@ -15,4 +15,5 @@ fault_count faults name = option_map_or whole_count (get_by_text faults.counts n
 
 -- the name has a place for a count that can rise in a call
 abbrev pub HasRoom : FaultCounts → List ℕ → Type 0
-HasRoom faults name = IsSomeAnd (get_by_text faults.counts name) (λ count. count.counted < 2 ^ 64 - 1)
+HasRoom faults name = IsSomeAnd (get_by_text faults.counts name)
+    (λ count. count.counted < 2 ^ 64 - 1)

@@ -15,7 +15,8 @@ IsAtLine feed number f n = (f ≡ feed) × (n ≡ number)
 
 -- the entry answers what the line of this feed and number asks
 abbrev pub AnswersText : ℕ → ℕ → List ℕ → Entry → Type 0
-AnswersText feed number text (Asked f n change told) = IsAtLine feed number f n × IsAsked text change
+AnswersText feed number text (Asked f n change told) = IsAtLine feed number f n
+    × IsAsked text change
 AnswersText feed number text (Shown f n standing) = IsAtLine feed number f n × (text ≡ show_text)
 AnswersText feed number text (Unread f n Unreadable) = IsAtLine feed number f n × IsUnreadable text
 AnswersText feed number text (Unread f n Long) = ⊥
@@ -27,8 +28,10 @@ AnswersText feed number text (Stopped edition spent bound) = ⊥
 
 -- the entry answers a line: one of more than 256 bytes is not read, else its text counts
 abbrev pub AnswersLine : ℕ → ℕ → List ℕ → Entry → Type 0
-AnswersLine feed number line (Unread f n Long) = IsAtLine feed number f n × (256 < length (without_end line))
-AnswersLine feed number line entry = (length (without_end line) ≤ 256) × AnswersText feed number (text_of line) entry
+AnswersLine feed number line (Unread f n Long) = IsAtLine feed number f n
+    × (256 < length (without_end line))
+AnswersLine feed number line entry = (length (without_end line) ≤ 256)
+    × AnswersText feed number (text_of line) entry
 
 -- the entries answer the first so many lines, which have these numbers from the first on
 abbrev pub AnswerLines : ℕ → ℕ → List (List ℕ) → List Entry → Type 0
@@ -41,11 +44,12 @@ AnswerLines feed number (line ∷ lines) (entry ∷ entries) =
 abbrev pub one_too_many : ℕ → Entry
 one_too_many feed = Unread feed (MOST_LINES + 1) TooMany
 
--- the entries answer the lines, where these are told, as the reading ended: all of them, no more than are read; all that are read,
--- and then that there are more; or some from the first on
+-- the entries answer the lines, where these are told, as the reading ended: all of them, no more
+-- than are read; all that are read, and then that there are more; or some from the first on
 abbrev pub AnswersAs : ℕ → List (List ℕ) → List Entry → Reading → Type 0
 AnswersAs feed lines entries reading.Ended =
-    AnswerLines feed 1 lines entries × (length entries ≡ length lines) × (length entries ≤ MOST_LINES)
+    AnswerLines feed 1 lines entries × (length entries ≡ length lines)
+        × (length entries ≤ MOST_LINES)
 AnswersAs feed lines entries reading.TooMany =
     (read : List Entry) × (entries ≡ read ++ one_too_many feed ∷ []) × AnswerLines feed 1 lines read
     × (length read ≡ MOST_LINES) × (MOST_LINES < length lines)
@@ -58,17 +62,22 @@ AnswersAs feed lines entries reading.Memory = AnswerLines feed 1 lines entries
 abbrev pub AnsweredSome : ℕ → Option (List (List ℕ)) → Option (List (List ℕ)) → List Entry → Type 0
 AnsweredSome feed None left entries = left ≡ None
 AnsweredSome feed (Some lines) left entries =
-    AnswerLines feed 1 lines entries × (length entries ≤ length lines) × (left ≡ Some (drop (length entries) lines))
+    AnswerLines feed 1 lines entries × (length entries ≤ length lines)
+        × (left ≡ Some (drop (length entries) lines))
 
 -- the next line is answered by one entry more
-abbrev pub AnswersNext : ℕ → ℕ → Option (List (List ℕ)) → Option (List (List ℕ)) → List Entry → List Entry → Type 0
-AnswersNext feed number None left before after = (left ≡ None) × ((entry : Entry) × (after ≡ before ++ entry ∷ []))
+abbrev pub AnswersNext : ℕ → ℕ → Option (List (List ℕ)) → Option (List (List ℕ)) → List Entry
+    → List Entry → Type 0
+AnswersNext feed number None left before after = (left ≡ None)
+    × ((entry : Entry) × (after ≡ before ++ entry ∷ []))
 AnswersNext feed number (Some []) left before after = ⊥
 AnswersNext feed number (Some (line ∷ rest)) left before after =
-    (left ≡ Some rest) × ((entry : Entry) × AnswersLine feed number line entry × (after ≡ before ++ entry ∷ []))
+    (left ≡ Some rest) × ((entry : Entry) × AnswersLine feed number line entry
+        × (after ≡ before ++ entry ∷ []))
 
 -- as many entries as lines of the pass have come, and they answer these
-pub record IsReadTo (feed count lines : ℕ) (told left : Option (List (List ℕ))) (entries : List Entry) : Type 0 where
+pub record IsReadTo (feed count lines : ℕ) (told left : Option (List (List ℕ)))
+    (entries : List Entry) : Type 0 where
   pub counted : lines ≡ count
   pub as_many : length entries ≡ count
   pub answered : AnsweredSome feed told left entries

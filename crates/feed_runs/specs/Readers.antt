@@ -36,13 +36,15 @@ pub record MayRead (v : Known Entry Terms) (count : ℕ) : Type 0 where
 
 module _ {F : Type 0} where
   -- the pass of the feed of this number begins with what the first pass has seen
-  pub record IsReader (board : Board) (v : Known Entry Terms) (number : ℕ) (reader : Reader F) : Type 0 where
+  pub record IsReader (board : Board) (v : Known Entry Terms) (number : ℕ) (reader : Reader F)
+      : Type 0 where
     pub board_is : own_board reader.pass ≡ board_of board
     pub knows : known reader.pass ≡ given_known v number
     pub none : lines reader.pass ≡ 0
 
   abbrev pub AreReaders : Board → Known Entry Terms → List (Reader F) → Type 0
-  AreReaders board v readers = (number : ℕ) (one : Reader F) → slice_get readers number ≡ Some one → IsReader board v number one
+  AreReaders board v readers = (number : ℕ) (one : Reader F) → slice_get readers number ≡ Some one
+      → IsReader board v number one
 
   -- the feed may be read, and has no entry yet
   pub record IsReady (has_ended : F → Bool) (board : Board) (reader : Reader F) : Type 0 where
@@ -55,23 +57,31 @@ module _ {F : Type 0} where
   abbrev pub AreReady : (F → Bool) → Board → List (Reader F) → Type 0
   AreReady has_ended board readers = All (IsReady has_ended board) readers
 
-  -- the feed was read: the entries of its caller answer its lines, where these are told, as the reading ended; it failed exactly
-  -- where its count of faults rose
-  pub record HasRead (told : F → Option (List (List ℕ))) (faults : F → ℕ) (name : F → List ℕ) (before after : Reader F) : Type 0 where
+  -- the feed was read: the entries of its caller answer its lines, where these are told, as the
+  -- reading ended; it failed exactly where its count of faults rose
+  pub record HasRead (told : F → Option (List (List ℕ))) (faults : F → ℕ) (name : F → List ℕ)
+      (before after : Reader F) : Type 0 where
     pub goes : PassGoesOn before.pass after.pass
     pub owns : OwnsPlaces caller_of (known after.pass)
-    pub answered : IfSome (told before.feed) (λ all. AnswersAs (known before.pass).caller all (entries_by (known before.pass).caller (known after.pass).seen) after.reading)
+    pub answered : IfSome (told before.feed)
+        (λ all. AnswersAs (known before.pass).caller all
+        (entries_by (known before.pass).caller (known after.pass).seen) after.reading)
     pub failed : (after.reading ≡ Failed) ↔ (faults before.feed < faults after.feed)
     pub counted : faults before.feed ≤ faults after.feed
     pub name_is : name after.feed ≡ name before.feed
 
   -- so it is with each of these
-  pub record HaveRead (told : F → Option (List (List ℕ))) (faults : F → ℕ) (name : F → List ℕ) (before after : List (Reader F)) : Type 0 where
+  pub record HaveRead (told : F → Option (List (List ℕ))) (faults : F → ℕ) (name : F → List ℕ)
+      (before after : List (Reader F)) : Type 0 where
     pub as_many : length after ≡ length before
-    pub each : (place : ℕ) (d : Reader F) → place < length before → HasRead told faults name (get_or before place d) (get_or after place d)
+    pub each : (place : ℕ) (d : Reader F) → place < length before
+        → HasRead told faults name (get_or before place d) (get_or after place d)
 
-  -- feeds were closed: no count falls; one rises only where a feed of that name has failed, and where one has, its does
-  pub record CountsFeeds (name : F → List ℕ) (faults : F → ℕ) (feeds : List F) (old new : List ℕ → ℕ) : Type 0 where
+  -- feeds were closed: no count falls; one rises only where a feed of that name has failed, and
+  -- where one has, its does
+  pub record CountsFeeds (name : F → List ℕ) (faults : F → ℕ) (feeds : List F)
+      (old new : List ℕ → ℕ) : Type 0 where
     pub counted : (one : List ℕ) → old one ≤ new one
-    pub risen : (one : List ℕ) → old one < new one → (feed : F) × Contains feeds feed × (name feed ≡ one) × (0 < faults feed)
+    pub risen : (one : List ℕ) → old one < new one → (feed : F) × Contains feeds feed
+        × (name feed ≡ one) × (0 < faults feed)
     pub failed : All (λ feed. 0 < faults feed → old (name feed) < new (name feed)) feeds

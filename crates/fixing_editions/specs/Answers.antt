@@ -15,14 +15,16 @@ use Rattle.disp_model.specs.Replies.{Row, known_as, IsRouted}
 -- the reply to a start that fixes no operation that is fixed to start
 abbrev pub RepliesFromEarliest : Problem → List Change → ℕ → ℕ → ℕ → ℕ → Reply → Type 0
 RepliesFromEarliest problem changes t o time earliest reply =
-    Row (time < earliest) (Refused (EarliestIs earliest)) reply (IsRouted problem changes t (Started t o time) reply)
+    Row (time < earliest) (Refused (EarliestIs earliest)) reply
+        (IsRouted problem changes t (Started t o time) reply)
 
 -- the reply to a start at a time at which the operation may start
 abbrev pub RepliesInTime : Problem → List Change → ℕ → ℕ → ℕ → Reply → Type 0
 RepliesInTime problem changes t o time reply =
     MatchOption (known_as (Started t o time) (numbered_standing changes))
     (MatchOption (fixed_start (standing_of changes) (record { train = t; op = o }))
-    (RepliesFromEarliest problem changes t o time (not_before (standing_of changes) (record { train = t; op = o })) reply)
+    (RepliesFromEarliest problem changes t o time
+        (not_before (standing_of changes) (record { train = t; op = o })) reply)
     (λ kept. reply ≡ Refused (StartedAt kept)))
     (λ k. reply ≡ Known k)
 
@@ -43,4 +45,5 @@ pub record IsFound (trains : List (List Operation)) (t o : ℕ) (operation : Ope
 
 -- why there is no operation of this name
 abbrev pub IsNotFound : List (List Operation) → ℕ → ℕ → Refusal → Type 0
-IsNotFound trains t o why = MatchOption (slice_get trains t) (why ≡ NoTrain) (λ train. (slice_get train o ≡ None) × (why ≡ NoOperation))
+IsNotFound trains t o why = MatchOption (slice_get trains t) (why ≡ NoTrain)
+    (λ train. (slice_get train o ≡ None) × (why ≡ NoOperation))

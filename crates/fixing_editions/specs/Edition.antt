@@ -31,12 +31,14 @@ changes_after changes change (Refused why) = changes
 -- each train's list has its own fixings that stand
 abbrev pub AreOwn : List Change → List (List Numbered) → Type 0
 AreOwn changes by_train =
-    (t : ℕ) → t < length by_train → slice_index_or by_train t [] ≡ own_of t (numbered_standing changes)
+    (t : ℕ) → t < length by_train → slice_index_or by_train t [] ≡ own_of t
+        (numbered_standing changes)
 
 -- at each place stands by which change the one of this place was taken back, if it was
 pub record AreWithdrawn (changes : List Change) (withdrawn : List (Option ℕ)) : Type 0 where
   pub long : length withdrawn ≡ length changes
-  pub each : (i : ℕ) (by : Option ℕ) → slice_get withdrawn i ≡ Some by → withdrawn_from (i + 1) 1 changes ≡ by
+  pub each : (i : ℕ) (by : Option ℕ) → slice_get withdrawn i ≡ Some by
+      → withdrawn_from (i + 1) 1 changes ≡ by
 
 -- the fixing that a change leaves standing, if it is taken back by this one or by none
 abbrev pub left_standing : Change → Option ℕ → Option Fixing
@@ -66,16 +68,20 @@ pub record EntersFixing (number : ℕ) (fixing : Fixing) (old new : Kept) : Type
   pub withdrawn : new.withdrawn.items ≡ old.withdrawn.items ++ None ∷ []
   pub by_train :
       new.by_train.items
-      ≡ slice_set old.by_train.items (train_of fixing) (slice_index_or old.by_train.items (train_of fixing) [] ++ record { number = number; fixing = fixing } ∷ [])
+      ≡ slice_set old.by_train.items (train_of fixing)
+          (slice_index_or old.by_train.items (train_of fixing) []
+          ++ record { number = number; fixing = fixing } ∷ [])
   pub standing : new.standing.items ≡ old.standing.items ++ fixing ∷ []
   pub stale : new.stale ≡ old.stale
 
 -- the fixing of a number is taken back by the change of another number
 pub record TakesBack (number taken : ℕ) (fixing : Fixing) (old new : Kept) : Type 0 where
-  pub withdrawn : new.withdrawn.items ≡ slice_set (old.withdrawn.items ++ None ∷ []) (taken - 1) (Some number)
+  pub withdrawn : new.withdrawn.items ≡ slice_set (old.withdrawn.items ++ None ∷ []) (taken - 1)
+      (Some number)
   pub by_train :
       new.by_train.items
-      ≡ slice_set old.by_train.items (train_of fixing) (without taken (slice_index_or old.by_train.items (train_of fixing) []))
+      ≡ slice_set old.by_train.items (train_of fixing)
+          (without taken (slice_index_or old.by_train.items (train_of fixing) []))
   pub standing : new.standing.items ≡ old.standing.items
   pub stale : new.stale ≡ true
 

@@ -16,12 +16,14 @@ train_of (NotBefore t o time) = t
 abbrev pub own_of : ℕ → List (ℕ × Fixing) → List Numbered
 own_of t [] = []
 own_of t (p ∷ standing) =
-    if train_of p.1 == t then record { number = p.0; fixing = p.1 } ∷ own_of t standing else own_of t standing
+    if train_of p.1 == t then record { number = p.0; fixing = p.1 } ∷ own_of t standing
+        else own_of t standing
 
 -- the number of a fixing among them
 abbrev pub number_in : List Numbered → Fixing → Option ℕ
 number_in [] fixing = None
-number_in (n ∷ kept) fixing = if is_same n.fixing fixing then Some n.number else number_in kept fixing
+number_in (n ∷ kept) fixing = if is_same n.fixing fixing then Some n.number
+    else number_in kept fixing
 
 -- the fixings, and one more
 abbrev pub fixings_with : List Numbered → Fixing → List Fixing

@@ -21,7 +21,8 @@ IsTaken (Known number) = Unit {0}
 IsTaken (Refused why) = ⊥
 
 -- a change is taken: the changes after it
-pub record TakesChange (problem : Problem) (old : List Change) (change : Change) (new : List Change) : Type 0 where
+pub record TakesChange (problem : Problem) (old : List Change) (change : Change) (new : List Change)
+    : Type 0 where
   pub reply : Reply
   pub reply_is : IsReply problem old change reply
   pub taken : IsTaken reply
@@ -29,16 +30,19 @@ pub record TakesChange (problem : Problem) (old : List Change) (change : Change)
 
 -- a text asks for a change that is taken
 abbrev pub TakesText : Problem → List Change → List ℕ → List Change → Type 0
-TakesText problem old text new = (change : Change) × IsAsked text change × TakesChange problem old change new
+TakesText problem old text new = (change : Change) × IsAsked text change
+    × TakesChange problem old change new
 
 -- a line is short enough, and asks for a change that is taken
 abbrev pub TakesLine : Problem → List Change → List ℕ → List Change → Type 0
-TakesLine problem old line new = (length (without_end line) ≤ 256) × TakesText problem old (text_of line) new
+TakesLine problem old line new = (length (without_end line) ≤ 256)
+    × TakesText problem old (text_of line) new
 
 -- so do all lines, one after the other
 abbrev pub TakesAll : Problem → List Change → List (List ℕ) → List Change → Type 0
 TakesAll problem old [] new = new ≡ old
-TakesAll problem old (line ∷ lines) new = (mid : List Change) × TakesLine problem old line mid × TakesAll problem mid lines new
+TakesAll problem old (line ∷ lines) new = (mid : List Change) × TakesLine problem old line mid
+    × TakesAll problem mid lines new
 
 -- each of the changes is taken, one after the other
 abbrev pub TakesInTurn : Problem → List Change → List Change → List Change → Type 0
@@ -62,28 +66,36 @@ abbrev pub StopsText : Problem → List Change → List ℕ → LineNo → Type 
 StopsText problem changes text why.Unreadable = (change : Change) → IsAsked text change → ⊥
 StopsText problem changes text why.Long = ⊥
 StopsText problem changes text why.TooMany = ⊥
-StopsText problem changes text (why.Refused refusal) = (change : Change) × IsAsked text change × IsReply problem changes change (Refused refusal)
+StopsText problem changes text (why.Refused refusal) = (change : Change) × IsAsked text change
+    × IsReply problem changes change (Refused refusal)
 
 -- why a line is not taken behind these changes
 abbrev pub StopsLine : Problem → List Change → List ℕ → LineNo → Type 0
-StopsLine problem changes line why.Unreadable = (length (without_end line) ≤ 256) × StopsText problem changes (text_of line) why.Unreadable
+StopsLine problem changes line why.Unreadable = (length (without_end line) ≤ 256)
+    × StopsText problem changes (text_of line) why.Unreadable
 StopsLine problem changes line why.Long = 256 < length (without_end line)
 StopsLine problem changes line why.TooMany = ⊥
-StopsLine problem changes line (why.Refused refusal) = (length (without_end line) ≤ 256) × StopsText problem changes (text_of line) (why.Refused refusal)
+StopsLine problem changes line (why.Refused refusal) = (length (without_end line) ≤ 256)
+    × StopsText problem changes (text_of line) (why.Refused refusal)
 
 -- there is a line at the place, among as many as are read, and it is such
 abbrev pub IfSomeLine : List (List ℕ) → ℕ → (List ℕ → Type 0) → Type 0
-IfSomeLine lines place Such = (line : List ℕ) × (place < MOST_LINES) × (slice_get lines place ≡ Some line) × Such line
+IfSomeLine lines place Such = (line : List ℕ) × (place < MOST_LINES)
+    × (slice_get lines place ≡ Some line) × Such line
 
 -- the line at a place is not taken behind these changes; of one too many only its place tells
 abbrev pub StopsBy : Problem → List Change → List (List ℕ) → ℕ → LineNo → Type 0
 StopsBy problem changes lines place why.TooMany = (place ≡ MOST_LINES) × (MOST_LINES < length lines)
-StopsBy problem changes lines place why.Unreadable = IfSomeLine lines place (λ line. StopsLine problem changes line why.Unreadable)
-StopsBy problem changes lines place why.Long = IfSomeLine lines place (λ line. StopsLine problem changes line why.Long)
-StopsBy problem changes lines place (why.Refused refusal) = IfSomeLine lines place (λ line. StopsLine problem changes line (why.Refused refusal))
+StopsBy problem changes lines place why.Unreadable =
+    IfSomeLine lines place (λ line. StopsLine problem changes line why.Unreadable)
+StopsBy problem changes lines place why.Long =
+    IfSomeLine lines place (λ line. StopsLine problem changes line why.Long)
+StopsBy problem changes lines place (why.Refused refusal) =
+    IfSomeLine lines place (λ line. StopsLine problem changes line (why.Refused refusal))
 
 -- the first line that is not taken has this number, counted from 1
-pub record StopsAt (problem : Problem) (lines : List (List ℕ)) (number : ℕ) (reason : LineNo) : Type 0 where
+pub record StopsAt (problem : Problem) (lines : List (List ℕ)) (number : ℕ) (reason : LineNo)
+    : Type 0 where
   pub place : ℕ
   pub counted : number ≡ place + 1
   pub changes : List Change
@@ -92,19 +104,23 @@ pub record StopsAt (problem : Problem) (lines : List (List ℕ)) (number : ℕ) 
 
 -- why a file of fixings is not taken, where its lines are told
 abbrev pub RefusesFile : Problem → Option (List (List ℕ)) → FileNo → Type 0
-RefusesFile problem told (Line number reason) = IfSome told (λ lines. StopsAt problem lines number reason)
+RefusesFile problem told (Line number reason) =
+    IfSome told (λ lines. StopsAt problem lines number reason)
 RefusesFile problem told Failed = Unit {0}
 RefusesFile problem told Memory = Unit {0}
 
--- a feed of these lines was read up to the line of this number and no further, and the changes are those of the lines before it
-pub record LeavesAt (problem : Problem) (lines : List (List ℕ)) (left : Option (List (List ℕ))) (changes : List Change) (number : ℕ) : Type 0 where
+-- a feed of these lines was read up to the line of this number and no further, and the changes are
+-- those of the lines before it
+pub record LeavesAt (problem : Problem) (lines : List (List ℕ)) (left : Option (List (List ℕ)))
+    (changes : List Change) (number : ℕ) : Type 0 where
   pub place : ℕ
   pub counted : number ≡ place + 1
   pub before : TakesAll problem [] (take place lines) changes
   pub behind : left ≡ Some (drop number lines)
 
 -- the changes are those of so many first lines
-pub record LeavesFront (problem : Problem) (lines : List (List ℕ)) (changes : List Change) : Type 0 where
+pub record LeavesFront (problem : Problem) (lines : List (List ℕ)) (changes : List Change)
+    : Type 0 where
   pub count : ℕ
   pub front : TakesAll problem [] (take count lines) changes
 
@@ -118,30 +134,38 @@ Leaves problem lines left changes Memory = LeavesFront problem lines changes
 
 -- why the change of the line of this number is not taken
 abbrev pub RefusesChange : Problem → List Change → Change → ℕ → FileNo → Type 0
-RefusesChange problem changes change number (Line n (why.Refused refusal)) = (n ≡ number) × IsReply problem changes change (Refused refusal)
+RefusesChange problem changes change number (Line n (why.Refused refusal)) = (n ≡ number)
+    × IsReply problem changes change (Refused refusal)
 RefusesChange problem changes change number (Line n _) = ⊥
 RefusesChange problem changes change number Failed = ⊥
 RefusesChange problem changes change number Memory = Unit {0}
 
 -- why the text of the line of this number is not taken
 abbrev pub RefusesText : Problem → List Change → List ℕ → ℕ → FileNo → Type 0
-RefusesText problem changes text number (Line n reason) = (n ≡ number) × StopsText problem changes text reason
+RefusesText problem changes text number (Line n reason) = (n ≡ number)
+    × StopsText problem changes text reason
 RefusesText problem changes text number Failed = ⊥
 RefusesText problem changes text number Memory = Unit {0}
 
 -- the first of the lines is taken, and the others are left
-abbrev pub TakesFirst : Problem → List Change → List (List ℕ) → Option (List (List ℕ)) → List Change → Type 0
+abbrev pub TakesFirst : Problem → List Change → List (List ℕ) → Option (List (List ℕ)) → List Change
+    → Type 0
 TakesFirst problem old [] left new = ⊥
-TakesFirst problem old (line ∷ lines) left new = TakesLine problem old line new × (left ≡ Some lines)
+TakesFirst problem old (line ∷ lines) left new = TakesLine problem old line new
+    × (left ≡ Some lines)
 
 -- the first of the lines is not taken, and the others are left
-abbrev pub StopsFirst : Problem → List Change → List (List ℕ) → Option (List (List ℕ)) → LineNo → Type 0
+abbrev pub StopsFirst : Problem → List Change → List (List ℕ) → Option (List (List ℕ)) → LineNo
+    → Type 0
 StopsFirst problem changes [] left reason = ⊥
-StopsFirst problem changes (line ∷ lines) left reason = StopsLine problem changes line reason × (left ≡ Some lines)
+StopsFirst problem changes (line ∷ lines) left reason = StopsLine problem changes line reason
+    × (left ≡ Some lines)
 
 -- why the next line, of this number, is not taken
-abbrev pub RefusesNext : Problem → List Change → Option (List (List ℕ)) → Option (List (List ℕ)) → ℕ → FileNo → Type 0
-RefusesNext problem changes told left number (Line n reason) = (n ≡ number) × IfSome told (λ lines. StopsFirst problem changes lines left reason)
+abbrev pub RefusesNext : Problem → List Change → Option (List (List ℕ)) → Option (List (List ℕ)) → ℕ
+    → FileNo → Type 0
+RefusesNext problem changes told left number (Line n reason) = (n ≡ number)
+    × IfSome told (λ lines. StopsFirst problem changes lines left reason)
 RefusesNext problem changes told left number Failed = Unit {0}
 RefusesNext problem changes told left number Memory = Unit {0}
 
@@ -152,7 +176,8 @@ HasFirst (line ∷ lines) left = left ≡ Some lines
 
 -- why the end is not there
 abbrev pub RefusesEnd : Option (List (List ℕ)) → Option (List (List ℕ)) → FileNo → Type 0
-RefusesEnd told left (Line n reason) = (n ≡ MOST_LINES + 1) × (reason ≡ why.TooMany) × IfSome told (λ lines. HasFirst lines left)
+RefusesEnd told left (Line n reason) = (n ≡ MOST_LINES + 1) × (reason ≡ why.TooMany)
+    × IfSome told (λ lines. HasFirst lines left)
 RefusesEnd told left Failed = Unit {0}
 RefusesEnd told left Memory = ⊥
 
@@ -183,5 +208,8 @@ HasNoted problem told count asked changes =
     TakesInTurn problem [] asked changes × IfSome told (λ lines. AskInTurn (take count lines) asked)
 
 -- how far reading has come: so many lines are taken, and the others are left
-abbrev pub HasRead : Problem → Option (List (List ℕ)) → Option (List (List ℕ)) → ℕ → List Change → Type 0
-HasRead problem told now count changes = IfSome told (λ lines. (now ≡ Some (drop count lines)) × TakesAll problem [] (take count lines) changes)
+abbrev pub HasRead : Problem → Option (List (List ℕ)) → Option (List (List ℕ)) → ℕ → List Change
+    → Type 0
+HasRead problem told now count changes =
+    IfSome told (λ lines. (now ≡ Some (drop count lines))
+    × TakesAll problem [] (take count lines) changes)

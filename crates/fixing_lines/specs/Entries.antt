@@ -61,7 +61,8 @@ best_text (Some c) = decimal c
 
 -- where the search stands
 abbrev pub standing_text : Standing → List ℕ
-standing_text s = codes "edition " ++ decimal s.edition ++ codes " " ++ mark_text s.mark ++ codes " best " ++ best_text s.best
+standing_text s = codes "edition " ++ decimal s.edition ++ codes " " ++ mark_text s.mark
+    ++ codes " best " ++ best_text s.best
 
 abbrev pub verdict_text : Verdict → List ℕ
 verdict_text (verdict.Optimal c) = codes "optimal " ++ decimal c
@@ -73,22 +74,27 @@ line_text feed line = codes "feed " ++ decimal feed ++ codes " line " ++ decimal
 
 -- the line of each kind of entry, with its end
 abbrev pub asked_line : ℕ → ℕ → Change → Reply → List ℕ
-asked_line feed line change reply = line_text feed line ++ change_text change ++ codes " " ++ reply_text reply ++ codes "\n"
+asked_line feed line change reply = line_text feed line ++ change_text change ++ codes " "
+    ++ reply_text reply ++ codes "\n"
 
 abbrev pub unread_line : ℕ → ℕ → Unasked → List ℕ
 unread_line feed line why = line_text feed line ++ unasked_text why ++ codes "\n"
 
 abbrev pub shown_line : ℕ → ℕ → Standing → List ℕ
-shown_line feed line standing = line_text feed line ++ codes "show " ++ standing_text standing ++ codes "\n"
+shown_line feed line standing = line_text feed line ++ codes "show " ++ standing_text standing
+    ++ codes "\n"
 
 abbrev pub published_line : ℕ → List Event → ℕ → List ℕ
-published_line edition plan cost = codes "plan " ++ decimal edition ++ codes " " ++ decimal cost ++ codes " " ++ solution_text plan cost ++ codes "\n"
+published_line edition plan cost = codes "plan " ++ decimal edition ++ codes " " ++ decimal cost
+    ++ codes " " ++ solution_text plan cost ++ codes "\n"
 
 abbrev pub settled_line : ℕ → Verdict → List ℕ
-settled_line edition verdict = codes "settled " ++ decimal edition ++ codes " " ++ verdict_text verdict ++ codes "\n"
+settled_line edition verdict = codes "settled " ++ decimal edition ++ codes " "
+    ++ verdict_text verdict ++ codes "\n"
 
 abbrev pub stopped_line : ℕ → ℕ → ℕ → List ℕ
-stopped_line edition spent bound = codes "stopped " ++ decimal edition ++ codes " spent " ++ decimal spent ++ codes " bound " ++ decimal bound ++ codes "\n"
+stopped_line edition spent bound = codes "stopped " ++ decimal edition ++ codes " spent "
+    ++ decimal spent ++ codes " bound " ++ decimal bound ++ codes "\n"
 
 -- an entry's text in the journal: its line, or nothing for a growth of the tree
 abbrev pub entry_text : Entry → List ℕ

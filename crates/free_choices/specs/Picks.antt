@@ -27,4 +27,5 @@ pub record IsSpanOf (node : Node) (o : Op) (start end : ℕ) : Type 0 where
 -- the operation lists the resource, with this release time
 abbrev pub IsListed : Problem → Op → ℕ → ℕ → Type 0
 IsListed problem o resource release =
-    (l : Listing) × Contains (listings_of problem o) l × (l.resource ≡ resource) × (l.release ≡ release)
+    (l : Listing) × Contains (listings_of problem o) l × (l.resource ≡ resource)
+        × (l.release ≡ release)

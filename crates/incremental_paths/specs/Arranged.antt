@@ -5,7 +5,8 @@ use Rattle.incremental_paths.specs.Threaded.{Threaded}
 use Rattle.incremental_paths.specs.Marked.{begins, ends, AreWithin, AreRising}
 
 -- over n nodes, each with a place and a mark, the arcs rise, and are threaded by both of their ends
-pub record AreArranged (n : ℕ) (arcs : List Arc) (begun ended : Threaded) (places : List ℕ) (marks : List Bool) : Type 0 where
+pub record AreArranged (n : ℕ) (arcs : List Arc) (begun ended : Threaded) (places : List ℕ)
+    (marks : List Bool) : Type 0 where
   pub a_place_each : length places ≡ n
   pub a_mark_each : length marks ≡ n
   pub within : AreWithin n arcs

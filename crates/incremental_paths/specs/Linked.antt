@@ -8,5 +8,7 @@ keys_of links = map (λ l. l.node) links
 
 pub record AreLinked (fronts : List ℕ) (links : List Link) : Type 0 where
   pub within : (k : ℕ) → k < length links → slice_index (keys_of links) k < length fronts
-  pub lasts : (v : ℕ) → v < length fronts → IsFront (keys_of links) (length links) v (slice_index fronts v)
-  pub befores : (k : ℕ) (d : Link) → k < length links → IsFront (keys_of links) k (slice_index (keys_of links) k) (slice_index_or links k d).before
+  pub lasts : (v : ℕ) → v < length fronts → IsFront (keys_of links) (length links) v
+      (slice_index fronts v)
+  pub befores : (k : ℕ) (d : Link) → k < length links
+      → IsFront (keys_of links) k (slice_index (keys_of links) k) (slice_index_or links k d).before

@@ -19,8 +19,14 @@ AreWithin n arcs = All (λ a. (a.from < n) × (a.to < n)) arcs
 abbrev pub AreRising : List Arc → List ℕ → Type 0
 AreRising arcs places = All (λ a. slice_index places a.from < slice_index places a.to) arcs
 
--- marked are the start, and with each node below the place `end` the nodes that arcs lead to from there, and no others
-pub record AreMarks (arcs : List Arc) (places : List ℕ) (start end : ℕ) (marks : List Bool) : Type 0 where
+-- marked are the start, and with each node below the place `end` the nodes that arcs lead to from
+-- there, and no others
+pub record AreMarks (arcs : List Arc) (places : List ℕ) (start end : ℕ) (marks : List Bool)
+    : Type 0 where
   pub started : is_marked marks start ≡ true
-  pub closed : (k : ℕ) (d : Arc) → k < length arcs → is_marked marks (slice_index_or arcs k d).from ≡ true → slice_index places (slice_index_or arcs k d).from < end → is_marked marks (slice_index_or arcs k d).to ≡ true
-  pub sound : (v : ℕ) → is_marked marks v ≡ true → (rest : List ℕ) × FollowsArcs arcs start rest × (last_node_from start rest ≡ v)
+  pub closed : (k : ℕ) (d : Arc) → k < length arcs
+      → is_marked marks (slice_index_or arcs k d).from ≡ true
+      → slice_index places (slice_index_or arcs k d).from < end
+      → is_marked marks (slice_index_or arcs k d).to ≡ true
+  pub sound : (v : ℕ) → is_marked marks v ≡ true → (rest : List ℕ) × FollowsArcs arcs start rest
+      × (last_node_from start rest ≡ v)

@@ -9,7 +9,8 @@ JoinsPair arcs u v = Any (λ arc. (arc.from ≡ u) × (arc.to ≡ v)) arcs
 -- the length of the longest arc from u to v, and 0 where there is none
 abbrev pub longest_arc : List Arc → ℕ → ℕ → ℕ
 longest_arc [] u v = 0
-longest_arc (arc ∷ arcs) u v = max (if (arc.from == u) && (arc.to == v) then arc.length else 0) (longest_arc arcs u v)
+longest_arc (arc ∷ arcs) u v = max (if (arc.from == u) && (arc.to == v) then arc.length else 0)
+    (longest_arc arcs u v)
 
 -- from u on, each next node is reached by an arc
 abbrev pub FollowsArcs : List Arc → ℕ → List ℕ → Type 0
@@ -24,7 +25,8 @@ last_node_from u (v ∷ rest) = last_node_from v rest
 -- at least one node, the last of which is v, and consecutive ones are joined by an arc
 abbrev pub IsWalkTo : List ℕ → List Arc → ℕ → List ℕ → Type 0
 IsWalkTo lowers arcs v [] = ⊥
-IsWalkTo lowers arcs v (u ∷ rest) = (u < length lowers) × FollowsArcs arcs u rest × (last_node_from u rest ≡ v)
+IsWalkTo lowers arcs v (u ∷ rest) = (u < length lowers) × FollowsArcs arcs u rest
+    × (last_node_from u rest ≡ v)
 
 -- the nodes of a way from u to v: u first, v last, each next one reached by an arc
 abbrev pub Leads : List Arc → ℕ → ℕ → List ℕ → Type 0
@@ -47,8 +49,10 @@ HasNoNodeTwice nodes = AllPairs (λ u v. u ≢ v) nodes
 
 -- the greatest length of a walk that ends in v and has no node twice
 pub record IsLongestLength (lowers : List ℕ) (arcs : List Arc) (v longest : ℕ) : Type 0 where
-  pub reached : (nodes : List ℕ) × IsWalkTo lowers arcs v nodes × HasNoNodeTwice nodes × (walk_length lowers arcs nodes ≡ longest)
-  pub greatest : (nodes : List ℕ) → IsWalkTo lowers arcs v nodes → HasNoNodeTwice nodes → walk_length lowers arcs nodes ≤ longest
+  pub reached : (nodes : List ℕ) × IsWalkTo lowers arcs v nodes × HasNoNodeTwice nodes
+      × (walk_length lowers arcs nodes ≡ longest)
+  pub greatest : (nodes : List ℕ) → IsWalkTo lowers arcs v nodes → HasNoNodeTwice nodes
+      → walk_length lowers arcs nodes ≤ longest
 
 -- an arc leads from each node to the next, and from the last to the first
 abbrev pub IsArcCycle : List Arc → List ℕ → Type 0
@@ -60,4 +64,5 @@ ArcsHaveCycle arcs = (nodes : List ℕ) × IsArcCycle arcs nodes
 
 -- no walk is longer than 2 ^ 63 - 1
 abbrev pub WalksAreShort : List ℕ → List Arc → Type 0
-WalksAreShort lowers arcs = (v : ℕ) (nodes : List ℕ) → IsWalkTo lowers arcs v nodes → walk_length lowers arcs nodes < 2 ^ 63
+WalksAreShort lowers arcs = (v : ℕ) (nodes : List ℕ) → IsWalkTo lowers arcs v nodes
+    → walk_length lowers arcs nodes < 2 ^ 63

@@ -38,7 +38,8 @@ pub fn find_cycle<L: Ledger>(
         arcs.new.items begun.new ended.new order.new marks.new }
     ensures cycle { IfOk result
         (λ found. IfSome found (λ nodes. IsArcCycle (arcs.old.items ++ more.now) nodes.items)) }
-    ensures none { IfOk result (λ found. IfNone found (¬ ArcsHaveCycle (arcs.old.items ++ more.now))) }
+    ensures none { IfOk result
+        (λ found. IfNone found (¬ ArcsHaveCycle (arcs.old.items ++ more.now))) }
 {
     let mut steps = Steps::<L>::new(blank);
     let kept = arcs.len();
@@ -69,7 +70,8 @@ fn link_all<L: Ledger>(
         arcs.new.items begun.new ended.new order.new marks.new }
     ensures cycle { IfOk result
         (λ found. IfSome found (λ nodes. IsArcCycle (arcs.old.items ++ more.now) nodes.items)) }
-    ensures none { IfOk result (λ found. IfNone found (¬ ArcsHaveCycle (arcs.old.items ++ more.now))) }
+    ensures none { IfOk result
+        (λ found. IfNone found (¬ ArcsHaveCycle (arcs.old.items ++ more.now))) }
 {
     for arc in more {
         if let Some(nodes) = link_or_close(arcs, begun, ended, order, marks, *arc, steps)? {

@@ -111,7 +111,7 @@ impl Paths {
 
     /// The nodes of a cycle that these arcs would close with the kept ones, and `None` where they
     /// close none. From each node an arc leads to the next, and from the last to the first. No arc
-    /// is added, and only the order of the nodes changes.
+    /// is added.
     pub fn cycle_with(&mut self, more: &[Arc]) -> Result<Option<Vec<u32>>, Memory>
         requires nodes { All (λ arc. IsNode self.old arc.from × IsNode self.old arc.to) more.now }
         ensures same { self.new ≡ unchanged self.old }
@@ -164,8 +164,7 @@ impl Paths {
         self.ordered.changed()
     }
 
-    /// An order of the nodes in which each kept arc leads from a lower place to a higher. Only
-    /// `add` and `cycle_with` change it.
+    /// An order of the nodes in which each kept arc leads from a lower place to a higher.
     pub fn order(&self) -> &Order
         ensures size { length result.now ≡ length self.now.lowers }
         ensures rising { AreRising self.now.arcs result.now }
@@ -222,8 +221,7 @@ impl Paths {
     }
 
     /// The nodes of a way along kept arcs from one node to another, both among them, and `None`
-    /// where there is none. From a node to itself it is that node alone. Where the last arc was
-    /// refused, the way from its end to its beginning is the one that was found then.
+    /// where there is none.
     pub fn between(&self, from: u32, to: u32) -> Result<Option<Vec<u32>>, Memory>
         requires from { IsNode self.now from }
         requires to { IsNode self.now to }

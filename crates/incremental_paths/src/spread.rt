@@ -155,8 +155,8 @@ fn push_place<L: Ledger>(
     top
 }
 
-/// Spreads lengths on from a node whose length alone has grown, in the order of places. So each node
-/// that grows is gone on from once.
+/// Spreads lengths on from a node whose length alone has grown, in the order of places. So each
+/// node that grows is gone on from once.
 pub fn push_on<L: Ledger>(
     arcs: &[Arc],
     begun: &Threads,

@@ -21,14 +21,17 @@ with_found_code v code = record { put = v.put; found = v.found ++ code ∷ []; s
 
 -- a pass and the one that is split off know the same, and have half the share each
 abbrev pub halved : Known → Known
-halved v = record { put = v.put; found = v.found; share = record { parts = v.share.parts; halvings = v.share.halvings + 1 } }
+halved v = record { put = v.put; found = v.found;
+    share = record { parts = v.share.parts; halvings = v.share.halvings + 1 } }
 
 abbrev pub share_sum : Share → Share → Share
-share_sum s t = record { parts = s.parts * 2 ^ t.halvings + t.parts * 2 ^ s.halvings; halvings = s.halvings + t.halvings }
+share_sum s t = record { parts = s.parts * 2 ^ t.halvings + t.parts * 2 ^ s.halvings;
+    halvings = s.halvings + t.halvings }
 
 -- after another pass was joined_known
 abbrev pub joined_known : Known → Known → Known
-joined_known v w = record { put = v.put ++ w.put; found = v.found ++ w.found; share = share_sum v.share w.share }
+joined_known v w = record { put = v.put ++ w.put; found = v.found ++ w.found;
+    share = share_sum v.share w.share }
 
 -- no other pass is left: all that were split off are joined_known again, here
 abbrev pub IsWhole : Known → Type 0
@@ -42,7 +45,8 @@ HasShare v n d = v.share.parts * d ≡ n * 2 ^ v.share.halvings
 abbrev pub IsAmong : List ℕ → ℕ → Type 0
 IsAmong codes code = (code ≡ opening_code) ⊎ Contains codes code
 
--- What is known of a code that the word was. It is at most each code that was read or put, and a whole pass knows where it is from.
+-- What is known of a code that the word was. It is at most each code that was read or put, and a
+-- whole pass knows where it is from.
 pub record Stands (v : Known) (code : ℕ) : Type 0 where
   pub below_opening : code ≤ opening_code
   pub below_put : All (λ c. code ≤ c) v.put
@@ -55,7 +59,8 @@ spent = record { put = []; found = []; share = record { parts = 0; halvings = 0 
 
 -- some pass has put it
 abbrev pub IsPutBySome : List Known → ℕ → Type 0
-IsPutBySome views code = (seat : ℕ) × (v : Known) × (get_elem? views seat ≡ some v) × Contains v.put code
+IsPutBySome views code = (seat : ℕ) × (v : Known) × (get_elem? views seat ≡ some v)
+    × Contains v.put code
 
 abbrev pub IsTraced : List Known → ℕ → Type 0
 IsTraced views code = (code ≡ opening_code) ⊎ IsPutBySome views code
@@ -70,17 +75,21 @@ weights scale (v ∷ vs) = weight scale v + weights scale vs
 abbrev pub Cells : Type 0
 Cells = State (Unit {0}) Known
 
--- The word is the least of its opening value and all codes put, and each code found is one of these. The shares add up to one.
+-- The word is the least of its opening value and all codes put, and each code found is one of
+-- these. The shares add up to one.
 pub record Kept (s : Cells) : Type 0 where
   pub one_word : length s.words ≡ 1
   pub below_opening : slice_index s.words 0 ≤ opening_code
-  pub below_put : (seat : ℕ) (v : Known) (c : ℕ) → get_elem? s.views seat ≡ some v → Contains v.put c → slice_index s.words 0 ≤ c
+  pub below_put : (seat : ℕ) (v : Known) (c : ℕ) → get_elem? s.views seat ≡ some v
+      → Contains v.put c → slice_index s.words 0 ≤ c
   pub is_put : IsTraced s.views (slice_index s.words 0)
-  pub each_is_put : (seat : ℕ) (v : Known) (c : ℕ) → get_elem? s.views seat ≡ some v → Contains v.found c → IsTraced s.views c
+  pub each_is_put : (seat : ℕ) (v : Known) (c : ℕ) → get_elem? s.views seat ≡ some v
+      → Contains v.found c → IsTraced s.views c
   pub scale : ℕ
   pub scaled : (seat : ℕ) (v : Known) → get_elem? s.views seat ≡ some v → v.share.halvings ≤ scale
   pub one_whole : weights scale s.views ≡ 2 ^ scale
-  pub spent_knows_nothing : (seat : ℕ) (v : Known) → get_elem? s.views seat ≡ some v → v.share.parts ≡ 0 → (v.put ≡ []) × (v.found ≡ [])
+  pub spent_knows_nothing : (seat : ℕ) (v : Known) → get_elem? s.views seat ≡ some v
+      → v.share.parts ≡ 0 → (v.put ≡ []) × (v.found ≡ [])
 
 abbrev pub CellAtom : Type 0
 CellAtom = Me (Unit {0}) Known

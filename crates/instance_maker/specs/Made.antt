@@ -1,5 +1,5 @@
--- The problem that is made of a number, for so many trains. The trains 2k and 2k + 1 are a pair, which
--- share the resource k.
+-- The problem that is made of a number, for so many trains. The trains 2k and 2k + 1 are a pair,
+-- which share the resource k.
 use Rattle.std.specs.Prelude.{◌≡◌, ℕ, zero, suc, ◌+◌, ◌-◌, ◌*◌, ◌/◌, ◌%◌, ◌==◌, nat_lt, List, [], ◌∷◌, ◌++◌, None, codes, if◌then◌else◌}
 use Rattle.std.specs.Fmt.{decimal}
 use Rattle.disp_model.specs.declared.problem.Problem.{Problem}
@@ -30,8 +30,8 @@ late_from train threshold =
 abbrev pub pair_start : ℕ → ℕ
 pair_start k = 100 * k
 
--- how much later the second train of a pair may be without a cost: from the fifth pair on it waits for
--- the first for nothing
+-- how much later the second train of a pair may be without a cost: from the fifth pair on it waits
+-- for the first for nothing
 abbrev pub grace : ℕ → Pair → ℕ
 grace k pair = if nat_lt k 4 then 0 else pair.first - pair.gap
 

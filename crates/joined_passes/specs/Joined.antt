@@ -14,9 +14,10 @@ module _ {E T : Type 0} where
   joined_all v [] = v
   joined_all v (w ∷ ws) = joined_all (joined_known v w) ws
 
--- The first pass made no entry. Those joined are of callers that differ, took in no other, and have seen a beginning of the
--- history, of which each place is one of theirs.
-pub record AreAllJoined (v : Known Entry Terms) (ws : List (Known Entry Terms)) (history : List Entry) : Type 0 where
+-- The first pass made no entry. Those joined are of callers that differ, took in no other, and have
+-- seen a beginning of the history, of which each place is one of theirs.
+pub record AreAllJoined (v : Known Entry Terms) (ws : List (Known Entry Terms))
+    (history : List Entry) : Type 0 where
   pub none : v.mine ≡ []
   pub own : All (OwnsPlaces caller_of) ws
   pub alone : All (λ w. w.back ≡ []) ws
@@ -41,4 +42,5 @@ pub record Joins (before : Pass) (passes : List Pass) (after : Pass) : Type 0 wh
   pub back : (known after).back ≡ (known before).back ++ map caller_at passes
   pub starts : StartsWith (known after).seen (known before).seen
   pub each : All (λ pass. StartsWith (known after).seen (known pass).seen) passes
-  pub owns : OwnsPlaces caller_of (known before) ⊎ (1 ≤ length passes) → OwnsPlaces caller_of (known after)
+  pub owns : OwnsPlaces caller_of (known before) ⊎ (1 ≤ length passes)
+      → OwnsPlaces caller_of (known after)

@@ -1,5 +1,6 @@
--- What a format asks of a JSON value: a list of claims in document order, each on what stands at one place.
--- The rules on single places, and the first place that breaks one. A format names its places by a type P.
+-- What a format asks of a JSON value: a list of claims in document order, each on what stands at
+-- one place. The rules on single places, and the first place that breaks one. A format names its
+-- places by a type P.
 use Rattle.std.specs.Prelude.{◌≡◌, ℕ, ◌+◌, List, [], ◌∷◌, ◌++◌, Bool, true, false, not, Option, Some, None, option_map, option_and_then, is_some, nat_lt, nat_le, find, Result, Ok, Err, ⊤, if◌then◌else◌}
 use Rattle.std.specs.Option.{option_map_or}
 use Rattle.serde_json.specs.Data.{Data}
@@ -9,7 +10,8 @@ use Rattle.json_claims.specs.declared.rule.Rule.TheVariants as rule
 use Rattle.json_claims.specs.declared.rule.Want.{Want}
 use Rattle.json_claims.specs.declared.rule.Want.TheVariants as want
 
--- what has to stand at a place, whether it is needed, and what is there; `null` is there in a list alone
+-- what has to stand at a place, whether it is needed, and what is there; `null` is there in a list
+-- alone
 pub record Claim (P : Type 0) : Type 0 where
   pub place : P
   pub want : Want
@@ -17,7 +19,8 @@ pub record Claim (P : Type 0) : Type 0 where
   pub found : Option Data
 
 abbrev pub claim : {P : Type 0} → P → Want → Bool → Option Data → Claim P
-claim place want needed found = record { place = place; want = want; needed = needed; found = found }
+claim place want needed found = record { place = place; want = want; needed = needed;
+    found = found }
 
 abbrev pub needed : {P : Type 0} → P → Want → Option Data → Claim P
 needed place want found = claim place want true found
@@ -47,7 +50,8 @@ is_misshapen want needed found = option_map_or (λ d. not (is_of want d)) found 
 
 -- a number that is not held as a whole number from 0 to 2^64 - 1
 abbrev pub is_not_whole : Option Data → Bool
-is_not_whole found = option_map_or (λ n. not (is_some (as_u64 n))) (option_and_then as_number found) false
+is_not_whole found = option_map_or (λ n. not (is_some (as_u64 n))) (option_and_then as_number found)
+    false
 
 -- a whole number
 abbrev pub whole_in : Option Data → Option ℕ

@@ -30,7 +30,8 @@ number_or key limit default d = option_map_or (whole_of limit) (field key d) (So
 
 -- the whole number at a key, if there is one
 abbrev pub optional_number : List ℕ → ℕ → Data → Option (Option ℕ)
-optional_number key limit d = option_map_or (λ v. option_map Some (whole_of limit v)) (field key d) (Some None)
+optional_number key limit d = option_map_or (λ v. option_map Some (whole_of limit v)) (field key d)
+    (Some None)
 
 -- the values of an array
 abbrev pub values_of : Items → List Data
@@ -52,7 +53,8 @@ array_at key d = option_and_then (λ v. option_map values_of (as_array v)) (fiel
 
 -- the values of the array at a key, none where it is absent
 abbrev pub array_or_empty : List ℕ → Data → Option (List Data)
-array_or_empty key d = option_map_or (λ v. option_map values_of (as_array v)) (field key d) (Some [])
+array_or_empty key d = option_map_or (λ v. option_map values_of (as_array v)) (field key d)
+    (Some [])
 
 -- the text at a key
 abbrev pub text_at : List ℕ → Data → Option (List ℕ)

@@ -1,4 +1,5 @@
--- A list of optional bounds, and a tournament over it: each inner node is the lesser of the two below it.
+-- A list of optional bounds, and a tournament over it: each inner node is the lesser of the two
+-- below it.
 use Rattle.std.specs.Prelude.{◌≡◌, ◌≢◌, ◌↔◌, ℕ, ◌+◌, ◌*◌, ◌<◌, ◌≤◌, List, Option, Some, None, length, min, slice_index_or}
 
 -- the bound of a place, none past the end
@@ -33,7 +34,8 @@ lesser_bound (Some bound) (Some other) = Some (min bound other)
 
 -- the node is the lesser of the two below it
 abbrev pub IsLesserNode : List (Option ℕ) → ℕ → Type 0
-IsLesserNode nodes i = bound_at nodes i ≡ lesser_bound (bound_at nodes (2 * i)) (bound_at nodes (2 * i + 1))
+IsLesserNode nodes i = bound_at nodes i ≡ lesser_bound (bound_at nodes (2 * i))
+    (bound_at nodes (2 * i + 1))
 
 -- each inner node but one is the lesser of the two below it
 pub record AreLesserBut (nodes : List (Option ℕ)) (room hole : ℕ) : Type 0 where
@@ -50,7 +52,9 @@ pub record IsTournament (nodes : List (Option ℕ)) (room : ℕ) : Type 0 where
   pub ends : length nodes ≤ 2 * room
 
 -- the node is one of the two below another, and lies below the limit if either does
-pub record IsChildBelow (nodes : List (Option ℕ)) (i : ℕ) (limit : Option ℕ) (child : ℕ) : Type 0 where
+pub record IsChildBelow (nodes : List (Option ℕ)) (i : ℕ) (limit : Option ℕ) (child : ℕ)
+    : Type 0 where
   pub after : 2 * i ≤ child
   pub before : child ≤ 2 * i + 1
-  pub below : LiesBelow (lesser_bound (bound_at nodes (2 * i)) (bound_at nodes (2 * i + 1))) limit → LiesBelow (bound_at nodes child) limit
+  pub below : LiesBelow (lesser_bound (bound_at nodes (2 * i)) (bound_at nodes (2 * i + 1))) limit
+      → LiesBelow (bound_at nodes child) limit

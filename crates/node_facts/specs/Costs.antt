@@ -15,7 +15,8 @@ pub record IsCapped (node : Node) (w : ComponentWalk) (found : ℕ) : Type 0 whe
   pub found_is : found ≡ capped cost
 
 abbrev pub IsWalkCost : Node → ComponentWalk → Option ℕ → Type 0
-IsWalkCost node w found = MatchOption found ((cost : ℕ) → WalkCosts node w cost → ⊥) (IsCapped node w)
+IsWalkCost node w found = MatchOption found ((cost : ℕ) → WalkCosts node w cost → ⊥)
+    (IsCapped node w)
 
 -- what walks cost together, capped, or none where one is no walk to its component
 pub record IsCappedSum (node : Node) (walks : List ComponentWalk) (found : ℕ) : Type 0 where
@@ -24,4 +25,5 @@ pub record IsCappedSum (node : Node) (walks : List ComponentWalk) (found : ℕ) 
   pub found_is : found ≡ capped sum
 
 abbrev pub IsCostOfAll : Node → List ComponentWalk → Option ℕ → Type 0
-IsCostOfAll node walks found = MatchOption found ((sum : ℕ) → WalksCost node walks sum → ⊥) (IsCappedSum node walks)
+IsCostOfAll node walks found = MatchOption found ((sum : ℕ) → WalksCost node walks sum → ⊥)
+    (IsCappedSum node walks)

@@ -38,14 +38,17 @@ AreDemandsFor P demands = (route : List ℕ) → All (Meets route) demands ↔ P
 
 -- the routes of a train that agree with fixings and decisions meet the demands, and no others
 abbrev pub AreDemands : ℕ → List Fixing → List Decision → List Demand → Type 0
-AreDemands t fixings decisions = AreDemandsFor (λ route. All (AgreesWithFixing t route) fixings × All (AgreesWithDecision t route) decisions)
+AreDemands t fixings decisions = AreDemandsFor
+    (λ route. All (AgreesWithFixing t route) fixings × All (AgreesWithDecision t route) decisions)
 
 -- ---- steps
 
--- a step, or an end at an operation, does not lead past an operation that there is, by the operations' places
+-- a step, or an end at an operation, does not lead past an operation that there is, by the
+-- operations' places
 pub record IsNotPast (places : List ℕ) (wanted o : ℕ) (next : Option ℕ) : Type 0 where
   pub there : wanted < length places
-  pub beside : IfSome next (λ s. (slice_index places o ≤ slice_index places wanted) ⊎ (slice_index places wanted ≤ slice_index places s))
+  pub beside : IfSome next (λ s. (slice_index places o ≤ slice_index places wanted)
+      ⊎ (slice_index places wanted ≤ slice_index places s))
 
 abbrev pub IsFollowed : ℕ → ℕ → ℕ → Option ℕ → Type 0
 IsFollowed wanted n o next = o ≡ wanted → next ≡ Some n

@@ -52,11 +52,13 @@ in_list last i fixing = own_list last (fixing_train fixing) == i
 -- each list has the fixings that are its own, in order
 pub record AreFixedByTrain (fixings : List Fixing) (lists : List (Vec Fixing)) : Type 0 where
   pub some : 0 < length lists
-  pub each : (i : ℕ) (own : Vec Fixing) → slice_get lists i ≡ Some own → own.items ≡ filter (in_list (length lists - 1) i) fixings
+  pub each : (i : ℕ) (own : Vec Fixing) → slice_get lists i ≡ Some own
+      → own.items ≡ filter (in_list (length lists - 1) i) fixings
 
 -- ---- all
 
-pub record AreIndexed (fixings : List Fixing) (starts bars : List ((ℕ × ℕ) × ℕ)) (lists : List (Vec Fixing)) : Type 0 where
+pub record AreIndexed (fixings : List Fixing) (starts bars : List ((ℕ × ℕ) × ℕ))
+    (lists : List (Vec Fixing)) : Type 0 where
   pub starts_are : AreStarts fixings starts
   pub bars_are : AreBars fixings bars
   pub by_train : AreFixedByTrain fixings lists

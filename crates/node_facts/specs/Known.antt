@@ -22,11 +22,13 @@ op_numbered t o = record { train = t; op = o }
 
 -- each way from the entry has the operation
 abbrev pub IsOnEachRoute : List Operation → List ℕ → List Demand → ℕ → ℕ → Type 0
-IsOnEachRoute train places demands e o = (rest : List ℕ) → IsWay train places demands e rest → Contains (e ∷ rest) o
+IsOnEachRoute train places demands e o = (rest : List ℕ) → IsWay train places demands e rest
+    → Contains (e ∷ rest) o
 
 -- which operations are on each way from the entry
 abbrev pub AreOnEach : List Operation → List ℕ → List Demand → ℕ → List Bool → Type 0
-AreOnEach train places demands e marks = (o : ℕ) → IsTrue (slice_index_or marks o false) ↔ ((o < length train) × IsOnEachRoute train places demands e o)
+AreOnEach train places demands e marks = (o : ℕ) → IsTrue (slice_index_or marks o false)
+    ↔ ((o < length train) × IsOnEachRoute train places demands e o)
 
 -- what is kept of a train is so of its allowed routes at the node
 pub record IsKnown (node : Node) (t : ℕ) (known : TrainKnowledge) : Type 0 where
@@ -36,9 +38,12 @@ pub record IsKnown (node : Node) (t : ℕ) (known : TrainKnowledge) : Type 0 whe
   pub demands_are : AreDemands t node.fixings node.decisions known.demands.items
   pub entry_is : IsEntry (train_at node.problem t) known.entry
   pub sums_long : length known.sums.items ≡ length (train_at node.problem t)
-  pub sums_are : AreSums (train_at node.problem t) known.places.items known.demands.items known.sums.items
-  pub needed_are : AreOnEach (train_at node.problem t) known.places.items known.demands.items known.entry known.needed.items
-  pub holders_are : AreHolders (train_at node.problem t) known.places.items known.demands.items known.sums.items known.needed.items known.holders.items
+  pub sums_are : AreSums (train_at node.problem t) known.places.items known.demands.items
+      known.sums.items
+  pub needed_are : AreOnEach (train_at node.problem t) known.places.items known.demands.items
+      known.entry known.needed.items
+  pub holders_are : AreHolders (train_at node.problem t) known.places.items known.demands.items
+      known.sums.items known.needed.items known.holders.items
 
 -- 1 where no route of a train is allowed, else 0
 abbrev pub without_route : TrainKnowledge → ℕ

@@ -13,4 +13,5 @@ greater (Some n) (Some m) = Some (max n m)
 -- what is known of each train of a node
 pub record AreKnown (node : Node) (trains : List TrainKnowledge) : Type 0 where
   pub long : length trains ≡ length node.problem.trains
-  pub each : (t : ℕ) (known : TrainKnowledge) → slice_get trains t ≡ Some known → IsKnown node t known
+  pub each : (t : ℕ) (known : TrainKnowledge) → slice_get trains t ≡ Some known
+      → IsKnown node t known

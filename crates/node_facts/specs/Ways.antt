@@ -12,7 +12,8 @@ MayGo places demands o next = All (Allows places o next) demands
 -- from an operation step by step to the exit, as is asked
 abbrev pub IsWay : List Operation → List ℕ → List Demand → ℕ → List ℕ → Type 0
 IsWay train places demands o [] = IsExit train o × MayGo places demands o None
-IsWay train places demands o (s ∷ rest) = IsSuccessor train o s × MayGo places demands o (Some s) × IsWay train places demands s rest
+IsWay train places demands o (s ∷ rest) = IsSuccessor train o s × MayGo places demands o (Some s)
+    × IsWay train places demands s rest
 
 -- the durations of a way's operations but the last
 abbrev pub way_sum : List Operation → ℕ → List ℕ → ℕ
@@ -33,7 +34,8 @@ lesser (Some n) None = Some n
 lesser (Some n) (Some m) = Some (min n m)
 
 -- a way from the operation has the sum
-pub record HasSum (train : List Operation) (places : List ℕ) (demands : List Demand) (o sum : ℕ) : Type 0 where
+pub record HasSum (train : List Operation) (places : List ℕ) (demands : List Demand) (o sum : ℕ)
+    : Type 0 where
   pub rest : List ℕ
   pub way : IsWay train places demands o rest
   pub sum_is : way_sum train o rest ≡ sum
@@ -43,29 +45,35 @@ sum_at sums o = slice_index_or sums o None
 
 -- of each operation the least sum of a way, or none where it has no way
 abbrev pub AreSums : List Operation → List ℕ → List Demand → List (Option ℕ) → Type 0
-AreSums train places demands sums = (o : ℕ) → IsLeastOf (HasSum train places demands o) (sum_at sums o)
+AreSums train places demands sums = (o : ℕ)
+    → IsLeastOf (HasSum train places demands o) (sum_at sums o)
 
 -- the sum of the way that goes on to an operation by the least sum from there
-pub record IsOnward (places : List ℕ) (demands : List Demand) (sums : List (Option ℕ)) (o s sum : ℕ) : Type 0 where
+pub record IsOnward (places : List ℕ) (demands : List Demand) (sums : List (Option ℕ)) (o s sum : ℕ)
+    : Type 0 where
   pub may : MayGo places demands o (Some s)
   pub known : sum_at sums s ≡ Some sum
 
-pub record GoesOnward (places : List ℕ) (demands : List Demand) (sums : List (Option ℕ)) (o : ℕ) (nexts : List ℕ) (sum : ℕ) : Type 0 where
+pub record GoesOnward (places : List ℕ) (demands : List Demand) (sums : List (Option ℕ)) (o : ℕ)
+    (nexts : List ℕ) (sum : ℕ) : Type 0 where
   pub next : ℕ
   pub is_next : Contains nexts next
   pub onward : IsOnward places demands sums o next sum
 
 -- the way ends at the operation, which goes on to none
-pub record EndsRouteThere (operation : Operation) (places : List ℕ) (demands : List Demand) (o sum : ℕ) : Type 0 where
+pub record EndsRouteThere (operation : Operation) (places : List ℕ) (demands : List Demand)
+    (o sum : ℕ) : Type 0 where
   pub last : operation.next ≡ []
   pub may : MayGo places demands o None
   pub sum_is : sum ≡ 0
 
-pub record GoesOver (operation : Operation) (places : List ℕ) (demands : List Demand) (sums : List (Option ℕ)) (o sum : ℕ) : Type 0 where
+pub record GoesOver (operation : Operation) (places : List ℕ) (demands : List Demand)
+    (sums : List (Option ℕ)) (o sum : ℕ) : Type 0 where
   pub behind : ℕ
   pub onward : GoesOnward places demands sums o operation.next behind
   pub sum_is : sum ≡ operation.min + behind
 
 -- a sum by those that are known of the operation's successors
 abbrev pub IsSumBy : Operation → List ℕ → List Demand → List (Option ℕ) → ℕ → ℕ → Type 0
-IsSumBy operation places demands sums o sum = EndsRouteThere operation places demands o sum ⊎ GoesOver operation places demands sums o sum
+IsSumBy operation places demands sums o sum = EndsRouteThere operation places demands o sum
+    ⊎ GoesOver operation places demands sums o sum

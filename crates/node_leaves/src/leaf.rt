@@ -99,7 +99,8 @@ pub fn leaf_of(
     }
 }
 
-/// What the node shows by a rule to which a decision leads, where what is known holds for that node.
+/// What the node shows by a rule to which a decision leads, where what is known holds for that
+/// node.
 fn leaf_below(
     alloc: Global,
     problem: &Problem,

@@ -1,4 +1,5 @@
--- How the places of a tree stand in preorder: each is linked to the next, and the nodes that they show fill them.
+-- How the places of a tree stand in preorder: each is linked to the next, and the nodes that they
+-- show fill them.
 use Rattle.std.specs.Prelude.{◌≡◌, ◌≢◌, ◌⊎◌, ℕ, ◌+◌, ◌≤◌, List, [], ◌∷◌, ◌++◌, Option, Some, None, length, slice_get}
 use Rattle.disp_model.specs.declared.decision.Decision.{Decision}
 use Rattle.disp_model.specs.declared.decision.Choice.{Choice}
@@ -20,7 +21,8 @@ use Rattle.open_nodes.specs.declared.place.Kind.TheVariants.{Branch as Branched}
 use Rattle.open_nodes.specs.Preorder.{link_of}
 use Rattle.open_nodes.specs.Grafts.{kind_of}
 
--- from a number, or none, the links lead along these numbers to another, or none; each number has its place by a table
+-- from a number, or none, the links lead along these numbers to another, or none; each number has
+-- its place by a table
 abbrev pub LinksLead : (ℕ → Option Place) → Option ℕ → List ℕ → Option ℕ → Type 0
 LinksLead look at [] to = at ≡ to
 LinksLead look at (n ∷ numbers) to = (at ≡ Some n) × LinksLead look (link_of (look n)) numbers to
@@ -34,7 +36,8 @@ pub record Spot : Type 0 where
 abbrev pub spots_for : ℕ → ℕ → List Decision → List Spot
 spots_for parent number [] = []
 spots_for parent number (decision ∷ decisions) =
-    record { number = number; above = Some (record { parent = parent; decision = decision }) } ∷ spots_for parent (number + 1) decisions
+    record { number = number; above = Some (record { parent = parent; decision = decision }) }
+        ∷ spots_for parent (number + 1) decisions
 
 -- a place shows this leaf
 pub record ShowsLeaf (kept : List TreeNode) (place : Place) (leaf : TreeLeaf) : Type 0 where
@@ -42,7 +45,8 @@ pub record ShowsLeaf (kept : List TreeNode) (place : Place) (leaf : TreeLeaf) : 
   pub kind_is : place.kind ≡ kind_of leaf
 
 -- a place shows a branch of this choice, with its first child behind it
-pub record ShowsBranch (problem : Problem) (kept : List TreeNode) (place : Place) (choice : Choice) (first : ℕ) : Type 0 where
+pub record ShowsBranch (problem : Problem) (kept : List TreeNode) (place : Place) (choice : Choice)
+    (first : ℕ) : Type 0 where
   pub children : ℕ
   pub shown : slice_get kept place.shows ≡ Some (Branch choice children)
   pub kind_is : place.kind ≡ Branched
@@ -61,25 +65,30 @@ abbrev pub AreFilled : Problem → (ℕ → Option Place) → List TreeNode → 
 AreFilled problem look kept [] [] = Unit {0}
 AreFilled problem look kept [] (n ∷ numbers) = ⊥
 AreFilled problem look kept (spot ∷ spots) [] = ⊥
-AreFilled problem look kept (spot ∷ spots) (n ∷ numbers) = (place : Place) × IsAtSpot look spot n place
+AreFilled problem look kept (spot ∷ spots) (n ∷ numbers) = (place : Place)
+    × IsAtSpot look spot n place
     × (((leaf : TreeLeaf) × ShowsLeaf kept place leaf × AreFilled problem look kept spots numbers)
     ⊎ ((choice : Choice) × (first : ℕ) × ShowsBranch problem kept place choice first
-    × AreFilled problem look kept (spots_for n first (children_of problem choice) ++ spots) numbers))
+    × AreFilled problem look kept (spots_for n first (children_of problem choice) ++ spots)
+    numbers))
 
--- the places are a tree over the problem: the links lead from the root through all of them, they fill its spot, only
--- leaves are out, and what is kept first is the empty list of walks
+-- the places are a tree over the problem: the links lead from the root through all of them, they
+-- fill its spot, only leaves are out, and what is kept first is the empty list of walks
 pub record IsTree (problem : Problem) (state : State) : Type 0 where
   pub numbers : List ℕ
   pub leads : LinksLead (slice_get state.places) (Some 0) numbers None
-  pub filled : AreFilled problem (slice_get state.places) state.kept (record { number = 0; above = None } ∷ []) numbers
+  pub filled : AreFilled problem (slice_get state.places) state.kept
+      (record { number = 0; above = None } ∷ []) numbers
   pub count : length numbers ≡ length state.places
   pub parents : HaveSmallerParents state.places
-  pub leaves : (n : ℕ) (place : Place) (errand : Errand) → slice_get state.places n ≡ Some place → place.out ≡ Some errand → place.kind ≢ Branched
+  pub leaves : (n : ℕ) (place : Place) (errand : Errand) → slice_get state.places n ≡ Some place
+      → place.out ≡ Some errand → place.kind ≢ Branched
   pub empty : slice_get state.kept 0 ≡ Some (Leaf (Costs []))
 
 -- each leaf holds for its kept bound at its node
 abbrev pub AllHold : Problem → List Fixing → List Place → List TreeNode → Type 0
-AllHold problem fixings places kept = (n : ℕ) (place : Place) (leaf : TreeLeaf) → slice_get places n ≡ Some place → slice_get kept place.shows ≡ Some (Leaf leaf)
+AllHold problem fixings places kept = (n : ℕ) (place : Place) (leaf : TreeLeaf)
+    → slice_get places n ≡ Some place → slice_get kept place.shows ≡ Some (Leaf leaf)
     → LeafHolds (node_at problem fixings (decisions_of places n)) (Optimal place.bound) leaf
 
 -- what a tree shows that has no wanted leaf
@@ -91,9 +100,12 @@ verdict_for (Some cost) = Optimal cost
 abbrev pub HaveChoices : Problem → List TreeNode → Type 0
 HaveChoices problem [] = Unit {0}
 HaveChoices problem (Leaf leaf ∷ tree) = HaveChoices problem tree
-HaveChoices problem (Branch choice children ∷ tree) = IsChoice problem choice × HaveChoices problem tree
+HaveChoices problem (Branch choice children ∷ tree) = IsChoice problem choice
+    × HaveChoices problem tree
 
 -- the leaf of a number, and those of numbers from one on, hold for their kept bounds at their nodes
 abbrev pub NewHold : Problem → List Fixing → ℕ → ℕ → List Place → List TreeNode → Type 0
-NewHold problem fixings from number places kept = (n : ℕ) (place : Place) (leaf : TreeLeaf) → (n ≡ number) ⊎ (from ≤ n) → slice_get places n ≡ Some place
-    → slice_get kept place.shows ≡ Some (Leaf leaf) → LeafHolds (node_at problem fixings (decisions_of places n)) (Optimal place.bound) leaf
+NewHold problem fixings from number places kept = (n : ℕ) (place : Place) (leaf : TreeLeaf)
+    → (n ≡ number) ⊎ (from ≤ n) → slice_get places n ≡ Some place
+    → slice_get kept place.shows ≡ Some (Leaf leaf)
+    → LeafHolds (node_at problem fixings (decisions_of places n)) (Optimal place.bound) leaf

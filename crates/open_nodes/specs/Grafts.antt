@@ -18,16 +18,19 @@ use Rattle.open_nodes.specs.declared.place.Place.{Place}
 use Rattle.open_nodes.specs.declared.place.Kind.{Kind}
 use Rattle.open_nodes.specs.declared.place.Kind.TheVariants.{Open, Dead, Branch as Branched}
 
--- the nodes fill so many places, from the first on: each branch has as many children as its choice, and each leaf a bound
+-- the nodes fill so many places, from the first on: each branch has as many children as its choice,
+-- and each leaf a bound
 abbrev pub FillPlaces : Problem → ℕ → List TreeNode → List ℕ → Type 0
 FillPlaces problem zero [] [] = Unit {0}
 FillPlaces problem zero [] (bound ∷ bounds) = ⊥
 FillPlaces problem zero (node ∷ tree) bounds = ⊥
 FillPlaces problem (suc left) [] bounds = ⊥
 FillPlaces problem (suc left) (Leaf leaf ∷ tree) [] = ⊥
-FillPlaces problem (suc left) (Leaf leaf ∷ tree) (bound ∷ bounds) = FillPlaces problem left tree bounds
+FillPlaces problem (suc left) (Leaf leaf ∷ tree) (bound ∷ bounds) =
+    FillPlaces problem left tree bounds
 FillPlaces problem (suc left) (Branch choice children ∷ tree) bounds =
-    (children ≡ length (children_of problem choice)) × FillPlaces problem (children + left) tree bounds
+    (children ≡ length (children_of problem choice))
+        × FillPlaces problem (children + left) tree bounds
 
 -- where a leaf is known dead
 abbrev pub kind_of : TreeLeaf → Kind
@@ -39,11 +42,13 @@ kind_of (Shares walks trains) = Open
 
 -- a place as it becomes a branch, with its first child behind it
 abbrev pub branch_at : Place → ℕ → ℕ → Place
-branch_at place first shows = record { above = place.above; next = Some first; shows = shows; kind = Branched; bound = 0; out = None; examined = None }
+branch_at place first shows = record { above = place.above; next = Some first; shows = shows;
+    kind = Branched; bound = 0; out = None; examined = None }
 
 -- a place as it becomes this leaf
 abbrev pub leaf_at : Place → ℕ → TreeLeaf → ℕ → Place
-leaf_at place shows leaf bound = record { above = place.above; next = place.next; shows = shows; kind = kind_of leaf; bound = bound; out = None; examined = None }
+leaf_at place shows leaf bound = record { above = place.above; next = place.next; shows = shows;
+    kind = kind_of leaf; bound = bound; out = None; examined = None }
 
 abbrev pub next_in : Option ℕ → ℕ → List Decision → Option ℕ
 next_in behind number [] = behind
@@ -54,15 +59,19 @@ next_given None number behind = behind
 next_given (Some decision) number behind = Some number
 
 abbrev pub new_place : ℕ → Decision → Option ℕ → Place
-new_place parent decision next = record { above = Some (record { parent = parent; decision = decision }); next = next; shows = 0; kind = Open; bound = 0; out = None; examined = None }
+new_place parent decision next = record { above = Some
+    (record { parent = parent; decision = decision }); next = next; shows = 0; kind = Open; bound =
+    0; out = None; examined = None }
 
 -- the places of the children of a branch, numbered from a number on
 abbrev pub children_at : ℕ → Option ℕ → ℕ → List Decision → List Place
 children_at parent behind number [] = []
-children_at parent behind number (decision ∷ decisions) = new_place parent decision (next_in behind (number + 1) decisions) ∷ children_at parent behind (number + 1) decisions
+children_at parent behind number (decision ∷ decisions) =
+    new_place parent decision (next_in behind (number + 1) decisions)
+    ∷ children_at parent behind (number + 1) decisions
 
--- a leaf grows: what it becomes with the new places behind the last one there is, the number of the next place that is
--- filled, the bounds that are left, and the splits so far
+-- a leaf grows: what it becomes with the new places behind the last one there is, the number of the
+-- next place that is filled, the bounds that are left, and the splits so far
 pub record Graft : Type 0 where
   pub grown : List Place
   pub at : Option ℕ
@@ -80,9 +89,11 @@ behind_first (bound ∷ bounds) = bounds
 -- the new places as a place becomes a branch, whose children have the next unused numbers
 abbrev pub branched : Problem → ℕ → ℕ → ℕ → Place → Choice → List Place → List Place
 branched problem last shows n place choice grown =
-    slice_set (grown ++ children_at n place.next (last + length grown) (children_of problem choice)) (n - last) (branch_at place (last + length grown) shows)
+    slice_set (grown ++ children_at n place.next (last + length grown) (children_of problem choice))
+        (n - last) (branch_at place (last + length grown) shows)
 
--- one node more: of the places the leaf that grows is the first, and the last one there is has its number before it
+-- one node more: of the places the leaf that grows is the first, and the last one there is has its
+-- number before it
 abbrev pub fills_at : Problem → ℕ → ℕ → ℕ → Place → TreeNode → Graft → Graft
 fills_at problem last shows n place (Branch choice children) graft = record {
   grown = branched problem last shows n place choice graft.grown;
@@ -99,47 +110,58 @@ fills_at problem last shows n place (Leaf leaf) graft = record {
 
 abbrev pub fills_there : Problem → ℕ → ℕ → ℕ → Option Place → TreeNode → Graft → Graft
 fills_there problem last shows n None node graft = graft
-fills_there problem last shows n (Some place) node graft = fills_at problem last shows n place node graft
+fills_there problem last shows n (Some place) node graft =
+    fills_at problem last shows n place node graft
 
 abbrev pub fills : Problem → ℕ → ℕ → Option ℕ → TreeNode → Graft → Graft
 fills problem last shows None node graft = graft
-fills problem last shows (Some n) node graft = fills_there problem last shows n (slice_get graft.grown (n - last)) node graft
+fills problem last shows (Some n) node graft =
+    fills_there problem last shows n (slice_get graft.grown (n - last)) node graft
 
 -- all nodes of a fragment, one after the other; the first is shown from this place of what is kept
 abbrev pub grafted : Problem → ℕ → ℕ → List TreeNode → Graft → Graft
 grafted problem last shows [] graft = graft
-grafted problem last shows (node ∷ tree) graft = grafted problem last (shows + 1) tree (fills problem last shows graft.at node graft)
+grafted problem last shows (node ∷ tree) graft =
+    grafted problem last (shows + 1) tree (fills problem last shows graft.at node graft)
 
 -- a leaf that is in, before it grows
 abbrev pub ungrown : Place → ℕ → List ℕ → Graft
-ungrown place n bounds = record { grown = with_out place None ∷ []; at = Some n; bounds = bounds; splits = [] }
+ungrown place n bounds = record { grown = with_out place None ∷ []; at = Some n; bounds = bounds;
+    splits = [] }
 
 -- what the leaf of a number makes, with the nodes that show it
 abbrev pub grown_at : Problem → State → ℕ → Place → List TreeNode → List ℕ → Graft
-grown_at problem state n place tree bounds = grafted problem (length state.places - 1) (length state.kept) tree (ungrown place n bounds)
+grown_at problem state n place tree bounds =
+    grafted problem (length state.places - 1) (length state.kept) tree (ungrown place n bounds)
 
 -- the places, where the leaf of a number has grown
 abbrev pub placed : List Place → ℕ → List Place → List Place
 placed places n [] = places
 placed places n (root ∷ fresh) = slice_set (places ++ fresh) n root
 
--- the tree has grown by a fragment: its leaf and the new places are what the fragment makes, one node after the other
-pub record Grows (problem : Problem) (state : State) (fragment : Fragment) (splits : List Split) (after : State) : Type 0 where
+-- the tree has grown by a fragment: its leaf and the new places are what the fragment makes, one
+-- node after the other
+pub record Grows (problem : Problem) (state : State) (fragment : Fragment) (splits : List Split)
+    (after : State) : Type 0 where
   pub place : Place
   pub out : IsOut state.places fragment.work place
-  pub splits_are : splits ≡ (grown_at problem state fragment.work.node place fragment.subtree fragment.bounds).splits
+  pub splits_are : splits ≡ (grown_at problem state fragment.work.node place fragment.subtree
+      fragment.bounds).splits
   pub after_is : after ≡ record {
-    places = placed state.places fragment.work.node (grown_at problem state fragment.work.node place fragment.subtree fragment.bounds).grown;
+    places = placed state.places fragment.work.node
+        (grown_at problem state fragment.work.node place fragment.subtree fragment.bounds).grown;
     kept = state.kept ++ fragment.subtree;
     edition = state.edition;
   }
 
 abbrev pub GrowsBy : Problem → State → Fragment → Growth → State → Type 0
 GrowsBy problem state fragment (Grown splits) after = Grows problem state fragment splits after
-GrowsBy problem state fragment (Gone node) after = IsGone state fragment.work × (node ≡ fragment.work.node) × (after ≡ state)
+GrowsBy problem state fragment (Gone node) after = IsGone state fragment.work
+    × (node ≡ fragment.work.node) × (after ≡ state)
 
 -- these are the parts of what was grown
-pub record IsGraft (graft : Graft) (grown : List Place) (at : Option ℕ) (bounds : List ℕ) (splits : List Split) : Type 0 where
+pub record IsGraft (graft : Graft) (grown : List Place) (at : Option ℕ) (bounds : List ℕ)
+    (splits : List Split) : Type 0 where
   pub grown_is : grown ≡ graft.grown
   pub at_is : at ≡ graft.at
   pub bounds_are : bounds ≡ graft.bounds
@@ -150,7 +172,8 @@ pub record IsGrafted (graft : Graft) (grown : List Place) (splits : List Split) 
   pub grown_is : grown ≡ graft.grown
   pub splits_are : splits ≡ graft.splits
 
--- what holds of the place of an index among the new ones: it is in, and is below a smaller number; the first stays where it was
+-- what holds of the place of an index among the new ones: it is in, and is below a smaller number;
+-- the first stays where it was
 abbrev pub IsPlacedBehind : ℕ → Option Above → ℕ → Option Above → Type 0
 IsPlacedBehind last above zero up = up ≡ above
 IsPlacedBehind last above (suc j) up = (a : Above) → up ≡ Some a → a.parent < last + suc j
@@ -160,4 +183,5 @@ pub record StandsInPlace (last : ℕ) (above : Option Above) (j : ℕ) (place : 
   pub up : IsPlacedBehind last above j place.above
 
 abbrev pub AllStand : ℕ → Option Above → List Place → Type 0
-AllStand last above grown = (j : ℕ) (place : Place) → slice_get grown j ≡ Some place → StandsInPlace last above j place
+AllStand last above grown = (j : ℕ) (place : Place) → slice_get grown j ≡ Some place
+    → StandsInPlace last above j place

@@ -20,7 +20,8 @@ shown_at places kept n = shown_by kept (slice_get places n)
 -- the nodes that places show, one after the other
 abbrev pub all_shown : List Place → List TreeNode → List ℕ → List TreeNode
 all_shown places kept [] = []
-all_shown places kept (n ∷ numbers) = option_to_list (shown_at places kept n) ++ all_shown places kept numbers
+all_shown places kept (n ∷ numbers) = option_to_list (shown_at places kept n)
+    ++ all_shown places kept numbers
 
 -- the tree in preorder
 abbrev pub tree_of : State → List TreeNode
@@ -37,7 +38,8 @@ leaf_of state n = leaf_in (shown_at state.places state.kept n)
 
 -- a leaf as it falls back: it shows the empty list of walks, has the bound 0, and is not marked
 abbrev pub fallen : Place → Place
-fallen place = record { above = place.above; next = place.next; shows = 0; kind = Open; bound = 0; out = place.out; examined = None }
+fallen place = record { above = place.above; next = place.next; shows = 0; kind = Open; bound = 0;
+    out = place.out; examined = None }
 
 abbrev pub fallen_by : List Place → ℕ → Place → Kind → List Place
 fallen_by places n place Branched = places

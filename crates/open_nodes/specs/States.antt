@@ -25,7 +25,8 @@ with_places state places = record { places = places; kept = state.kept; edition 
 
 -- the first leaf, which shows the empty list of walks
 abbrev pub first_place : Place
-first_place = record { above = None; next = None; shows = 0; kind = Open; bound = 0; out = None; examined = None }
+first_place = record { above = None; next = None; shows = 0; kind = Open; bound = 0; out = None;
+    examined = None }
 
 abbrev pub one_open_leaf : State
 one_open_leaf = record { places = first_place ∷ []; kept = Leaf (Costs []) ∷ []; edition = 0 }
@@ -43,14 +44,16 @@ above_at places n = above_of (slice_get places n)
 abbrev pub decisions_to : Option Above → ℕ → List Place → List Decision
 decisions_to None fuel places = []
 decisions_to (Some above) zero places = []
-decisions_to (Some above) (suc fuel) places = decisions_to (above_at places above.parent) fuel places ++ above.decision ∷ []
+decisions_to (Some above) (suc fuel) places =
+    decisions_to (above_at places above.parent) fuel places ++ above.decision ∷ []
 
 -- the decisions above a place: each parent has a smaller number
 abbrev pub decisions_of : List Place → ℕ → List Decision
 decisions_of places n = decisions_to (above_at places n) n places
 
 abbrev pub HaveSmallerParents : List Place → Type 0
-HaveSmallerParents places = (n : ℕ) (above : Above) → above_at places n ≡ Some above → above.parent < n
+HaveSmallerParents places = (n : ℕ) (above : Above) → above_at places n ≡ Some above
+    → above.parent < n
 
 -- ---- what is wanted
 
@@ -64,7 +67,8 @@ IsWanted best place = (place.kind ≡ Open) × IsBoundBelow place.bound best
 
 -- a wanted leaf that is in, and is not marked for the edition unless branches are free
 abbrev pub IsTakeable : ℕ → Option ℕ → ℕ → Place → Type 0
-IsTakeable edition best free place = IsWanted best place × (place.out ≡ None) × ((0 < free) ⊎ (place.examined ≢ Some edition))
+IsTakeable edition best free place = IsWanted best place × (place.out ≡ None)
+    × ((0 < free) ⊎ (place.examined ≢ Some edition))
 
 -- how many leaves are out
 abbrev pub out_count : List Place → ℕ
@@ -81,7 +85,8 @@ allowed_of state = sum_by (λ p. allowance_for state.edition p.out) state.places
 -- ---- works
 
 abbrev pub errand_of : Work → Errand
-errand_of work = record { bound = work.bound; edition = work.edition; best = work.best; seen = work.seen; allowance = work.allowance }
+errand_of work = record { bound = work.bound; edition = work.edition; best = work.best;
+    seen = work.seen; allowance = work.allowance }
 
 -- a work that equals this one in every field is out
 pub record IsOut (places : List Place) (work : Work) (place : Place) : Type 0 where
@@ -95,20 +100,26 @@ ForOut places work = (place : Place) × IsOut places work place
 -- ---- what the calls change
 
 abbrev pub with_out : Place → Option Errand → Place
-with_out place out = record { above = place.above; next = place.next; shows = place.shows; kind = place.kind; bound = place.bound; out = out; examined = place.examined }
+with_out place out = record { above = place.above; next = place.next; shows = place.shows;
+    kind = place.kind; bound = place.bound; out = out; examined = place.examined }
 
 abbrev pub marked : Place → Option ℕ → Place
-marked place examined = record { above = place.above; next = place.next; shows = place.shows; kind = place.kind; bound = place.bound; out = None; examined = examined }
+marked place examined = record { above = place.above; next = place.next; shows = place.shows;
+    kind = place.kind; bound = place.bound; out = None; examined = examined }
 
 abbrev pub work_for : State → ℕ → Place → Option ℕ → ℕ → ℕ → Work
-work_for state node place best seen allowance = record { node = node; bound = place.bound; edition = state.edition; decisions = decisions_of state.places node; best = best; seen = seen; allowance = allowance }
+work_for state node place best seen allowance =
+    record { node = node; bound = place.bound; edition = state.edition;
+    decisions = decisions_of state.places node; best = best; seen = seen; allowance = allowance }
 
 -- a leaf of this place goes out with this work
-pub record Sends (state : State) (node : ℕ) (best : Option ℕ) (seen allowance : ℕ) (work : Work) (after : State) : Type 0 where
+pub record Sends (state : State) (node : ℕ) (best : Option ℕ) (seen allowance : ℕ) (work : Work)
+    (after : State) : Type 0 where
   pub place : Place
   pub there : slice_get state.places node ≡ Some place
   pub work_is : work ≡ work_for state node place best seen allowance
-  pub after_is : after ≡ with_places state (slice_set state.places node (with_out place (Some (errand_of work))))
+  pub after_is : after ≡ with_places state
+      (slice_set state.places node (with_out place (Some (errand_of work))))
 
 abbrev pub NoneWanted : Option ℕ → List Place → Type 0
 NoneWanted best places = All (λ p. ¬ IsWanted best p) places
@@ -130,9 +141,12 @@ pub record Waits (state : State) (best : Option ℕ) (free : ℕ) : Type 0 where
 -- what is answered, and what the state is then
 abbrev pub Takes : State → Option ℕ → ℕ → ℕ → ℕ → Take → State → Type 0
 Takes state best free want seen Ripe after = NoneWanted best state.places × (after ≡ state)
-Takes state best free want seen (Taken work) after = MayBeTaken state best free work.node × Sends state work.node best seen (min want free) work after
-Takes state best free want seen (AllOut count) after = Waits state best free × (count ≡ out_count state.places) × (1 ≤ count) × (after ≡ state)
-Takes state best free want seen Dry after = Waits state best free × (out_count state.places ≡ 0) × (after ≡ state)
+Takes state best free want seen (Taken work) after = MayBeTaken state best free work.node
+    × Sends state work.node best seen (min want free) work after
+Takes state best free want seen (AllOut count) after = Waits state best free
+    × (count ≡ out_count state.places) × (1 ≤ count) × (after ≡ state)
+Takes state best free want seen Dry after = Waits state best free × (out_count state.places ≡ 0)
+    × (after ≡ state)
 
 -- the leaf of this number is in
 pub record IsIn (places : List Place) (node : ℕ) : Type 0 where
@@ -144,14 +158,17 @@ pub record IsIn (places : List Place) (node : ℕ) : Type 0 where
 pub record ComesBack (state : State) (work : Work) (examined : Bool) (after : State) : Type 0 where
   pub place : Place
   pub is_out : IsOut state.places work place
-  pub after_is : after ≡ with_places state (slice_set state.places work.node (marked place (if examined then Some work.edition else place.examined)))
+  pub after_is : after ≡ with_places state
+      (slice_set state.places work.node (marked place
+      (if examined then Some work.edition else place.examined)))
 
 abbrev pub IsGone : State → Work → Type 0
 IsGone state work = (place : Place) → IsOut state.places work place → ⊥
 
 abbrev pub GivesBack : State → Work → Bool → GiveBack → State → Type 0
 GivesBack state work examined Back after = ComesBack state work examined after
-GivesBack state work examined (Gone node) after = IsGone state work × (node ≡ work.node) × (after ≡ state)
+GivesBack state work examined (Gone node) after = IsGone state work × (node ≡ work.node)
+    × (after ≡ state)
 
 -- ---- what is kept beside the state
 
@@ -159,7 +176,8 @@ pub record ArePlacesKept (places : List Place) (edition allowed : ℕ) : Type 0 
   pub parents : HaveSmallerParents places
   pub sum : allowed ≡ sum_by (λ p. allowance_for edition p.out) places
   pub limit : allowed ≤ 4294967295
-  pub older : (n : ℕ) (place : Place) (errand : Errand) → slice_get places n ≡ Some place → place.out ≡ Some errand → errand.edition ≤ edition
+  pub older : (n : ℕ) (place : Place) (errand : Errand) → slice_get places n ≡ Some place
+      → place.out ≡ Some errand → errand.edition ≤ edition
 
 -- no leaf but those known dead
 abbrev pub AreNotOpen : List Place → Type 0
@@ -169,12 +187,14 @@ AreNotOpen (place ∷ places) = (place.kind ≢ Open) × AreNotOpen places
 -- the leaves not known dead have at least this bound
 abbrev pub HaveBounds : ℕ → List Place → Type 0
 HaveBounds bound [] = Unit {0}
-HaveBounds bound (place ∷ places) = (place.kind ≡ Open → bound ≤ place.bound) × HaveBounds bound places
+HaveBounds bound (place ∷ places) = (place.kind ≡ Open → bound ≤ place.bound)
+    × HaveBounds bound places
 
 -- a leaf not known dead has this bound
 abbrev pub HasBound : ℕ → List Place → Type 0
 HasBound bound [] = ⊥
-HasBound bound (place ∷ places) = ((place.kind ≡ Open) × (place.bound ≡ bound)) ⊎ HasBound bound places
+HasBound bound (place ∷ places) = ((place.kind ≡ Open) × (place.bound ≡ bound))
+    ⊎ HasBound bound places
 
 -- the least kept bound of leaves not known dead, none exactly where all are
 abbrev pub IsLeastBound : List Place → Option ℕ → Type 0

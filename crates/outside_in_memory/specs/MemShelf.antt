@@ -11,11 +11,13 @@ held_file shelf name = option_map (λ file. file.bytes.items) (get_by_text shelf
 
 -- the numbers of the readings of the name's file that fail
 abbrev pub broken_calls : MemShelf → List ℕ → List ℕ
-broken_calls shelf name = option_map_or (λ file. file.broken.items) (get_by_text shelf.files name) []
+broken_calls shelf name = option_map_or (λ file. file.broken.items) (get_by_text shelf.files name)
+    []
 
 -- the numbers of the calls that fail in a feed of the name's file
 abbrev pub broken_lines : MemShelf → List ℕ → List ℕ
-broken_lines shelf name = option_map_or (λ file. file.broken_lines.items) (get_by_text shelf.files name) []
+broken_lines shelf name = option_map_or (λ file. file.broken_lines.items)
+    (get_by_text shelf.files name) []
 
 -- how many readings of the name's file there were, but for those without room
 abbrev pub call_count : MemShelf → List ℕ → ℕ
@@ -23,7 +25,8 @@ call_count shelf name = option_map_or (λ file. file.calls) (get_by_text shelf.f
 
 -- the next reading of the name fails: there is no such file, or the list has its number
 abbrev pub NextBreaks : MemShelf → List ℕ → Type 0
-NextBreaks shelf name = (held_file shelf name ≡ None) ⊎ Contains (broken_calls shelf name) (call_count shelf name + 1)
+NextBreaks shelf name = (held_file shelf name ≡ None)
+    ⊎ Contains (broken_calls shelf name) (call_count shelf name + 1)
 
 -- how often a reading of the name has failed
 abbrev pub reading_faults : MemShelf → List ℕ → ℕ

@@ -74,8 +74,8 @@ impl Sink for MemSink {
         ensures unbroken { OnOk result (next_break self.old ≡ None) }
         ensures broken { IsErrOf result WriteNo.Failed → IsSomeAnd (next_break self.old) (λ sent.
             written_bytes self.new ≡ written_bytes self.old ++ take sent bytes.now) }
-        ensures once { IsErrOf result WriteNo.Failed → sink_fault_count self.new ≡ sink_fault_count self.old
-            + 1 }
+        ensures once { IsErrOf result WriteNo.Failed
+            → sink_fault_count self.new ≡ sink_fault_count self.old + 1 }
         ensures calls { IsErrOf result WriteNo.Memory
             ⊎ (call_count self.new ≡ call_count self.old + 1) }
         ensures uncalled { IsErrOf result WriteNo.Memory → call_count self.new

@@ -60,7 +60,8 @@ fn op_at(bytes: &[u8]) -> Result<(Op, &[u8]), Unread>
 
 /// So many operations.
 fn ops_at(alloc: Global, count: u32, bytes: &[u8]) -> Result<(Vec<Op>, &[u8]), Unread>
-    ensures { GivesBytesRead (λ x. (x.0.items, x.1.now)) result (packed_items_at packed_op_at count bytes.now) }
+    ensures { GivesBytesRead (λ x. (x.0.items, x.1.now)) result
+        (packed_items_at packed_op_at count bytes.now) }
 {
     let mut ops = Vec::new(alloc);
     let mut rest = bytes;
@@ -123,7 +124,8 @@ fn component_walks_at(alloc: Global, bytes: &[u8]) -> Result<(List<ComponentWalk
 
 /// So many walks of a train's.
 fn walks_in(alloc: Global, count: u32, bytes: &[u8]) -> Result<(Vec<List<Op>>, &[u8]), Unread>
-    ensures { GivesBytesRead (λ x. (x.0.items, x.1.now)) result (packed_items_at packed_walk_at count bytes.now) }
+    ensures { GivesBytesRead (λ x. (x.0.items, x.1.now)) result
+        (packed_items_at packed_walk_at count bytes.now) }
 {
     let mut walks = Vec::new(alloc);
     let mut rest = bytes;
@@ -157,7 +159,8 @@ fn train_at(alloc: Global, bytes: &[u8]) -> Result<(TrainWalks, &[u8]), Unread>
 
 /// So many trains.
 fn trains_in(alloc: Global, count: u32, bytes: &[u8]) -> Result<(Vec<TrainWalks>, &[u8]), Unread>
-    ensures { GivesBytesRead (λ x. (x.0.items, x.1.now)) result (packed_items_at packed_train_at count bytes.now) }
+    ensures { GivesBytesRead (λ x. (x.0.items, x.1.now)) result
+        (packed_items_at packed_train_at count bytes.now) }
 {
     let mut trains = Vec::new(alloc);
     let mut rest = bytes;

@@ -8,7 +8,9 @@ abbrev pub is_at : ℕ → ℕ → Component → Bool
 is_at t o c = (c.train == t) && (o == c.operation)
 
 -- what is kept of each operation of a train has got more by its components, one after another
-pub record AddsComponents {P : Type 0} (step : P → Component → P → Type 0) (t : ℕ) (components : List Component) (old new : List P) : Type 0 where
+pub record AddsComponents {P : Type 0} (step : P → Component → P → Type 0) (t : ℕ)
+    (components : List Component) (old new : List P) : Type 0 where
   pub long : length new ≡ length old
   pub added : (o : ℕ) (before : P) → slice_get old o ≡ Some before
-      → (after : P) × (slice_get new o ≡ Some after) × FoldsTo step before (filter (is_at t o) components) after
+      → (after : P) × (slice_get new o ≡ Some after)
+      × FoldsTo step before (filter (is_at t o) components) after

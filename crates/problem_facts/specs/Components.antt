@@ -18,7 +18,8 @@ pub record TakesComponent (c : Component) (old new : List (List Component)) : Ty
 
 -- each train has those of the components that are of it
 abbrev pub HaveEach : List Component → List (List Component) → Type 0
-HaveEach components each = (t : ℕ) → t < length each → own_in each t ≡ filter (is_of_train t) components
+HaveEach components each = (t : ℕ) → t < length each
+    → own_in each t ≡ filter (is_of_train t) components
 
 pub record AreOwnOf (problem : Problem) (own : OwnComponents) : Type 0 where
   pub long : length own.each.items ≡ length problem.trains

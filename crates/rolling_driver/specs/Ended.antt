@@ -18,14 +18,18 @@ use Rattle.feed_runs.specs.Readers.{CountsFeeds}
 use Rattle.rolling_driver.specs.Printed.{PrintsJournal}
 
 -- what was printed behind this: all that is left, where all before it was printed, and else nothing
-abbrev pub PrintsBehind : Option (List ℕ) → List Entry → Outside → Outside → Result (Unit {0}) PrintNo → Result (Unit {0}) PrintNo → Type 0
+abbrev pub PrintsBehind : Option (List ℕ) → List Entry → Outside → Outside
+    → Result (Unit {0}) PrintNo → Result (Unit {0}) PrintNo → Type 0
 PrintsBehind trees rest old new (Ok done) told = PrintsJournal trees rest old new told
 PrintsBehind trees rest old new (Err why) told = (told ≡ Err why) × (new ≡ old)
 
 -- so it was, whatever readings failed meanwhile
-abbrev pub PrintsRest : Option (List ℕ) → List Entry → Outside → Outside → Result (Unit {0}) PrintNo → Result (Unit {0}) PrintNo → Type 0
-PrintsRest trees rest old new (Ok done) told = PrintsJournal trees rest old (record new { reading = old.reading }) told
-PrintsRest trees rest old new (Err why) told = (told ≡ Err why) × (record new { reading = old.reading } ≡ old)
+abbrev pub PrintsRest : Option (List ℕ) → List Entry → Outside → Outside → Result (Unit {0}) PrintNo
+    → Result (Unit {0}) PrintNo → Type 0
+PrintsRest trees rest old new (Ok done) told =
+    PrintsJournal trees rest old (record new { reading = old.reading }) told
+PrintsRest trees rest old new (Err why) told = (told ≡ Err why)
+    × (record new { reading = old.reading } ≡ old)
 
 abbrev pub searcher_passes : List Searcher → List Pass
 searcher_passes searchers = map (λ s. s.pass) searchers
@@ -36,25 +40,35 @@ module _ {F : Type 0} where
 
   -- what the passes of a run know, those of the feeds first
   abbrev pub known_of : List (Reader F) → List Searcher → List (Known Entry Terms)
-  known_of readers searchers = map known (reader_passes readers) ++ map known (searcher_passes searchers)
+  known_of readers searchers = map known (reader_passes readers)
+      ++ map known (searcher_passes searchers)
 
   -- the passes of a run may be joined: each that was given is there
-  pub record MayEnd (board : Board) (first : Pass) (readers : List (Reader F)) (searchers : List Searcher) : Type 0 where
+  pub record MayEnd (board : Board) (first : Pass) (readers : List (Reader F))
+      (searchers : List Searcher) : Type 0 where
     pub board_is : own_board first ≡ board_of board
     pub is_first : (known first).first ≡ true
     pub owns : OwnsPlaces caller_of (known first)
     pub reader_boards : All (λ r. own_board r.pass ≡ board_of board) readers
     pub searcher_boards : All (λ s. own_board s.pass ≡ board_of board) searchers
-    pub given : (caller : ℕ) → Contains (known first).given caller → Contains ((known first).back ++ map caller_at (reader_passes readers) ++ map caller_at (searcher_passes searchers)) caller
+    pub given : (caller : ℕ) → Contains (known first).given caller
+        → Contains ((known first).back ++ map caller_at (reader_passes readers)
+        ++ map caller_at (searcher_passes searchers)) caller
 
   -- the core that was behind the board, whose history is what all passes have seen together
-  pub record IsEnded (name : F → List ℕ) (faults : F → ℕ) (trees : Option (List ℕ)) (first : Pass) (readers : List (Reader F)) (searchers : List Searcher)
-      (printed : Result (Unit {0}) PrintNo) (old new : Outside) (core : Core) (told : Result (Unit {0}) PrintNo) : Type 0 where
+  pub record IsEnded (name : F → List ℕ) (faults : F → ℕ) (trees : Option (List ℕ)) (first : Pass)
+      (readers : List (Reader F)) (searchers : List Searcher)
+      (printed : Result (Unit {0}) PrintNo) (old new : Outside) (core : Core)
+          (told : Result (Unit {0}) PrintNo) : Type 0 where
     pub sound : IsSound core
     pub terms : (known first).terms ≡ Some (terms_of core)
     pub starts : StartsWith core.history (known first).seen
-    pub reader_starts : All (λ pass. StartsWith core.history (known pass).seen) (reader_passes readers)
-    pub searcher_starts : All (λ pass. StartsWith core.history (known pass).seen) (searcher_passes searchers)
-    pub covered : (place : ℕ) → place < length core.history → Contains (joined_all (known first) (known_of readers searchers)).mine place
+    pub reader_starts : All (λ pass. StartsWith core.history (known pass).seen)
+        (reader_passes readers)
+    pub searcher_starts : All (λ pass. StartsWith core.history (known pass).seen)
+        (searcher_passes searchers)
+    pub covered : (place : ℕ) → place < length core.history
+        → Contains (joined_all (known first) (known_of readers searchers)).mine place
     pub counts : CountsFeeds name faults (map (λ r. r.feed) readers) old.reading new.reading
-    pub prints : PrintsRest trees (drop (length (known first).seen) core.history) old new printed told
+    pub prints : PrintsRest trees (drop (length (known first).seen) core.history) old new printed
+        told

@@ -16,7 +16,8 @@ use Rattle.rolling_driver.specs.declared.opening.Left.TheVariants.{Feeds, Reader
 
 -- what the board of a run is given
 abbrev pub terms_for : Problem → Settings → ℕ → ℕ → Terms
-terms_for problem settings feeds searchers = record { problem = problem; settings = settings; feeds = feeds; searchers = searchers }
+terms_for problem settings feeds searchers =
+    record { problem = problem; settings = settings; feeds = feeds; searchers = searchers }
 
 -- what the first pass knows before it gives passes to feeds
 abbrev pub opening : Terms → Known Entry Terms
@@ -37,15 +38,19 @@ module _ {F : Type 0} where
   feeds_of (Readers readers) = map (λ r. r.feed) readers.items
 
   -- each feed and each searcher has its pass, and may begin
-  pub record IsOpened (has_ended : F → Bool) (faults : F → ℕ) (problem : Problem) (settings : Settings) (workers : ℕ) (feeds : List F) (run : Run F) : Type 0 where
+  pub record IsOpened (has_ended : F → Bool) (faults : F → ℕ) (problem : Problem)
+      (settings : Settings) (workers : ℕ) (feeds : List F) (run : Run F) : Type 0 where
     pub board_is : own_board run.first ≡ board_of run.board
     pub none_fetched : fetched run.first ≡ 0
-    pub knows : known run.first ≡ with_searchers (with_feeds (terms_for problem settings (length feeds) workers)) workers
+    pub knows : known run.first ≡ with_searchers
+        (with_feeds (terms_for problem settings (length feeds) workers)) workers
     pub feeds_are : map (λ r. r.feed) run.readers.items ≡ feeds
     pub unbroken : All (λ r. faults r.feed ≡ 0) run.readers.items
-    pub readers : AreReaders run.board (opening (terms_for problem settings (length feeds) workers)) run.readers.items
+    pub readers : AreReaders run.board (opening (terms_for problem settings (length feeds) workers))
+        run.readers.items
     pub ready : AreReady has_ended run.board run.readers.items
     pub few : length feeds ≤ MOST_CALLERS
     pub as_many : length run.searchers.items ≡ workers
-    pub searchers : AreSeats run.board (with_feeds (terms_for problem settings (length feeds) workers)) run.searchers.items
+    pub searchers : AreSeats run.board (with_feeds
+        (terms_for problem settings (length feeds) workers)) run.searchers.items
     pub seated : All (IsSeated run.board run.crew settings.rule) run.searchers.items

@@ -24,12 +24,16 @@ IsRowWalk order rows e (p ∷ rest) = (e ≡ p) × Goes order rows p rest
 -- step by step from o to z, with these operations before z
 abbrev pub Chain : List ℕ → List (List ℕ) → ℕ → List ℕ → ℕ → Type 0
 Chain order rows o [] z = o ≡ z
-Chain order rows o (p ∷ front) z = (o ≡ p) × ((s : ℕ) × StepsAlong order rows p s × Chain order rows s front z)
+Chain order rows o (p ∷ front) z = (o ≡ p)
+    × ((s : ℕ) × StepsAlong order rows p s × Chain order rows s front z)
 
 -- the least sum of durations from e up to but not including o
-pub record IsLeastOnRows (train : List Operation) (order : List ℕ) (rows : List (List ℕ)) (e o least : ℕ) : Type 0 where
-  pub reached : (front : List ℕ) × Chain order rows e front o × (least ≡ sum_by (duration_of train) front)
-  pub at_most : (front : List ℕ) → Chain order rows e front o → least ≤ sum_by (duration_of train) front
+pub record IsLeastOnRows (train : List Operation) (order : List ℕ) (rows : List (List ℕ))
+    (e o least : ℕ) : Type 0 where
+  pub reached : (front : List ℕ) × Chain order rows e front o
+      × (least ≡ sum_by (duration_of train) front)
+  pub at_most : (front : List ℕ) → Chain order rows e front o
+      → least ≤ sum_by (duration_of train) front
 
 -- each walk from e has the operation
 abbrev pub IsOnEach : List ℕ → List (List ℕ) → ℕ → ℕ → Type 0

@@ -1,4 +1,5 @@
-//! Which operations all walks of a train have that go along given rows, by an order of its operations from the exit back.
+//! Which operations all walks of a train have that go along given rows, by an order of its
+//! operations from the exit back.
 //!
 //! A `Row` has the operations to which walks go on from one. `marks_of` gives a mark to each
 //! operation that all walks from the entry have: with its place, the least sum of durations up to

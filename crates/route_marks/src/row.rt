@@ -1,4 +1,4 @@
-ghost use Rattle.std.specs.Prelude.{◌≡◌, [], ◌∷◌, ◌++◌, length, OnOk, if◌then◌else◌};
+ghost use Rattle.std.specs.Prelude.{◌≡◌, [], ◌∷◌, ◌++◌, length, OnOk, OnErr, if◌then◌else◌};
 
 use disp_model::Memory;
 use std::alloc::Global;
@@ -59,7 +59,8 @@ impl Row {
 
     /// Adds an operation at the end.
     pub fn push(&mut self, next: u32) -> Result<(), Memory>
-        ensures { OnOk result (self.new ≡ self.old ++ next ∷ []) }
+        ensures ok { OnOk result (self.new ≡ self.old ++ next ∷ []) }
+        ensures err { OnErr result (self.new ≡ self.old) }
     {
         if self.count < FEW && self.many.len() == 0 {
             self.few[self.count] = next;
@@ -76,7 +77,9 @@ impl Row {
 
     /// Adds an operation at the end, where it is kept.
     pub fn push_if(&mut self, next: u32, kept: bool) -> Result<(), Memory>
-        ensures { OnOk result (self.new ≡ (if kept then self.old ++ next ∷ [] else self.old)) }
+        ensures ok { OnOk result
+            (self.new ≡ (if kept then self.old ++ next ∷ [] else self.old)) }
+        ensures err { OnErr result (self.new ≡ self.old) }
     {
         if kept {
             self.push(next)?;

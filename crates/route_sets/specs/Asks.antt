@@ -45,27 +45,46 @@ first_some (Some n) other = Some n
 
 -- what two asks of one operation ask together
 abbrev pub joined : Ask → Ask → Ask
-joined a b = record { wanted = a.wanted || b.wanted; skipped = a.skipped || b.skipped || differ a.next b.next; next = first_some a.next b.next }
+joined a b = record {
+  wanted = a.wanted || b.wanted;
+  skipped = a.skipped || b.skipped
+      || differ a.next b.next;
+  next = first_some a.next b.next;
+}
 
 -- the route has the operation that is started or chosen, and goes on from a chosen one as it says
 abbrev pub demand_of_fixing : ℕ → Fixing → Demand
-demand_of_fixing t (Started u o time) = if u == t then record { op = o; ask = record { wanted = true; skipped = false; next = None } } else nothing
-demand_of_fixing t (Chosen u o next) = if u == t then record { op = o; ask = record { wanted = true; skipped = false; next = Some next } } else nothing
+demand_of_fixing t (Started u o time) = if u == t
+    then record { op = o; ask = record { wanted = true; skipped = false; next = None } }
+    else nothing
+demand_of_fixing t (Chosen u o next) = if u == t
+    then record { op = o; ask = record { wanted = true; skipped = false; next = Some next } }
+    else nothing
 demand_of_fixing t (NotBefore u o time) = nothing
 
 -- the route goes on from an operation as decided, has one that is run, and not one that is skipped
 abbrev pub demand_of_decision : ℕ → Decision → Demand
-demand_of_decision t (Go o next) = if o.train == t then record { op = o.op; ask = record { wanted = false; skipped = false; next = Some next } } else nothing
+demand_of_decision t (Go o next) = if o.train == t
+    then record { op = o.op; ask = record { wanted = false; skipped = false; next = Some next } }
+    else nothing
 demand_of_decision t (First a b) = nothing
-demand_of_decision t (Run o) = if o.train == t then record { op = o.op; ask = record { wanted = true; skipped = false; next = None } } else nothing
-demand_of_decision t (Skip o) = if o.train == t then record { op = o.op; ask = record { wanted = false; skipped = true; next = None } } else nothing
+demand_of_decision t (Run o) = if o.train == t
+    then record { op = o.op; ask = record { wanted = true; skipped = false; next = None } }
+    else nothing
+demand_of_decision t (Skip o) = if o.train == t
+    then record { op = o.op; ask = record { wanted = false; skipped = true; next = None } }
+    else nothing
 
 -- the new asks are met exactly where the old ones are, and more holds of the route
 pub record TakesAsks (More : List ℕ → Type 0) (old new : List Ask) : Type 0 where
   pub long : length new ≡ length old
-  pub both : (route : List ℕ) → AreWithinTrain (length old) route → (AreMet old route × More route) ↔ AreMet new route
+  pub both : (route : List ℕ) → AreWithinTrain (length old) route → (AreMet old route × More route)
+      ↔ AreMet new route
 
 -- the asks are met by the routes that agree with the fixings and decisions of the train
-pub record AreAsks (count t : ℕ) (fixings : List Fixing) (decisions : List Decision) (asks : List Ask) : Type 0 where
+pub record AreAsks (count t : ℕ) (fixings : List Fixing) (decisions : List Decision)
+    (asks : List Ask) : Type 0 where
   pub long : length asks ≡ count
-  pub met : (route : List ℕ) → AreWithinTrain count route → (All (AgreesWithFixing t route) fixings × All (AgreesWithDecision t route) decisions) ↔ AreMet asks route
+  pub met : (route : List ℕ) → AreWithinTrain count route
+      → (All (AgreesWithFixing t route) fixings × All (AgreesWithDecision t route) decisions)
+      ↔ AreMet asks route

@@ -23,8 +23,10 @@ pub record IsMarkOf (node : Node) (t o : ℕ) (mark : Mark) : Type 0 where
 
 -- the marks of forced operations have least sums, and places that fall along the routes
 pub record AreMarksInOrder (node : Node) (t : ℕ) (a b : ℕ) (from to : Mark) : Type 0 where
-  pub arc : to.place < from.place → IsTrainArc node (op_of_train t a) (op_of_train t b) (to.sum - from.sum)
-  pub none : from.place ≤ to.place → (sum : ℕ) → IsTrainArc node (op_of_train t a) (op_of_train t b) sum → ⊥
+  pub arc : to.place < from.place → IsTrainArc node (op_of_train t a) (op_of_train t b)
+      (to.sum - from.sum)
+  pub none : from.place ≤ to.place → (sum : ℕ)
+      → IsTrainArc node (op_of_train t a) (op_of_train t b) sum → ⊥
 
 -- the operation that a mark names as the one that comes next, and what follows it
 abbrev pub next_followed : ℕ → Option ℕ → (ℕ → Option (List ℕ)) → Option (List ℕ)
@@ -34,15 +36,16 @@ next_followed o (Some s) onward = option_map (λ rest. o ∷ rest) (onward s)
 -- a marked operation, and what follows it up to the exit
 abbrev pub mark_followed : ℕ → Option Mark → (ℕ → Option (List ℕ)) → Option (List ℕ)
 mark_followed o None onward = None
-mark_followed o (Some mark) onward = if mark.place == 0 then Some (o ∷ []) else next_followed o mark.next onward
+mark_followed o (Some mark) onward = if mark.place == 0 then Some (o ∷ [])
+    else next_followed o mark.next onward
 
 -- from an operation on, each time to the one that comes next, to the exit in so many steps at most
 abbrev pub follow : List (Option Mark) → ℕ → ℕ → Option (List ℕ)
 follow marks zero o = None
 follow marks (suc steps) o = mark_followed o (mark_at marks o) (λ s. follow marks steps s)
 
--- an operation itself, where its mark names none that comes next and it is not at place 0, that of the exit; else what is
--- found from the next one on
+-- an operation itself, where its mark names none that comes next and it is not at place 0, that of
+-- the exit; else what is found from the next one on
 abbrev pub next_parted : ℕ → ℕ → Option ℕ → (ℕ → Option ℕ) → Option ℕ
 next_parted o place None onward = if place == 0 then None else Some o
 next_parted o place (Some s) onward = onward s
@@ -51,18 +54,21 @@ abbrev pub mark_parted : ℕ → Option Mark → (ℕ → Option ℕ) → Option
 mark_parted o None onward = None
 mark_parted o (Some mark) onward = next_parted o mark.place mark.next onward
 
--- from an operation on, each time to the one that comes next, where the marks first name none, in so many steps at most
+-- from an operation on, each time to the one that comes next, where the marks first name none, in
+-- so many steps at most
 abbrev pub parting : List (Option Mark) → ℕ → ℕ → Option ℕ
 parting marks zero o = None
 parting marks (suc steps) o = mark_parted o (mark_at marks o) (λ s. parting marks steps s)
 
 -- each allowed route begins with the operation
 abbrev pub BeginsEach : Node → ℕ → ℕ → Type 0
-BeginsEach node t e = (route : List ℕ) → IsAllowed node t route → (rest : List ℕ) × (route ≡ e ∷ rest)
+BeginsEach node t e = (route : List ℕ) → IsAllowed node t route → (rest : List ℕ)
+    × (route ≡ e ∷ rest)
 
--- rows of an order of a train's operations: the walks along them from the last operation of the order on are the
--- allowed routes
-pub record AreAllowedRows (node : Node) (t : ℕ) (order : List ℕ) (rows : List (List ℕ)) : Type 0 where
+-- rows of an order of a train's operations: the walks along them from the last operation of the
+-- order on are the allowed routes
+pub record AreAllowedRows (node : Node) (t : ℕ) (order : List ℕ) (rows : List (List ℕ))
+    : Type 0 where
   pub laid : IsLaid (train_at node.problem t) order rows
   pub walk : (route : List ℕ) → IsAllowed node t route → IsRowWalk order rows (last_of order) route
   pub route : (route : List ℕ) → IsRowWalk order rows (last_of order) route → IsAllowed node t route
@@ -70,11 +76,15 @@ pub record AreAllowedRows (node : Node) (t : ℕ) (order : List ℕ) (rows : Lis
 -- what is kept of a train's routes says which are allowed at the node
 pub record AreRoutesOf (node : Node) (t : ℕ) (routes : Routes) : Type 0 where
   pub left : IsTrue routes.left ↔ HasRoute node t
-  pub marks : (o : ℕ) → MatchOption (mark_at routes.marks.items o) (IsForced node (op_of_train t o) → ⊥) (IsMarkOf node t o)
-  pub ordered : (a b : ℕ) (from to : Mark) → mark_at routes.marks.items a ≡ Some from → mark_at routes.marks.items b ≡ Some to → AreMarksInOrder node t a b from to
+  pub marks : (o : ℕ) → MatchOption (mark_at routes.marks.items o)
+      (IsForced node (op_of_train t o) → ⊥) (IsMarkOf node t o)
+  pub ordered : (a b : ℕ) (from to : Mark) → mark_at routes.marks.items a ≡ Some from
+      → mark_at routes.marks.items b ≡ Some to → AreMarksInOrder node t a b from to
   pub begins : BeginsEach node t routes.entry
-  pub ends : (o : ℕ) (mark : Mark) → mark_at routes.marks.items o ≡ Some mark → (mark.place ≡ 0) ↔ IsExit (train_at node.problem t) o
-  pub short : (o : ℕ) (mark : Mark) → mark_at routes.marks.items o ≡ Some mark → mark.place < length routes.marks.items
+  pub ends : (o : ℕ) (mark : Mark) → mark_at routes.marks.items o ≡ Some mark → (mark.place ≡ 0)
+      ↔ IsExit (train_at node.problem t) o
+  pub short : (o : ℕ) (mark : Mark) → mark_at routes.marks.items o ≡ Some mark
+      → mark.place < length routes.marks.items
   pub allowed : IsTrue routes.left → AreAllowedRows node t routes.order.items routes.rows
   pub is_order : IsTrue routes.left → IsOrder (train_at node.problem t) routes.order.items
 
@@ -85,4 +95,5 @@ IsOnlyRoute node t None = (route : List ℕ) → HasOneRoute node t route → �
 
 -- where routes are allowed, none of them parts from another only where one alone is allowed
 abbrev pub IsAloneUnparted : Node → ℕ → Option ℕ → Type 0
-IsAloneUnparted node t fork = fork ≡ None → HasRoute node t → (route : List ℕ) × HasOneRoute node t route
+IsAloneUnparted node t fork = fork ≡ None → HasRoute node t → (route : List ℕ)
+    × HasOneRoute node t route

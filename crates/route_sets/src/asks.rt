@@ -133,7 +133,8 @@ fn demand_of_decision(train: u32, decision: &Decision) -> Demand
 /// what no route can do.
 fn add(asks: &mut Vec<Ask>, demand: Demand)
     requires { 0 < length asks.old.items }
-    ensures { TakesAsks (λ route. MeetsAsk route demand.op demand.ask) asks.old.items asks.new.items }
+    ensures { TakesAsks (λ route. MeetsAsk route demand.op demand.ask)
+        asks.old.items asks.new.items }
 {
     let at = demand.op as usize;
     if at < asks.len() {

@@ -167,7 +167,8 @@ impl Routes {
     pub fn only_next(&self, op: u32) -> Option<u32>
         ensures { (node : Node) (t : ℕ) → AreRoutesOf node t self.now → (s : ℕ)
             → (result ≡ Some s)
-            ↔ (IsForced node (op_of_train t op) × GoesTo node (op_of_train t op) (op_of_train t s)) }
+            ↔ (IsForced node (op_of_train t op)
+            × GoesTo node (op_of_train t op) (op_of_train t s)) }
     {
         self.mark(op)?.next
     }

@@ -12,8 +12,8 @@ use Rattle.share_bound.specs.Known.{HoldFor}
 use Rattle.search_crew.specs.declared.ground.Ground.{Ground}
 use Rattle.search_crew.specs.declared.ground.Ground.TheVariants as ground
 
--- a graph at a node of the problem under these fixings, which are an edition's, where what is known of shares
--- holds; or a leaf that shows that the root is dead
+-- a graph at a node of the problem under these fixings, which are an edition's, where what is known
+-- of shares holds; or a leaf that shows that the root is dead
 abbrev pub IsGround : Problem → List Fixing → Ground → Type 0
 IsGround problem fixings (ground.Alive alive) =
     (alive.graph.problem ≡ problem) × (alive.graph.fixings ≡ fixings)

@@ -30,8 +30,12 @@ pub record KeepsOn (before after : Pass) : Type 0 where
 
 -- an entry settled or stopped the edition so, or a newer one is the newest
 abbrev pub IsAnswered : ℕ → List Entry → Answer → Type 0
-IsAnswered edition seen (answer.Optimal cost) = (tree : List TreeNode) × Contains seen (Settled edition (verdict.Optimal cost) tree)
-IsAnswered edition seen answer.Infeasible = (tree : List TreeNode) × Contains seen (Settled edition verdict.Infeasible tree)
-IsAnswered edition seen (answer.Unfinished (Budget spent)) = (bound : ℕ) × Contains seen (Stopped edition spent bound)
-IsAnswered edition seen (answer.Unfinished (Newer number)) = (number ≡ newest seen) × (edition < number)
+IsAnswered edition seen (answer.Optimal cost) = (tree : List TreeNode)
+    × Contains seen (Settled edition (verdict.Optimal cost) tree)
+IsAnswered edition seen answer.Infeasible = (tree : List TreeNode)
+    × Contains seen (Settled edition verdict.Infeasible tree)
+IsAnswered edition seen (answer.Unfinished (Budget spent)) = (bound : ℕ)
+    × Contains seen (Stopped edition spent bound)
+IsAnswered edition seen (answer.Unfinished (Newer number)) = (number ≡ newest seen)
+    × (edition < number)
 IsAnswered edition seen answer.Memory = Unit {0}

@@ -15,6 +15,8 @@ pub record IsRun (core : Core) : Type 0 where
   pub feeds : 0 < length core.ended
 
 -- a subtree grows at a work's node under these fixings, by no more branches than were allowed
-pub record IsGrownAt (problem : Problem) (fixings : List Fixing) (work : Work) (subtree : List TreeNode) (bounds : List ℕ) : Type 0 where
-  pub grows : GrowsBelow Fixed work.best (node_at problem fixings work.decisions ∷ []) subtree bounds
+pub record IsGrownAt (problem : Problem) (fixings : List Fixing) (work : Work)
+    (subtree : List TreeNode) (bounds : List ℕ) : Type 0 where
+  pub grows : GrowsBelow Fixed work.best (node_at problem fixings work.decisions ∷ []) subtree
+      bounds
   pub few : branches subtree ≤ work.allowance

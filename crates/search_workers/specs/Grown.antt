@@ -15,8 +15,8 @@ pub record IsPlanAt (node : Node) (plan : List Event) : Type 0 where
   pub valid : IsValid node.problem node.fixings plan
   pub within : All (λ e. e.time ≤ horizon node.problem.trains) plan
 
--- a subtree for the node by no more branches than were allowed, with a plan that is valid there if one was found; or the
--- node is examined, and this is its bound
+-- a subtree for the node by no more branches than were allowed, with a plan that is valid there if
+-- one was found; or the node is examined, and this is its bound
 abbrev pub IsGrownOf : Rule → Node → Option ℕ → ℕ → ℕ → Growth → Type 0
 IsGrownOf rule node best allowance bound (growth.Subtree nodes bounds plan) =
     GrowsBelow rule best (node ∷ []) nodes bounds × (branches nodes ≤ allowance)

@@ -211,11 +211,11 @@ leaves train base order rows place at time through row times new is relaxed = re
           omega (arith, lower.2, is.through_is, found.2, time_is, whole, bases, lasts),
         )
 
-pub entered_all : (train : List Operation) (base : ℕ → ℕ) (order : List ℕ) (rows : List (List ℕ))
-    (times : List (Option ℕ)) → IsLaid train order rows → IsEntering train base order rows 0 times
-    → AreTimes train base order rows times
-entered_all train base order rows times laid before = record {
+pub entered_all : (train : List Operation) (base : ℕ → ℕ) (order : List ℕ) (steps : List (List ℕ))
+    (times : List (Option ℕ)) → IsLaid train order steps → IsEntering train base order steps 0 times
+    → AreTimes train base order steps times
+entered_all train base order steps times laid before = record {
   sound = before.sound;
-  least = λ o front chain. let place = chain_place train order rows front o laid chain in
-      in_time train base order rows 0 times laid before place.0 o front place.1 (omega arith) chain;
+  least = λ o front chain. let place = chain_place train order steps front o laid chain in
+      in_time train base order steps 0 times laid before place.0 o front place.1 (omega arith) chain;
 }

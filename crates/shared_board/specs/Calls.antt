@@ -25,10 +25,12 @@ use Rattle.shared_board.specs.Callers.{terms_of, searcher_caller, caller_of}
 
 -- ---- what a pass tells of the stored core
 
--- the core may be behind the lock when the pass gets the turn: it has the pass's terms, is sound, and its history begins with
--- what the pass has seen, past which it names the pass's caller nowhere
+-- the core may be behind the lock when the pass gets the turn: it has the pass's terms, is sound,
+-- and its history begins with what the pass has seen, past which it names the pass's caller nowhere
 abbrev pub FindsCore : Known Entry Terms → Core → Type 0
-FindsCore v core = MayFindAt (λ (s : Stored). s.core.history) caller_of (λ (s : Stored). terms_of s.core) (λ (s : Stored). IsSound s.core) v.caller v.terms v.seen v.count (record { core = core })
+FindsCore v core = MayFindAt (λ (s : Stored). s.core.history) caller_of
+    (λ (s : Stored). terms_of s.core) (λ (s : Stored). IsSound s.core) v.caller v.terms v.seen
+    v.count (record { core = core })
 
 -- what was seen is a legal history for the pass's terms
 abbrev pub IsLegalSeen : Known Entry Terms → Type 0
@@ -55,17 +57,20 @@ HasLines v = IsFeed v ⊎ (v.first ≡ true)
 pub record HasCaller (v : Known Entry Terms) (caller : ℕ) : Type 0 where
   pub terms : Terms
   pub terms_are : v.terms ≡ Some terms
-  pub there : (caller < terms.feeds) ⊎ ((searcher_caller 0 ≤ caller) × (caller < searcher_caller terms.searchers))
+  pub there : (caller < terms.feeds) ⊎ ((searcher_caller 0 ≤ caller)
+      × (caller < searcher_caller terms.searchers))
 
 -- ---- what searchers owe
 
--- under the fixings of its work's edition, which the pass has seen, the fragment grows at the work's node, by no more branches
--- than were allowed
+-- under the fixings of its work's edition, which the pass has seen, the fragment grows at the
+-- work's node, by no more branches than were allowed
 pub record IsGrowthOf (v : Known Entry Terms) (fragment : Fragment) : Type 0 where
   pub terms : Terms
   pub terms_are : v.terms ≡ Some terms
   pub edition : fragment.work.edition ≤ newest v.seen
-  pub grows : GrowsBelow terms.settings.rule fragment.work.best (node_at terms.problem (fixings_after fragment.work.edition v.seen) fragment.work.decisions ∷ []) fragment.subtree fragment.bounds
+  pub grows : GrowsBelow terms.settings.rule fragment.work.best
+      (node_at terms.problem (fixings_after fragment.work.edition v.seen) fragment.work.decisions
+      ∷ []) fragment.subtree fragment.bounds
   pub few : branches fragment.subtree ≤ fragment.work.allowance
 
 -- under the fixings of its edition, which the pass has seen, the work's node is examined
@@ -73,7 +78,8 @@ pub record IsExaminedFor (v : Known Entry Terms) (work : Work) : Type 0 where
   pub terms : Terms
   pub terms_are : v.terms ≡ Some terms
   pub edition : work.edition ≤ newest v.seen
-  pub examined : IsExamined terms.settings.rule (node_at terms.problem (fixings_after work.edition v.seen) work.decisions) work.bound
+  pub examined : IsExamined terms.settings.rule
+      (node_at terms.problem (fixings_after work.edition v.seen) work.decisions) work.bound
 
 -- no time of the plan is above the horizon
 pub record IsPlanFor (v : Known Entry Terms) (plan : List Event) : Type 0 where
@@ -119,11 +125,13 @@ pub record MayEnter (v : Known Entry Terms) (event : CoreEvent) : Type 0 where
 -- ---- what a call does
 
 -- the event was one step of the stored core, alone, with this reply
-pub record Enters (v : Known Entry Terms) (event : CoreEvent) (told : CoreReply) (w : Known Entry Terms) : Type 0 where
+pub record Enters (v : Known Entry Terms) (event : CoreEvent) (told : CoreReply)
+    (w : Known Entry Terms) : Type 0 where
   pub before : Core
   pub after : Core
   pub steps : Steps before event told after
-  pub ran : Ran (λ (s : Stored). s.core.history) caller_of (λ (s : Stored). terms_of s.core) (λ (s : Stored). IsSound s.core) v (record { core = before }) (record { core = after }) w
+  pub ran : Ran (λ (s : Stored). s.core.history) caller_of (λ (s : Stored). terms_of s.core)
+      (λ (s : Stored). IsSound s.core) v (record { core = before }) (record { core = after }) w
 
 -- this core was found, and all its history is seen; nothing else has changed
 pub record Looks (v : Known Entry Terms) (core : Core) (w : Known Entry Terms) : Type 0 where

@@ -12,8 +12,8 @@ use Rattle.shared_board.specs.Standing.{SameRole}
 abbrev pub entries_by : ℕ → List Entry → List Entry
 entries_by caller history = filter (is_line_of caller) history
 
--- calls came between: the pass is of the same board, in the same role, and has seen no less; its places are those of its caller
--- if they were
+-- calls came between: the pass is of the same board, in the same role, and has seen no less; its
+-- places are those of its caller if they were
 pub record PassGoesOn (before after : Pass) : Type 0 where
   pub board_is : own_board after ≡ own_board before
   pub fetched_is : fetched after ≡ fetched before

@@ -1,4 +1,5 @@
--- The plan of a JSON value, and the objective value that it states. Keys that are not named here do not matter.
+-- The plan of a JSON value, and the objective value that it states. Keys that are not named here do
+-- not matter.
 use Rattle.std.specs.Prelude.{ℕ, List, length, Option, Some, codes}
 use Rattle.serde_json.specs.Data.{Data}
 use Rattle.disp_model.specs.declared.plan.Event.{Event}

@@ -43,9 +43,13 @@ pub record IsReadAsSolution (bytes : List ℕ) (plan : List Event) (stated : Opt
 abbrev pub BreaksSolution : Data → SolutionNo → Type 0
 BreaksSolution d NotJson = ⊥
 BreaksSolution d (Shape place) = broken_solution_place rule.Shape d ≡ Some place
-BreaksSolution d (NotWhole place) = (broken_solution_place rule.Shape d ≡ None) × (broken_solution_place rule.Whole d ≡ Some place)
-BreaksSolution d (TooLarge place) = (broken_solution_place rule.Shape d ≡ None) × (broken_solution_place rule.Whole d ≡ None) × (broken_solution_place rule.Limit d ≡ Some place)
-BreaksSolution d (TooMany count) = IsPlainSolution d × (events_given d ≡ count) × (MOST_EVENTS < count)
+BreaksSolution d (NotWhole place) = (broken_solution_place rule.Shape d ≡ None)
+    × (broken_solution_place rule.Whole d ≡ Some place)
+BreaksSolution d (TooLarge place) = (broken_solution_place rule.Shape d ≡ None)
+    × (broken_solution_place rule.Whole d ≡ None)
+    × (broken_solution_place rule.Limit d ≡ Some place)
+BreaksSolution d (TooMany count) = IsPlainSolution d × (events_given d ≡ count)
+    × (MOST_EVENTS < count)
 BreaksSolution d Memory = Unit {0}
 
 -- why there is no solution of the bytes; want of memory may come whatever they are
@@ -59,7 +63,9 @@ IsRefusedSolution bytes Memory = Unit {0}
 
 -- a plan is read of the text, or it is refused for another cause than want of memory
 abbrev pub HasSolutionAnswer : List ℕ → Type 0
-HasSolutionAnswer bytes = ((plan : List Event) × (stated : Option ℕ) × IsReadAsSolution bytes plan stated) ⊎ ((why : SolutionNo) × IsRefusedSolution bytes why × (why ≢ Memory))
+HasSolutionAnswer bytes = ((plan : List Event) × (stated : Option ℕ)
+    × IsReadAsSolution bytes plan stated) ⊎
+    ((why : SolutionNo) × IsRefusedSolution bytes why × (why ≢ Memory))
 
 -- ---- for private clauses
 

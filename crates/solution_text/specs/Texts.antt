@@ -7,7 +7,8 @@ use Rattle.disp_model.specs.declared.plan.Event.{Event}
 -- an event in a solution (format: keys in order, compact)
 abbrev pub event_text : Event → List ℕ
 event_text e =
-    codes "{\"operation\":" ++ decimal e.operation ++ codes ",\"time\":" ++ decimal e.time ++ codes ",\"train\":" ++ decimal e.train ++ codes "}"
+    codes "{\"operation\":" ++ decimal e.operation ++ codes ",\"time\":" ++ decimal e.time
+        ++ codes ",\"train\":" ++ decimal e.train ++ codes "}"
 
 -- an event behind another one
 abbrev pub next_event_text : Event → List ℕ
@@ -20,4 +21,5 @@ events_text (e ∷ plan) = event_text e ++ flat_map next_event_text plan
 
 -- a solution: the events in order, and the cost (format)
 abbrev pub solution_text : List Event → ℕ → List ℕ
-solution_text plan cost = codes "{\"events\":[" ++ events_text plan ++ codes "],\"objective_value\":" ++ decimal cost ++ codes "}"
+solution_text plan cost = codes "{\"events\":[" ++ events_text plan
+    ++ codes "],\"objective_value\":" ++ decimal cost ++ codes "}"

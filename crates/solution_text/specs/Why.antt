@@ -18,7 +18,8 @@ abbrev pub solution_place_text : SolutionPlace → List ℕ
 solution_place_text place.Root = codes "/"
 solution_place_text place.Events = codes "/events"
 solution_place_text (place.Event k) = codes "/events/" ++ decimal k
-solution_place_text (place.EventKey k key) = codes "/events/" ++ decimal k ++ codes "/" ++ key_text key
+solution_place_text (place.EventKey k key) = codes "/events/" ++ decimal k ++ codes "/"
+    ++ key_text key
 solution_place_text place.ObjectiveValue = codes "/objective_value"
 
 abbrev pub solution_why_text : SolutionNo → List ℕ

@@ -23,8 +23,10 @@ fault_of lasts_its_duration j = TooShort j
 
 -- the fault is that of the first rule that the event breaks
 abbrev pub IsFaultOf : Problem → List Event → Event → Fault → Type 0
-IsFaultOf problem stood e fault = (rule : Rule) × (fault ≡ fault_of rule (length stood)) × IsFirstBroken problem stood e rule
+IsFaultOf problem stood e fault = (rule : Rule) × (fault ≡ fault_of rule (length stood))
+    × IsFirstBroken problem stood e rule
 
 -- the event keeps each rule, or the fault is that of the first that it breaks
 abbrev pub IsEventJudged : Problem → List Event → Event → Result (Unit {0}) Fault → Type 0
-IsEventJudged problem stood e answer = MatchResult answer (λ _. (rule : Rule) → KeepsRule problem stood e rule) (IsFaultOf problem stood e)
+IsEventJudged problem stood e answer = MatchResult answer
+    (λ _. (rule : Rule) → KeepsRule problem stood e rule) (IsFaultOf problem stood e)

@@ -1,4 +1,5 @@
--- The rules that an event of a plan keeps by itself and with its own train, by the events that stand before it.
+-- The rules that an event of a plan keeps by itself and with its own train, by the events that
+-- stand before it.
 use Rattle.std.specs.Prelude.{◌≡◌, ℕ, ◌+◌, ◌<◌, ◌≤◌, List, [], ◌∷◌, ◌++◌, length, Some, IfSome}
 use Rattle.disp_model.specs.declared.plan.Event.{Event}
 use Rattle.disp_model.specs.declared.train.Operation.{Operation}
@@ -42,19 +43,25 @@ KeepsRule problem stood e operation_there = e.operation < length (train_at probl
 -- it is no earlier than the event before it
 KeepsRule problem stood e time_rises = (d : Event) → EndsWith stood d → d.time ≤ e.time
 -- the first event of a train is an entry
-KeepsRule problem stood e first_is_entry = run_of e.train stood ≡ [] → IsEntry (train_at problem e.train) e.operation
+KeepsRule problem stood e first_is_entry = run_of e.train stood ≡ []
+    → IsEntry (train_at problem e.train) e.operation
 -- any other is a successor of its train's event before it
 KeepsRule problem stood e next_is_successor =
-    (d : Event) → EndsWith (run_of e.train stood) d → IsSuccessor (train_at problem e.train) d.operation e.operation
+    (d : Event) → EndsWith (run_of e.train stood) d
+        → IsSuccessor (train_at problem e.train) d.operation e.operation
 -- it starts at its operation's lower or later
-KeepsRule problem stood e from_lower = (o : Operation) → operation_of problem e ≡ Some o → o.lower ≤ e.time
+KeepsRule problem stood e from_lower = (o : Operation) → operation_of problem e ≡ Some o
+    → o.lower ≤ e.time
 -- and not after its upper
-KeepsRule problem stood e until_upper = (o : Operation) → operation_of problem e ≡ Some o → IfSome o.upper (λ u. e.time ≤ u)
+KeepsRule problem stood e until_upper = (o : Operation) → operation_of problem e ≡ Some o
+    → IfSome o.upper (λ u. e.time ≤ u)
 -- its train's event before it lasts its operation's duration at least
 KeepsRule problem stood e lasts_its_duration =
-    (d : Event) → EndsWith (run_of e.train stood) d → d.time + duration_of (train_at problem e.train) d.operation ≤ e.time
+    (d : Event) → EndsWith (run_of e.train stood) d
+        → d.time + duration_of (train_at problem e.train) d.operation ≤ e.time
 
 -- of the rules, this is the first that the event does not keep
-pub record IsFirstBroken (problem : Problem) (stood : List Event) (e : Event) (rule : Rule) : Type 0 where
+pub record IsFirstBroken (problem : Problem) (stood : List Event) (e : Event) (rule : Rule)
+    : Type 0 where
   pub broken : KeepsRule problem stood e rule → ⊥
   pub earlier : (other : Rule) → rank other < rank rule → KeepsRule problem stood e other

@@ -13,4 +13,5 @@ pub record IsStatedOtherwise (cost : ℕ) (stated : Option ℕ) (fault : Fault) 
 -- the answer is the cost, which is the one stated if one is, or the fault that another was stated
 abbrev pub IsStated : ℕ → Option ℕ → Result ℕ Fault → Type 0
 IsStated cost stated answer =
-    MatchResult answer (λ c. (c ≡ cost) × IfSome stated (λ s. s ≡ cost)) (IsStatedOtherwise cost stated)
+    MatchResult answer (λ c. (c ≡ cost) × IfSome stated (λ s. s ≡ cost))
+        (IsStatedOtherwise cost stated)

@@ -38,8 +38,8 @@ AreAskedLines number (change ∷ asked) [] = ⊥
 AreAskedLines number (change ∷ asked) (entry ∷ entries) =
     IsAskedLine number change entry × AreAskedLines (suc number) asked entries
 
--- a legal history: first the lines that ask for these changes, then entries of a search, which closed
--- the newest edition
+-- a legal history: first the lines that ask for these changes, then entries of a search, which
+-- closed the newest edition
 pub record IsSearched (problem : Problem) (settings : Settings) (asked : List Change)
     (history : List Entry) : Type 0 where
   pub legal : IsLegal problem settings history

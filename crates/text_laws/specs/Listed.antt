@@ -22,7 +22,8 @@ listed_names_of_train names train = flat_map (listed_names_of_operation names) t
 abbrev pub names_listed : List (List ℕ) → List (List Operation) → List (List ℕ)
 names_listed names trains = flat_map (listed_names_of_train names) trains
 
--- each name is a text, and they stand in the order of their first listing, each that is listed and no other
+-- each name is a text, and they stand in the order of their first listing, each that is listed and
+-- no other
 pub record HasNamesInOrder (problem : Problem) : Type 0 where
   pub texts : All IsUtf8 problem.names
   pub order : once bytes_eq (names_listed problem.names problem.trains) ≡ problem.names

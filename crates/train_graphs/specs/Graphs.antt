@@ -1,4 +1,5 @@
--- The entries, exits and cycles of trains, and the first train that has not one of each, or has a cycle.
+-- The entries, exits and cycles of trains, and the first train that has not one of each, or has a
+-- cycle.
 use Rattle.std.specs.Prelude.{◌≡◌, ℕ, ◌+◌, ◌<◌, ◌==◌, List, [], ◌∷◌, Bool, not, length, Option, Some, None, nat_eq, slice_get, slice_set, count_by, All, true, if◌then◌else◌}
 use Rattle.std.specs.List.{list_any, range_with_len}
 use Rattle.disp_model.specs.declared.train.Operation.{Operation}
@@ -19,7 +20,8 @@ exit_count train = count_by (λ p. length p.next == 0) train
 -- the first train, counted from t on, whose count is not 1, and that count
 abbrev pub first_not_one : (List Operation → ℕ) → ℕ → List (List Operation) → Option (ℕ × ℕ)
 first_not_one count t [] = None
-first_not_one count t (train ∷ trains) = if count train == 1 then first_not_one count (t + 1) trains else Some (t, count train)
+first_not_one count t (train ∷ trains) = if count train == 1 then first_not_one count (t + 1) trains
+    else Some (t, count train)
 
 -- some way leads from the operation back to it
 abbrev pub IsOnCycle : List Operation → ℕ → Type 0
@@ -33,12 +35,14 @@ pub record IsLeastOnCycle (train : List Operation) (o : ℕ) : Type 0 where
   pub on : IsOnCycle train o
   pub least : (p : ℕ) → p < o → IsOnCycle train p → ⊥
 
--- the train of this number has a cycle, on which the operation is the least, and no train before has one
+-- the train of this number has a cycle, on which the operation is the least, and no train before
+-- has one
 pub record IsFirstLoop (trains : List (List Operation)) (t o : ℕ) : Type 0 where
   pub train : List Operation
   pub at : slice_get trains t ≡ Some train
   pub least : IsLeastOnCycle train o
-  pub before : (k : ℕ) (other : List Operation) → k < t → slice_get trains k ≡ Some other → HasNoCycle other
+  pub before : (k : ℕ) (other : List Operation) → k < t → slice_get trains k ≡ Some other
+      → HasNoCycle other
 
 -- each train has one entry, one exit and no cycle
 pub record HaveGraphs (trains : List (List Operation)) : Type 0 where

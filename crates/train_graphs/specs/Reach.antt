@@ -25,10 +25,13 @@ pub record Visits (numbers : List ℕ) (old new : List Bool) (before after : Lis
   pub ahead : (x : ℕ) → Contains after x → Contains before x ⊎ Contains numbers x
   pub work : unmarked new + length after ≡ unmarked old + length before
 
--- the marks so far: what is marked is reached, and what comes next to it is marked too unless it waits ahead
-pub record AreMarksReached (train : List Operation) (start : ℕ) (marks : List Bool) (ahead : List ℕ) : Type 0 where
+-- the marks so far: what is marked is reached, and what comes next to it is marked too unless it
+-- waits ahead
+pub record AreMarksReached (train : List Operation) (start : ℕ) (marks : List Bool) (ahead : List ℕ)
+    : Type 0 where
   pub long : length marks ≡ length train
   pub sound : (s : ℕ) → IsMarked marks s → IsReached train start s
   pub waiting : (x : ℕ) → Contains ahead x → IsMarked marks x
   pub first : (s : ℕ) → IsSuccessor train start s → IsMarked marks s
-  pub closed : (p : ℕ) → IsMarked marks p → Contains ahead p ⊎ ((s : ℕ) → IsSuccessor train p s → IsMarked marks s)
+  pub closed : (p : ℕ) → IsMarked marks p → Contains ahead p
+      ⊎ ((s : ℕ) → IsSuccessor train p s → IsMarked marks s)

@@ -11,7 +11,8 @@ IsInside train = All (λ o. All (λ s. s < length train) o.next) train
 
 -- the successors of each operation stand before it, and none stands twice
 pub record IsBehind (train : List Operation) (order : List ℕ) : Type 0 where
-  pub behind : (i o s : ℕ) → slice_get order i ≡ Some o → IsSuccessor train o s → Contains (take i order) s
+  pub behind : (i o s : ℕ) → slice_get order i ≡ Some o → IsSuccessor train o s
+      → Contains (take i order) s
   pub once : (i o : ℕ) → slice_get order i ≡ Some o → Contains (take i order) o → ⊥
   pub within : (o : ℕ) → Contains order o → o < length train
 
@@ -29,17 +30,20 @@ unopened [] = 0
 unopened (true ∷ opened) = unopened opened
 unopened (false ∷ opened) = suc (unopened opened)
 
--- how far a search has come: on its path a way leads from each operation to each later one, and what it has
--- passed stands in the order
-pub record IsSearch (train : List Operation) (opened : List Bool) (passed path order : List ℕ) : Type 0 where
+-- how far a search has come: on its path a way leads from each operation to each later one, and
+-- what it has passed stands in the order
+pub record IsSearch (train : List Operation) (opened : List Bool) (passed path order : List ℕ)
+    : Type 0 where
   pub opened_long : length opened ≡ length train
   pub passed_long : length passed ≡ length train
   pub known : (o : ℕ) → IsOpened opened o → Contains path o ⊎ Contains order o
   pub path_opened : (o : ℕ) → Contains path o → IsOpened opened o
   pub order_opened : (o : ℕ) → Contains order o → IsOpened opened o
-  pub leads : (i j o p : ℕ) → i < j → slice_get path i ≡ Some o → slice_get path j ≡ Some p → (n : ℕ) × LeadsTo train n o p
+  pub leads : (i j o p : ℕ) → i < j → slice_get path i ≡ Some o → slice_get path j ≡ Some p
+      → (n : ℕ) × LeadsTo train n o p
   pub apart : (o : ℕ) → Contains path o → Contains order o → ⊥
-  pub are_passed : (o k s : ℕ) → k < slice_index_or passed o 0 → slice_get (next_of train o) k ≡ Some s → Contains order s
+  pub are_passed : (o k s : ℕ) → k < slice_index_or passed o 0
+      → slice_get (next_of train o) k ≡ Some s → Contains order s
   pub is_behind : IsBehind train order
 
 -- how many successors are not passed yet

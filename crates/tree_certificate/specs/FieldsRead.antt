@@ -1,5 +1,5 @@
--- The fields of a line. Each reader answers what it read and the bytes behind it, or a fault, which names its line by
--- how many bytes are left from that line on.
+-- The fields of a line. Each reader answers what it read and the bytes behind it, or a fault, which
+-- names its line by how many bytes are left from that line on.
 use Rattle.std.specs.Prelude.{◌≡◌, ℕ, zero, suc, ◌<◌, All, List, [], ◌∷◌, length, take, drop, get_or, Bool, not, ◌&&◌, ◌||◌, ◌==◌, nat_eq, nat_lt, nat_le, Option, Some, None, Result, Ok, Err, ⊤, if◌then◌else◌}
 use Rattle.std.specs.List.{list_all}
 use Rattle.std.specs.Char.{digit_value}
@@ -33,7 +33,8 @@ from byte (b ∷ bytes) = if b == byte then b ∷ bytes else from byte bytes
 
 -- what stands behind a word at the front
 abbrev pub behind : List ℕ → List ℕ → Option (List ℕ)
-behind word line = if pointwise nat_eq (take (length word) line) word then Some (drop (length word) line) else None
+behind word line = if pointwise nat_eq (take (length word) line) word
+    then Some (drop (length word) line) else None
 
 -- decimal digits, at least one, without a needless zero
 abbrev pub is_decimal : List ℕ → Bool
@@ -44,13 +45,15 @@ is_decimal bytes =
 -- the number of a whole field
 unfoldable pub whole_field : ℕ → ℕ → List ℕ → Result ℕ Fault
 whole_field left most field =
-    if is_decimal field then (if nat_le (value_of field) most then Ok (value_of field) else Err (Large left)) else Err (Bad left)
+    if is_decimal field then (if nat_le (value_of field) most then Ok (value_of field)
+        else Err (Large left)) else Err (Bad left)
 
 -- a space, and the number of the field behind it
 unfoldable pub field_number : ℕ → ℕ → List ℕ → Result (ℕ × List ℕ) Fault
 field_number left most [] = Err (Bad left)
 field_number left most (space ∷ bytes) =
-    if space == 32 then (whole_field left most (before 32 bytes) >>= λ n. Ok (n, from 32 bytes)) else Err (Bad left)
+    if space == 32 then (whole_field left most (before 32 bytes) >>= λ n. Ok (n, from 32 bytes))
+        else Err (Bad left)
 
 unfoldable pub op_at : ℕ → List ℕ → Result (Op × List ℕ) Fault
 op_at left bytes = do
@@ -81,6 +84,7 @@ abbrev pub word_at : ℕ → List ℕ → List ℕ → Result (List ℕ) Fault
 word_at left word line = found left (behind word line)
 
 -- one of several words
-abbrev pub or_word : {W : Type 0} → Option (List ℕ) → W → Result (W × List ℕ) Fault → Result (W × List ℕ) Fault
+abbrev pub or_word : {W : Type 0} → Option (List ℕ) → W → Result (W × List ℕ) Fault
+    → Result (W × List ℕ) Fault
 or_word (Some fields) word other = Ok (word, fields)
 or_word None word other = other

@@ -18,7 +18,8 @@ unfoldable pub line_at : List ℕ → Result (List ℕ × List ℕ) Fault
 line_at bytes = line_with (before 10 bytes) (from 10 bytes)
 
 -- so many of one kind
-unfoldable pub items_at : {A : Type 0} → (List ℕ → Result (A × List ℕ) Fault) → ℕ → List ℕ → Result (List A × List ℕ) Fault
+unfoldable pub items_at : {A : Type 0} → (List ℕ → Result (A × List ℕ) Fault) → ℕ → List ℕ
+    → Result (List A × List ℕ) Fault
 items_at item zero bytes = Ok ([], bytes)
 items_at item (suc count) bytes = do
   first ← item bytes

@@ -113,7 +113,8 @@ abbrev pub places_opened : TreeNode → ℕ
 places_opened (Branch choice children) = children
 places_opened (Leaf leaf) = 0
 
--- the nodes that fill so many open places; each takes a line at least, so there are no more than bytes
+-- the nodes that fill so many open places; each takes a line at least, so there are no more than
+-- bytes
 unfoldable pub nodes_at : Bool → ℕ → ℕ → List ℕ → Result (List TreeNode × List ℕ) Fault
 nodes_at third most zero bytes = Ok ([], bytes)
 nodes_at third zero (suc open_places) bytes = Err Truncated

@@ -30,20 +30,23 @@ to_text walk = codes "to" ++ ops_text walk ++ codes "\n"
 
 -- a train and its walks
 abbrev pub listed_text : TrainWalks → List ℕ
-listed_text listed = codes "train " ++ decimal listed.train ++ codes " " ++ decimal (length listed.walks) ++ codes "\n" ++ flat_map to_text listed.walks
+listed_text listed = codes "train " ++ decimal listed.train ++ codes " "
+    ++ decimal (length listed.walks) ++ codes "\n" ++ flat_map to_text listed.walks
 
 abbrev pub leaf_text : TreeLeaf → List ℕ
 leaf_text NoRoute = codes "noroute\n"
 leaf_text (Cycle nodes) = codes "cycle" ++ ops_text nodes ++ codes "\n"
 leaf_text (Late walk) = codes "late" ++ ops_text walk ++ codes "\n"
-leaf_text (Costs walks) = codes "costs " ++ decimal (length walks) ++ codes "\n" ++ flat_map walk_text walks
+leaf_text (Costs walks) = codes "costs " ++ decimal (length walks) ++ codes "\n"
+    ++ flat_map walk_text walks
 leaf_text (Shares walks trains) =
     codes "shares " ++ decimal (length walks) ++ codes " " ++ decimal (length trains) ++ codes "\n"
     ++ flat_map walk_text walks ++ flat_map listed_text trains
 
 -- a branch; only that of a route says how many children it has
 abbrev pub branch_text : Choice → ℕ → List ℕ
-branch_text (Route o) children = codes "route" ++ op_text o ++ codes " " ++ decimal children ++ codes "\n"
+branch_text (Route o) children = codes "route" ++ op_text o ++ codes " " ++ decimal children
+    ++ codes "\n"
 branch_text (Order a b) children = codes "order" ++ op_text a ++ op_text b ++ codes "\n"
 branch_text (Run o) children = codes "run" ++ op_text o ++ codes "\n"
 

@@ -109,13 +109,18 @@ refusal_of bytes (faults.Large left) = no.TooLarge (line_number bytes left)
 refusal_of bytes faults.Truncated = no.Truncated
 refusal_of bytes (faults.Trailing left) = no.Trailing (line_number bytes left)
 
--- what is answered of bytes: what reading gives, or the refusal for its fault, unless memory ran out
+-- what is answered of bytes: what reading gives, or the refusal for its fault, unless memory ran
+-- out
 abbrev pub AnswersTree : List ℕ → TreeNo → Result TreeRead Fault → Type 0
 AnswersTree bytes no.Memory read = Unit {0}
-AnswersTree bytes (no.BadLine n) read = (fault : Fault) × (read ≡ Err fault) × (no.BadLine n ≡ refusal_of bytes fault)
-AnswersTree bytes (no.TooLarge n) read = (fault : Fault) × (read ≡ Err fault) × (no.TooLarge n ≡ refusal_of bytes fault)
-AnswersTree bytes no.Truncated read = (fault : Fault) × (read ≡ Err fault) × (no.Truncated ≡ refusal_of bytes fault)
-AnswersTree bytes (no.Trailing n) read = (fault : Fault) × (read ≡ Err fault) × (no.Trailing n ≡ refusal_of bytes fault)
+AnswersTree bytes (no.BadLine n) read = (fault : Fault) × (read ≡ Err fault)
+    × (no.BadLine n ≡ refusal_of bytes fault)
+AnswersTree bytes (no.TooLarge n) read = (fault : Fault) × (read ≡ Err fault)
+    × (no.TooLarge n ≡ refusal_of bytes fault)
+AnswersTree bytes no.Truncated read = (fault : Fault) × (read ≡ Err fault)
+    × (no.Truncated ≡ refusal_of bytes fault)
+AnswersTree bytes (no.Trailing n) read = (fault : Fault) × (read ≡ Err fault)
+    × (no.Trailing n ≡ refusal_of bytes fault)
 
 abbrev pub read_of : Option ℕ → Verdict → List TreeNode → TreeRead
 read_of edition verdict tree = record { edition = edition; verdict = verdict; tree = tree }

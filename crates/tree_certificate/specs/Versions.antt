@@ -24,7 +24,8 @@ edition_head None = []
 edition_head (Some edition) = codes "edition " ++ decimal edition ++ codes "\n"
 
 abbrev pub version_text : Version → TreeRead → List ℕ
-version_text version read = version_line version ++ edition_head read.edition ++ body_text read.verdict read.tree
+version_text version read = version_line version ++ edition_head read.edition
+    ++ body_text read.verdict read.tree
 
 -- the first version names no edition, the others one up to 65535
 abbrev pub FitsEdition : Version → Option ℕ → Type 0

@@ -14,10 +14,12 @@ pub record IsCappedShares (node : Node) (trains : List TrainWalks) (found : ℕ)
   pub found_is : found ≡ capped shares
 
 abbrev pub IsSharesOfAll : Node → List TrainWalks → Option ℕ → Type 0
-IsSharesOfAll node trains found = MatchOption found ((shares : ℕ) → SharesCost node trains shares → ⊥) (IsCappedShares node trains)
+IsSharesOfAll node trains found = MatchOption found
+    ((shares : ℕ) → SharesCost node trains shares → ⊥) (IsCappedShares node trains)
 
 -- what walks and listed trains cost together, capped, or none where one of them shows no cost
-pub record IsCappedBound (node : Node) (walks : List ComponentWalk) (trains : List TrainWalks) (found : ℕ) : Type 0 where
+pub record IsCappedBound (node : Node) (walks : List ComponentWalk) (trains : List TrainWalks)
+    (found : ℕ) : Type 0 where
   pub sum : ℕ
   pub sum_is : WalksCost node walks sum
   pub shares : ℕ
@@ -26,4 +28,5 @@ pub record IsCappedBound (node : Node) (walks : List ComponentWalk) (trains : Li
 
 abbrev pub IsBoundOfAll : Node → List ComponentWalk → List TrainWalks → Option ℕ → Type 0
 IsBoundOfAll node walks trains found =
-    MatchOption found ((sum shares : ℕ) → WalksCost node walks sum → SharesCost node trains shares → ⊥) (IsCappedBound node walks trains)
+    MatchOption found ((sum shares : ℕ) → WalksCost node walks sum → SharesCost node trains shares
+    → ⊥) (IsCappedBound node walks trains)

@@ -21,18 +21,23 @@ decisions_below problem (Leaf leaf) = []
 
 -- the places that are left behind a node of the tree
 abbrev pub places_behind : Node → TreeNode → List Node → List Node
-places_behind node top places = map (with_decision node) (decisions_below node.problem top) ++ places
+places_behind node top places = map (with_decision node) (decisions_below node.problem top)
+    ++ places
 
--- of the nodes of a tree, put into these places, the one of a number is the first that does not hold, for this cause: a
--- rule that it is the first to break; that it has no place; or that the tree ends where a place is left
+-- of the nodes of a tree, put into these places, the one of a number is the first that does not
+-- hold, for this cause: a rule that it is the first to break; that it has no place; or that the
+-- tree ends where a place is left
 abbrev pub StopsAtNode : Verdict → List Node → List TreeNode → ℕ → Why → Type 0
 StopsAtNode verdict [] [] number why = ⊥
 StopsAtNode verdict (node ∷ places) [] number why = (number ≡ 0) × (why ≡ BadChoice)
 StopsAtNode verdict [] (top ∷ tree) number why = (number ≡ 0) × (why ≡ BadChoice)
 StopsAtNode verdict (node ∷ places) (top ∷ tree) zero why = IsRefusedFor node verdict top why
-StopsAtNode verdict (node ∷ places) (top ∷ tree) (suc number) why = TreeNodeHolds node verdict top × StopsAtNode verdict (places_behind node top places) tree number why
+StopsAtNode verdict (node ∷ places) (top ∷ tree) (suc number) why = TreeNodeHolds node verdict top
+    × StopsAtNode verdict (places_behind node top places) tree number why
 
 -- the answer of the checker
 abbrev pub IsChecked : Problem → List Fixing → Verdict → List TreeNode → Checked → Type 0
 IsChecked problem fixings verdict tree Accepted = Accepts problem fixings verdict tree
-IsChecked problem fixings verdict tree (Refused number why) = (Accepts problem fixings verdict tree → ⊥) × StopsAtNode verdict (root_of problem fixings ∷ []) tree number why
+IsChecked problem fixings verdict tree (Refused number why) =
+    (Accepts problem fixings verdict tree → ⊥)
+    × StopsAtNode verdict (root_of problem fixings ∷ []) tree number why

@@ -21,7 +21,8 @@ decisions_at path place = take place.depth path ++ last_decision place.decision
 
 -- the nodes of places, the next one first
 abbrev pub nodes_of : Problem → List Fixing → List Decision → List Place → List Node
-nodes_of problem fixings path places = map (λ place. node_at problem fixings (decisions_at path place)) (reverse places)
+nodes_of problem fixings path places = map
+    (λ place. node_at problem fixings (decisions_at path place)) (reverse places)
 
 -- the children of the node at a depth
 abbrev pub places_at : ℕ → List Decision → List Place
@@ -33,7 +34,9 @@ IsNested bound [] = Unit {0}
 IsNested bound (place ∷ behind) = (place.depth ≤ bound) × IsNested place.depth behind
 
 -- the next place was entered, the node of the tree holds there, and the places behind it are left
-pub record HasStepped (problem : Problem) (fixings : List Fixing) (verdict : Verdict) (top : TreeNode) (path path_after : List Decision) (places places_after : List Place) : Type 0 where
+pub record HasStepped (problem : Problem) (fixings : List Fixing) (verdict : Verdict)
+    (top : TreeNode) (path path_after : List Decision) (places places_after : List Place)
+    : Type 0 where
   pub node : Node
   pub behind : List Node
   pub entered : nodes_of problem fixings path places ≡ node ∷ behind
@@ -42,6 +45,9 @@ pub record HasStepped (problem : Problem) (fixings : List Fixing) (verdict : Ver
   pub nested : IsNested (length path_after) (reverse places_after)
 
 -- one step: on to the places that are left, or why the node of the tree is refused
-abbrev pub IsStep : Problem → List Fixing → Verdict → TreeNode → List Decision → List Decision → List Place → List Place → Option Why → Type 0
+abbrev pub IsStep : Problem → List Fixing → Verdict → TreeNode → List Decision → List Decision
+    → List Place → List Place → Option Why → Type 0
 IsStep problem fixings verdict top path path_after places places_after found =
-    MatchOption found (HasStepped problem fixings verdict top path path_after places places_after) (λ why. (tree : List TreeNode) → StopsAtNode verdict (nodes_of problem fixings path places) (top ∷ tree) 0 why)
+    MatchOption found (HasStepped problem fixings verdict top path path_after places places_after)
+    (λ why. (tree : List TreeNode) → StopsAtNode verdict (nodes_of problem fixings path places)
+    (top ∷ tree) 0 why)

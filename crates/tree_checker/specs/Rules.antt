@@ -71,7 +71,8 @@ IsNamed problem o = (o.train < length problem.trains) × (o.op < length (train_a
 
 -- an arc leads from each operation of a list to the next
 abbrev pub HasArcs : Node → List Op → Type 0
-HasArcs node walk = (i : ℕ) (u v : Op) → slice_get walk i ≡ Some u → slice_get walk (i + 1) ≡ Some v → HasArc node u v
+HasArcs node walk = (i : ℕ) (u v : Op) → slice_get walk i ≡ Some u → slice_get walk (i + 1) ≡ Some v
+    → HasArc node u v
 
 -- ---- what is asked of each list
 
@@ -90,7 +91,8 @@ pub record AreRight (node : Node) (rule : ListRule) (leaf : TreeLeaf) : Type 0 w
 
 -- an arc leads from the last of the operations to the first
 abbrev pub IsJoinedBack : Node → List Op → Type 0
-IsJoinedBack node nodes = (first last : Op) → slice_get nodes 0 ≡ Some first → EndsIn nodes last → HasArc node last first
+IsJoinedBack node nodes = (first last : Op) → slice_get nodes 0 ≡ Some first → EndsIn nodes last
+    → HasArc node last first
 
 -- a cycle is joined back to its first operation
 abbrev pub IsLeafClosed : Node → TreeLeaf → Type 0
@@ -146,7 +148,8 @@ pub record HasNames (node : Node) (leaf : TreeLeaf) : Type 0 where
 
 -- a walk ends in the operation of its component
 pub record EndsRight (problem : Problem) (w : ComponentWalk) : Type 0 where
-  pub ends : (c : Component) → slice_get problem.components w.component ≡ Some c → EndsIn w.walk (component_op c)
+  pub ends : (c : Component) → slice_get problem.components w.component ≡ Some c
+      → EndsIn w.walk (component_op c)
 
 -- a walk of a listed train ends in an operation of it
 pub record EndsOn (t : ℕ) (walk : List Op) : Type 0 where
@@ -157,10 +160,13 @@ EndOnTrain trains = All (λ listed. All (EndsOn listed.train) listed.walks) trai
 
 -- the component of a walk is of no listed train
 abbrev pub IsOfOtherTrain : Problem → List TrainWalks → ComponentWalk → Type 0
-IsOfOtherTrain problem trains w = (c : Component) → slice_get problem.components w.component ≡ Some c → All (λ listed. listed.train ≢ c.train) trains
+IsOfOtherTrain problem trains w = (c : Component)
+    → slice_get problem.components w.component ≡ Some c
+    → All (λ listed. listed.train ≢ c.train) trains
 
 -- what walks and shares cost together is so much, and below the verdict's cost
-pub record CostsBelow (node : Node) (verdict : Verdict) (leaf : TreeLeaf) (bound cost : ℕ) : Type 0 where
+pub record CostsBelow (node : Node) (verdict : Verdict) (leaf : TreeLeaf) (bound cost : ℕ)
+    : Type 0 where
   pub verdict_is : verdict ≡ Optimal cost
   pub sum : ℕ
   pub sum_is : WalksCost node (component_walks leaf) sum
@@ -177,7 +183,8 @@ ShowsCosts (Late walk) = ⊥
 ShowsCosts (Costs walks) = Unit {0}
 ShowsCosts (Shares walks trains) = Unit {0}
 
--- a leaf in whose place every train has an allowed route keeps a rule; of what costs add up to `BreaksRule` speaks
+-- a leaf in whose place every train has an allowed route keeps a rule; of what costs add up to
+-- `BreaksRule` speaks
 abbrev pub KeepsListRule : Node → Verdict → TreeLeaf → Why → Type 0
 KeepsListRule node verdict leaf BadName = HasNames node leaf
 KeepsListRule node verdict leaf BadChoice = Unit {0}
@@ -189,14 +196,17 @@ KeepsListRule node verdict leaf BadArc = AreRight node Joined leaf × IsLeafClos
 KeepsListRule node verdict leaf NotLate = IsLateIfSaid node leaf
 KeepsListRule node verdict leaf RepeatedComponent = HaveDistinct (component_walks leaf)
 KeepsListRule node verdict leaf RepeatedTrain = HaveDistinctTrains (listed_trains leaf)
-KeepsListRule node verdict leaf WrongTrain = AreOfOthers node.problem (component_walks leaf) (listed_trains leaf) × EndOnTrain (listed_trains leaf)
+KeepsListRule node verdict leaf WrongTrain =
+    AreOfOthers node.problem (component_walks leaf) (listed_trains leaf)
+    × EndOnTrain (listed_trains leaf)
 KeepsListRule node verdict leaf WrongEnd = All (EndsRight node.problem) (component_walks leaf)
 KeepsListRule node verdict leaf NoVerdict = HasVerdict verdict leaf
 KeepsListRule node verdict leaf (BelowCost bound cost) = Unit {0}
 
 -- it breaks a rule where it does not keep it, or where what it shows costs too little
 abbrev pub BreaksRule : Node → Verdict → TreeLeaf → Why → Type 0
-BreaksRule node verdict leaf (BelowCost bound cost) = ShowsCosts leaf × CostsBelow node verdict leaf bound cost
+BreaksRule node verdict leaf (BelowCost bound cost) = ShowsCosts leaf
+    × CostsBelow node verdict leaf bound cost
 BreaksRule node verdict leaf why = KeepsListRule node verdict leaf why → ⊥
 
 -- the rules that a leaf may break whatever it costs, in the order in which they are asked
@@ -220,9 +230,11 @@ abbrev pub KeepsAllRules : Node → Verdict → TreeLeaf → Type 0
 KeepsAllRules node verdict leaf = (why : Why) → KeepsListRule node verdict leaf why
 
 -- the first of them that it breaks
-pub record IsFirstRule (node : Node) (verdict : Verdict) (leaf : TreeLeaf) (why : Why) : Type 0 where
+pub record IsFirstRule (node : Node) (verdict : Verdict) (leaf : TreeLeaf) (why : Why)
+    : Type 0 where
   pub broken : BreaksRule node verdict leaf why
-  pub first : (other : Why) → rank_of_why other < rank_of_why why → BreaksRule node verdict leaf other → ⊥
+  pub first : (other : Why) → rank_of_why other < rank_of_why why
+      → BreaksRule node verdict leaf other → ⊥
 
 abbrev pub AreNamed : Problem → Choice → Type 0
 AreNamed problem (Route o) = IsNamed problem o
@@ -232,7 +244,8 @@ AreNamed problem (Run o) = IsNamed problem o
 -- a branch breaks a rule: its names, or its choice and the number of its children
 abbrev pub BreaksBranch : Node → Choice → ℕ → Why → Type 0
 BreaksBranch node choice children BadName = AreNamed node.problem choice → ⊥
-BreaksBranch node choice children BadChoice = IsChoice node.problem choice × (children ≡ length (children_of node.problem choice)) → ⊥
+BreaksBranch node choice children BadChoice = IsChoice node.problem choice
+    × (children ≡ length (children_of node.problem choice)) → ⊥
 BreaksBranch node choice children why = ⊥
 
 -- a node of a tree breaks a rule in its place
@@ -241,16 +254,20 @@ BreaksNode node verdict (Branch choice children) why = BreaksBranch node choice 
 BreaksNode node verdict (Leaf leaf) why = (HasNoRoute node → ⊥) × BreaksRule node verdict leaf why
 
 -- the first rule that a node of a tree breaks
-pub record IsFirstBrokenWhy (node : Node) (verdict : Verdict) (top : TreeNode) (why : Why) : Type 0 where
+pub record IsFirstBrokenWhy (node : Node) (verdict : Verdict) (top : TreeNode) (why : Why)
+    : Type 0 where
   pub broken : BreaksNode node verdict top why
-  pub first : (other : Why) → rank_of_why other < rank_of_why why → BreaksNode node verdict top other → ⊥
+  pub first : (other : Why) → rank_of_why other < rank_of_why why
+      → BreaksNode node verdict top other → ⊥
 
 -- a node of a tree holds in its place
 abbrev pub TreeNodeHolds : Node → Verdict → TreeNode → Type 0
-TreeNodeHolds node verdict (Branch choice children) = IsChoice node.problem choice × (children ≡ length (children_of node.problem choice))
+TreeNodeHolds node verdict (Branch choice children) = IsChoice node.problem choice
+    × (children ≡ length (children_of node.problem choice))
 TreeNodeHolds node verdict (Leaf leaf) = LeafHolds node verdict leaf
 
 -- a node of a tree does not hold, and this is the first rule that it breaks
-pub record IsRefusedFor (node : Node) (verdict : Verdict) (top : TreeNode) (why : Why) : Type 0 where
+pub record IsRefusedFor (node : Node) (verdict : Verdict) (top : TreeNode) (why : Why)
+    : Type 0 where
   pub not : TreeNodeHolds node verdict top → ⊥
   pub is_first : IsFirstBrokenWhy node verdict top why

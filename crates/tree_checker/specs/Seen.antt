@@ -18,7 +18,8 @@ pub record IsNumbered {X : Type 0} (number_of : X → ℕ) (xs : List X) (count 
   pub is : number_of element ≡ n
 
 -- the set has the numbers of the first so many elements, and no others
-pub record AreSeen {X : Type 0} (number_of : X → ℕ) (xs : List X) (count : ℕ) (keys : List ℕ) : Type 0 where
+pub record AreSeen {X : Type 0} (number_of : X → ℕ) (xs : List X) (count : ℕ) (keys : List ℕ)
+    : Type 0 where
   pub are : (n : ℕ) → IsTrue (has_number keys n) ↔ IsNumbered number_of xs count n
 
 -- the set has the numbers of the listed trains

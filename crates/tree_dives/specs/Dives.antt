@@ -17,9 +17,10 @@ use Rattle.tree_dives.specs.declared.given.Dive.{Dive}
 use Rattle.tree_dives.specs.declared.stage.End.{End}
 use Rattle.tree_dives.specs.declared.stage.End.TheVariants.{Closed, Plan, Open}
 
--- the plan is valid, and costs what is kept for a leaf, less than the best; it is the earliest one of a node below, which is
--- not dead
-pub record EndsInPlan (root : Node) (best : Option ℕ) (bounds : List ℕ) (plan : List Event) : Type 0 where
+-- the plan is valid, and costs what is kept for a leaf, less than the best; it is the earliest one
+-- of a node below, which is not dead
+pub record EndsInPlan (root : Node) (best : Option ℕ) (bounds : List ℕ) (plan : List Event)
+    : Type 0 where
   pub valid : IsValid root.problem root.fixings plan
   pub costs : Contains bounds (cost_of root.problem.components plan)
   pub better : IsBoundBelow (cost_of root.problem.components plan) best
@@ -35,12 +36,15 @@ pub record StaysOpen (rule : Rule) (root : Node) (best : Option ℕ) (bounds : L
   pub bounds_are : bounds ≡ helps.bound ∷ []
 
 abbrev pub IsEndOf : Rule → Node → Option ℕ → ℕ → List TreeNode → List ℕ → End → Type 0
-IsEndOf rule root best allowance nodes bounds Closed = branches nodes ≡ 0 → IsClosedAt rule best root
+IsEndOf rule root best allowance nodes bounds Closed = branches nodes ≡ 0
+    → IsClosedAt rule best root
 IsEndOf rule root best allowance nodes bounds (Plan plan) = EndsInPlan root best bounds plan
-IsEndOf rule root best allowance nodes bounds Open = (branches nodes ≡ allowance) × (allowance ≡ 0 → StaysOpen rule root best bounds)
+IsEndOf rule root best allowance nodes bounds Open = (branches nodes ≡ allowance)
+    × (allowance ≡ 0 → StaysOpen rule root best bounds)
 
 -- a subtree for the place of the node, with at most so many branches, and how it ended
-pub record IsDive (rule : Rule) (root : Node) (best : Option ℕ) (allowance : ℕ) (dive : Dive) : Type 0 where
+pub record IsDive (rule : Rule) (root : Node) (best : Option ℕ) (allowance : ℕ) (dive : Dive)
+    : Type 0 where
   pub grows : GrowsBelow rule best (root ∷ []) dive.nodes dive.bounds
   pub few : branches dive.nodes ≤ allowance
   pub ends : IsEndOf rule root best allowance dive.nodes dive.bounds dive.end

@@ -5,7 +5,8 @@ use Rattle.disp_model.specs.Node.{Node}
 use Rattle.disp_model.specs.declared.settings.Rule.{Rule}
 use Rattle.tree_growth.specs.Grown.{GrowsBelow}
 
--- nodes of a subtree before a place and behind it, these last first, with the bounds of their leaves
+-- nodes of a subtree before a place and behind it, these last first, with the bounds of their
+-- leaves
 pub record Sides : Type 0 where
   pub before : List TreeNode
   pub before_bounds : List ℕ
@@ -16,11 +17,13 @@ pub record Sides : Type 0 where
 abbrev pub Completes : Rule → Option ℕ → Node → Node → Sides → Type 0
 Completes rule best root here sides =
     (tree : List TreeNode) (bounds : List ℕ) → GrowsBelow rule best (here ∷ []) tree bounds
-    → GrowsBelow rule best (root ∷ []) (sides.before ++ tree ++ reverse sides.behind) (sides.before_bounds ++ bounds ++ reverse sides.behind_bounds)
+    → GrowsBelow rule best (root ∷ []) (sides.before ++ tree ++ reverse sides.behind)
+    (sides.before_bounds ++ bounds ++ reverse sides.behind_bounds)
 
 -- the sides alone fill the place
 abbrev pub AreSidesComplete : Rule → Option ℕ → Node → Sides → Type 0
-AreSidesComplete rule best root sides = GrowsBelow rule best (root ∷ []) (sides.before ++ reverse sides.behind) (sides.before_bounds ++ reverse sides.behind_bounds)
+AreSidesComplete rule best root sides = GrowsBelow rule best (root ∷ [])
+    (sides.before ++ reverse sides.behind) (sides.before_bounds ++ reverse sides.behind_bounds)
 
 -- a node with the same decisions first
 pub record IsBelowNode (root here : Node) : Type 0 where

@@ -15,9 +15,11 @@ use Rattle.tree_dives.specs.declared.stage.Stage.TheVariants as stages
 
 -- the node needs no branch: it is dead, or its bound is not below the best
 abbrev pub IsClosedAt : Rule → Option ℕ → Node → Type 0
-IsClosedAt rule best node = IsDead node ⊎ ((bound : ℕ) × IsBound node rule bound × (IsBoundBelow bound best → ⊥))
+IsClosedAt rule best node = IsDead node ⊎
+    ((bound : ℕ) × IsBound node rule bound × (IsBoundBelow bound best → ⊥))
 
--- the node is not dead, its bound is below the best, nothing is picked there, and this is its earliest plan
+-- the node is not dead, its bound is below the best, nothing is picked there, and this is its
+-- earliest plan
 pub record HasPlan (rule : Rule) (best : Option ℕ) (node : Node) (plan : List Event) : Type 0 where
   pub alive : IsDead node → ⊥
   pub bound : ℕ

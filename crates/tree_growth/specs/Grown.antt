@@ -1,4 +1,5 @@
--- What grows at places of the tree: nodes in preorder, branches that help, and leaves that keep their bounds.
+-- What grows at places of the tree: nodes in preorder, branches that help, and leaves that keep
+-- their bounds.
 use Rattle.std.specs.Prelude.{◌≡◌, ℕ, suc, List, [], ◌∷◌, ◌++◌, length, map, Option, Some}
 use Rattle.disp_model.specs.declared.decision.Choice.{Choice}
 use Rattle.disp_model.specs.declared.settings.Rule.{Rule}
@@ -15,7 +16,8 @@ use Rattle.disp_model.specs.Earliest.{IsPicked}
 use Rattle.disp_model.specs.Trees.{LeafHolds, FitsLeaf, IsChoice, children_of}
 use Rattle.open_nodes.specs.States.{IsBoundBelow}
 
--- a branch that helps: its node is not dead, its choice is one that is picked there, and its bound is below the best
+-- a branch that helps: its node is not dead, its choice is one that is picked there, and its bound
+-- is below the best
 pub record Helps (rule : Rule) (best : Option ℕ) (node : Node) (choice : Choice) : Type 0 where
   pub alive : IsDead node → ⊥
   pub picked : IsPicked node rule (Some choice)
@@ -41,22 +43,27 @@ AreHelpful rule best [] [] (bound ∷ bounds) = ⊥
 AreHelpful rule best [] (top ∷ tree) bounds = ⊥
 AreHelpful rule best (node ∷ places) [] bounds = ⊥
 AreHelpful rule best (node ∷ places) (Leaf leaf ∷ tree) [] = ⊥
-AreHelpful rule best (node ∷ places) (Leaf leaf ∷ tree) (bound ∷ bounds) = AreHelpful rule best places tree bounds
+AreHelpful rule best (node ∷ places) (Leaf leaf ∷ tree) (bound ∷ bounds) =
+    AreHelpful rule best places tree bounds
 AreHelpful rule best (node ∷ places) (Branch choice children ∷ tree) bounds =
     Helps rule best node choice × (children ≡ length (children_of node.problem choice))
-    × AreHelpful rule best (map (with_decision node) (children_of node.problem choice) ++ places) tree bounds
+    × AreHelpful rule best (map (with_decision node) (children_of node.problem choice) ++ places)
+    tree bounds
 
--- the nodes fill the places, from the first on: each branch has a choice of the problem, each leaf keeps its bound
+-- the nodes fill the places, from the first on: each branch has a choice of the problem, each leaf
+-- keeps its bound
 abbrev pub KeepBounds : Rule → List Node → List TreeNode → List ℕ → Type 0
 KeepBounds rule [] [] [] = Unit {0}
 KeepBounds rule [] [] (bound ∷ bounds) = ⊥
 KeepBounds rule [] (top ∷ tree) bounds = ⊥
 KeepBounds rule (node ∷ places) [] bounds = ⊥
 KeepBounds rule (node ∷ places) (Leaf leaf ∷ tree) [] = ⊥
-KeepBounds rule (node ∷ places) (Leaf leaf ∷ tree) (bound ∷ bounds) = KeepsBound rule node leaf bound × KeepBounds rule places tree bounds
+KeepBounds rule (node ∷ places) (Leaf leaf ∷ tree) (bound ∷ bounds) =
+    KeepsBound rule node leaf bound × KeepBounds rule places tree bounds
 KeepBounds rule (node ∷ places) (Branch choice children ∷ tree) bounds =
     IsChoice node.problem choice × (children ≡ length (children_of node.problem choice))
-    × KeepBounds rule (map (with_decision node) (children_of node.problem choice) ++ places) tree bounds
+    × KeepBounds rule (map (with_decision node) (children_of node.problem choice) ++ places) tree
+    bounds
 
 -- the nodes fill the places, from the first on: each branch helps, each leaf keeps its bound
 abbrev pub GrowsBelow : Rule → Option ℕ → List Node → List TreeNode → List ℕ → Type 0
@@ -65,10 +72,12 @@ GrowsBelow rule best [] [] (bound ∷ bounds) = ⊥
 GrowsBelow rule best [] (top ∷ tree) bounds = ⊥
 GrowsBelow rule best (node ∷ places) [] bounds = ⊥
 GrowsBelow rule best (node ∷ places) (Leaf leaf ∷ tree) [] = ⊥
-GrowsBelow rule best (node ∷ places) (Leaf leaf ∷ tree) (bound ∷ bounds) = KeepsBound rule node leaf bound × GrowsBelow rule best places tree bounds
+GrowsBelow rule best (node ∷ places) (Leaf leaf ∷ tree) (bound ∷ bounds) =
+    KeepsBound rule node leaf bound × GrowsBelow rule best places tree bounds
 GrowsBelow rule best (node ∷ places) (Branch choice children ∷ tree) bounds =
     Helps rule best node choice × (children ≡ length (children_of node.problem choice))
-    × GrowsBelow rule best (map (with_decision node) (children_of node.problem choice) ++ places) tree bounds
+    × GrowsBelow rule best (map (with_decision node) (children_of node.problem choice) ++ places)
+    tree bounds
 
 -- how many branches there are
 abbrev pub branches : List TreeNode → ℕ

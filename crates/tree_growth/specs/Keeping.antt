@@ -12,5 +12,6 @@ use Rattle.tree_growth.specs.Grown.{KeepsBound}
 
 -- each leaf keeps its bound at its node
 abbrev pub AllKeep : Rule → Problem → List Fixing → State → Type 0
-AllKeep rule problem fixings state = (n : ℕ) (place : Place) (leaf : TreeLeaf) → slice_get state.places n ≡ Some place → slice_get state.kept place.shows ≡ Some (Leaf leaf)
+AllKeep rule problem fixings state = (n : ℕ) (place : Place) (leaf : TreeLeaf)
+    → slice_get state.places n ≡ Some place → slice_get state.kept place.shows ≡ Some (Leaf leaf)
     → KeepsBound rule (node_at problem fixings (decisions_of state.places n)) leaf place.bound

@@ -23,13 +23,17 @@ AreLeft places [] bounds left least = (left ≡ []) × (least ≡ [])
 AreLeft [] (top ∷ tree) bounds left least = ⊥
 AreLeft (node ∷ places) (Leaf leaf ∷ tree) [] left least = ⊥
 AreLeft (node ∷ places) (Leaf leaf ∷ tree) (bound ∷ bounds) left least =
-    (one : TreeLeaf) × (less : ℕ) × (rest : List TreeNode) × (others : List ℕ) × IsLeafLeft node leaf bound one less
+    (one : TreeLeaf) × (less : ℕ) × (rest : List TreeNode) × (others : List ℕ)
+        × IsLeafLeft node leaf bound one less
     × AreLeft places tree bounds rest others × (left ≡ Leaf one ∷ rest) × (least ≡ less ∷ others)
 AreLeft (node ∷ places) (Branch choice children ∷ tree) bounds left least =
-    (rest : List TreeNode) × AreLeft (map (with_decision node) (children_of node.problem choice) ++ places) tree bounds rest least
+    (rest : List TreeNode) × AreLeft (map (with_decision node) (children_of node.problem choice)
+        ++ places) tree bounds rest least
     × (left ≡ Branch choice children ∷ rest)
 
 -- a fragment as its leaves hold under an edition's fixings
-pub record IsLeft (problem : Problem) (fixings : List Fixing) (fragment left : Fragment) : Type 0 where
+pub record IsLeft (problem : Problem) (fixings : List Fixing) (fragment left : Fragment)
+    : Type 0 where
   pub work : left.work ≡ fragment.work
-  pub nodes : AreLeft (node_at problem fixings fragment.work.decisions ∷ []) fragment.subtree fragment.bounds left.subtree left.bounds
+  pub nodes : AreLeft (node_at problem fixings fragment.work.decisions ∷ []) fragment.subtree
+      fragment.bounds left.subtree left.bounds

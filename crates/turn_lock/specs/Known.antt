@@ -5,10 +5,11 @@ use Rattle.std.specs.Prelude.{◌≡◌, ℕ, ◌+◌, Bool, true, false, List, 
 abbrev pub AreApart : List ℕ → List ℕ → Type 0
 AreApart places others = (place : ℕ) → Contains places place → Contains others place → ⊥
 
--- What a pass knows: whether it is the first one of its lock, and its caller; the terms, which every state keeps; the entries
--- that the history begins with; the places of those that its caller made, and of those that joined passes brought; the count of
--- entries that it read last; how many of its own tries found the lock taken; the callers that it gave a pass to, and those
--- whose pass was joined into it.
+-- What a pass knows: whether it is the first one of its lock, and its caller; the terms, which
+-- every state keeps; the entries that the history begins with; the places of those that its caller
+-- made, and of those that joined passes brought; the count of entries that it read last; how many
+-- of its own tries found the lock taken; the callers that it gave a pass to, and those whose pass
+-- was joined into it.
 pub record Known (E T : Type 0) : Type 0 where
   pub first : Bool
   pub caller : ℕ
@@ -34,11 +35,13 @@ module _ {E : Type 0} where
 module _ {E T : Type 0} where
   -- what the first pass of a lock begins with
   abbrev pub first_known : ℕ → T → Known E T
-  first_known caller terms = record { first = true; caller = caller; terms = Some terms; seen = []; mine = []; count = 0; tries = 0; given = []; back = [] }
+  first_known caller terms = record { first = true; caller = caller; terms = Some terms; seen = [];
+      mine = []; count = 0; tries = 0; given = []; back = [] }
 
   -- what a pass begins with that this one gives to a caller
   abbrev pub given_known : Known E T → ℕ → Known E T
-  given_known v caller = record { first = false; caller = caller; terms = v.terms; seen = v.seen; mine = []; count = v.count; tries = 0; given = []; back = [] }
+  given_known v caller = record { first = false; caller = caller; terms = v.terms; seen = v.seen;
+      mine = []; count = v.count; tries = 0; given = []; back = [] }
 
   -- after a pass was given to a caller
   abbrev pub with_given : Known E T → ℕ → Known E T

@@ -16,7 +16,8 @@ module _ {E T : Type 0} where
 
   -- after the history that ends with its new entry was counted
   abbrev pub entered : View E T → List E → View E T
-  entered v history = record v { seen = history; held = history; mine = v.mine ++ length v.held ∷ [] }
+  entered v history = record v { seen = history; held = history; mine = v.mine ++ length v.held
+      ∷ [] }
 
   -- after this count was read
   abbrev pub counted : View E T → ℕ → View E T
@@ -32,7 +33,8 @@ module _ {E T : Type 0} where
 module _ {E : Type 0} where
   -- the places of a pass after its section
   abbrev pub places_after : List ℕ → List E → List E → List ℕ
-  places_after mine before after = if nat_lt (length before) (length after) then mine ++ length before ∷ [] else mine
+  places_after mine before after = if nat_lt (length before) (length after) then mine
+      ++ length before ∷ [] else mine
 
 module _ {E T : Type 0} (named : E → Option ℕ) where
   -- where a section of this seat begins
@@ -44,13 +46,17 @@ module _ {E T : Type 0} (named : E → Option ℕ) where
 
   -- what is left of a view with the turn once the history, which has become `after`, is counted
   pub record HasCounted (v : View E T) (grew : Bool) (after : List E) (w : View E T) : Type 0 where
-    pub knows : w ≡ record v { seen = after; held = after; mine = (if grew then v.mine ++ length v.held ∷ [] else v.mine); count = w.count }
+    pub knows : w ≡ record v { seen = after; held = after;
+        mine = (if grew then v.mine ++ length v.held ∷ [] else v.mine); count = w.count }
     pub count : v.count ≤ w.count
     pub owns : Owns w
 
-  -- what is left of a view with the turn once the turn is given back, and the history has become `after`
+  -- what is left of a view with the turn once the turn is given back, and the history has become
+  -- `after`
   pub record GaveBack (v : View E T) (grew : Bool) (after : List E) (w : View E T) : Type 0 where
-    pub knows : w ≡ record v { seen = after; mine = (if grew then v.mine ++ length v.held ∷ [] else v.mine); count = w.count; holding = false; held = [] }
+    pub knows : w ≡ record v { seen = after;
+        mine = (if grew then v.mine ++ length v.held ∷ [] else v.mine); count = w.count; holding =
+        false; held = [] }
     pub count : v.count ≤ w.count
     pub owns : Owns w
 
@@ -58,7 +64,8 @@ module _ {E T : Type 0} (named : E → Option ℕ) where
   pub record Left (v : View E T) (before after : List E) (w : View E T) : Type 0 where
     pub begins : Begins v before
     pub adds : AddsOne named v.caller before after
-    pub knows : w ≡ record v { seen = after; mine = places_after v.mine before after; count = w.count; holding = false; held = [] }
+    pub knows : w ≡ record v { seen = after; mine = places_after v.mine before after;
+        count = w.count; holding = false; held = [] }
     pub count : v.count ≤ w.count
     pub owns : Owns w
 
@@ -70,7 +77,8 @@ module _ {S E T : Type 0} (terms : S → T) (kept : S → Type 0) where
   abbrev pub Agrees : View E T → S → Type 0
   Agrees v state = (v.terms ≡ Some (terms state)) × kept state
 
-module _ {S E T : Type 0} (entries : S → List E) (named : E → Option ℕ) (terms : S → T) (kept : S → Type 0) where
+module _ {S E T : Type 0} (entries : S → List E) (named : E → Option ℕ) (terms : S → T)
+    (kept : S → Type 0) where
   -- the turn was taken, and the state with it
   pub record Took (m m' : Sat S E T) : Type 0 where
     pub state : S
@@ -86,15 +94,18 @@ module _ {S E T : Type 0} (entries : S → List E) (named : E → Option ℕ) (t
   Takes st m r m' = (r ≡ 0 → Took m m') × (r ≢ 0 → Missed m m' × (r ≡ 1))
 
   abbrev pub Enters : Step (Option S) → Sat S E T → ℕ → Sat S E T → Type 0
-  Enters st m r m' = (m'.1 ≡ m.1) × ((state : S) → m.1 ≡ (0, Some state) ∷ [] → m'.0 ≡ entered m.0 (entries state)) × Owns named m'.0
+  Enters st m r m' = (m'.1 ≡ m.1) × ((state : S) → m.1 ≡ (0, Some state) ∷ []
+      → m'.0 ≡ entered m.0 (entries state)) × Owns named m'.0
 
   abbrev pub Counts : Step (Option S) → Sat S E T → ℕ → Sat S E T → Type 0
-  Counts st m r m' = (m'.1 ≡ m.1) × (m'.0 ≡ counted m.0 r) × (length m.0.seen ≤ r) × (m.0.count ≤ r) × Owns named m'.0
+  Counts st m r m' = (m'.1 ≡ m.1) × (m'.0 ≡ counted m.0 r) × (length m.0.seen ≤ r) × (m.0.count ≤ r)
+      × Owns named m'.0
 
   abbrev pub Releases : Step (Option S) → Sat S E T → ℕ → Sat S E T → Type 0
   Releases st m r m' = (m'.1 ≡ rest m.1) × (m'.0 ≡ released m.0)
 
   abbrev pub Settles : Step (Option S) → Sat S E T → ℕ → Sat S E T → Type 0
   Settles st m r m' =
-      (m'.1 ≡ m.1) × (m'.0 ≡ m.0) × Owns named m.0 × AreApart m.0.met.kept m.0.met.brought × StartsWith m.0.met.longer m.0.met.shorter
+      (m'.1 ≡ m.1) × (m'.0 ≡ m.0) × Owns named m.0 × AreApart m.0.met.kept m.0.met.brought
+          × StartsWith m.0.met.longer m.0.met.shorter
       × IsFreshFrom named m.0.caller m.0.met.past m.0.met.longer

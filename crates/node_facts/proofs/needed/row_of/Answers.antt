@@ -7,7 +7,7 @@ use Rattle.node_facts.proofs.needed.row_of.Goals as goal
 
 pub loop-next-preserved : goal.loop-next-preserved
 loop-next-preserved c =
-    rw c.in_ok-push_if.ensures
+    rw c.in_ok-push_if.ensures.ok
     (row_more (IsLiveStep c.args.places.now c.args.demands.now c.args.sums.now c.args.op) c.args.operation.now.next
     c.as_slice-next-items.result.now c.loop-next.row c.loop-next.next-index c.is_live-kept.result c.as_slice-next-items.ensures
     c.loop-next-test.true c.is_live-kept.ensures c.loop-next.invariant)

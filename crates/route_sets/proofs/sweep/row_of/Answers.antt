@@ -7,7 +7,7 @@ use Rattle.route_sets.proofs.sweep.row_of.Goals as goal
 
 pub loop-next-preserved : goal.loop-next-preserved
 loop-next-preserved c =
-    rw c.in_ok-push_if.ensures
+    rw c.in_ok-push_if.ensures.ok
     (row_more (IsKept c.args.ask c.args.held.now c.args.count) c.args.operation.now.next c.as_slice-next-items.result.now c.loop-next.row c.loop-next.next-index c.is_kept-kept.result c.as_slice-next-items.ensures c.loop-next-test.true c.is_kept-kept.ensures c.loop-next.invariant)
 
 pub returns : goal.returns

@@ -20,7 +20,7 @@ fn a_solution_is_written_with_its_keys_in_order(rt: HostRuntime) -> Result<(), F
     let text = write_solution(alloc, &plan, 18)?;
     assert_eq!(rt;
         text.as_slice(),
-        b"{\"events\":[{\"operation\":0,\"time\":0,\"train\":1},{\"operation\":0,\"time\":4,\"train\":0}],\"objective_value\":18}".as_slice()
+        br#"{"events":[{"operation":0,"time":0,"train":1},{"operation":0,"time":4,"train":0}],"objective_value":18}"#.as_slice()
     );
     let none = write_solution(alloc, &[], 0)?;
     assert_eq!(rt;
