@@ -156,7 +156,7 @@ IsSaidOfPlan problem fixings (verdict.Optimal cost) (Some plan) None =
     IsRight problem fixings plan.0 plan.1 cost
 IsSaidOfPlan problem fixings (verdict.Optimal cost) (Some plan) (Some line) =
     (fault : Fault) × IsFaultUnder problem fixings plan.0 plan.1 cost fault
-        × (line ≡ plan_fault_line problem fault)
+    × (line ≡ plan_fault_line problem fault)
 
 -- the lines for a tree that is accepted, with what is said of a plan, and the status
 abbrev pub accepted_lines : Verdict → Option (List ℕ) → List (List ℕ)
@@ -172,7 +172,7 @@ abbrev pub SaysChecked : Problem → List Fixing → Verdict → Option (List Ev
     → ℕ → List (List ℕ) → Type 0
 SaysChecked problem fixings verdict plan Accepted status lines =
     (said : Option (List ℕ)) × IsSaidOfPlan problem fixings verdict plan said
-        × (status ≡ accepted_status said) × (lines ≡ accepted_lines verdict said)
+    × (status ≡ accepted_status said) × (lines ≡ accepted_lines verdict said)
 SaysChecked problem fixings verdict plan (Refused node why) status lines = (status ≡ 1)
     × (lines ≡ refused_line node why ∷ [])
 

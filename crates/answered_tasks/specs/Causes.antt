@@ -387,7 +387,7 @@ abbrev pub StopsFromPlan : Holdings → Counts → Counts → Problem → List F
     → List TreeNode → Option (List ℕ) → Cause → Type 0
 StopsFromPlan holds old new problem fixings verdict tree plan cause =
     (before : Holdings) (first : Counts) (problem_name : List ℕ) (fixings_name : Option (List ℕ))
-        (tree_name : List ℕ) (edition : ℕ) → ReadsBehind before holds first old
+    (tree_name : List ℕ) (edition : ℕ) → ReadsBehind before holds first old
     → IsProblemFile before problem_name problem
     → AreOfEdition before problem fixings_name fixings edition
     → IsTreeFile before tree_name edition verdict tree
@@ -398,7 +398,7 @@ abbrev pub StopsFromTree : Holdings → Counts → Counts → Problem → List F
     → Option (List ℕ) → Cause → Type 0
 StopsFromTree holds old new problem fixings edition tree plan cause =
     (before : Holdings) (first : Counts) (problem_name : List ℕ) (fixings_name : Option (List ℕ))
-        → ReadsBehind before holds first old
+    → ReadsBehind before holds first old
     → IsProblemFile before problem_name problem
     → AreOfEdition before problem fixings_name fixings edition
     → StopsTask before first new (Check problem_name tree fixings_name plan) cause
@@ -408,7 +408,7 @@ abbrev pub StopsFromFixings : Holdings → Counts → Counts → Problem → Opt
     → Option (List ℕ) → Cause → Type 0
 StopsFromFixings holds old new problem fixings tree plan cause =
     (before : Holdings) (first : Counts) (problem_name : List ℕ)
-        → ReadsBehind before holds first old → IsProblemFile before problem_name problem
+    → ReadsBehind before holds first old → IsProblemFile before problem_name problem
     → StopsTask before first new (Check problem_name tree fixings plan) cause
 
 -- a reading of the file of the fixings failed, or behind them one of the solution's

@@ -45,7 +45,7 @@ infeasible_line = line (codes "infeasible")
 abbrev pub unfinished_line : Option ℕ → ℕ → ℕ → List ℕ
 unfinished_line best bound spent =
     line (codes "unfinished best " ++ cost_or_none best ++ codes " bound " ++ decimal bound
-        ++ codes " spent " ++ decimal spent)
+    ++ codes " spent " ++ decimal spent)
 
 -- the lines for where the search stands, with the last published plan: the edition, the verdict,
 -- and the plan, where there is one

@@ -134,8 +134,8 @@ impl Spots {
         }
     }
 
-    /// The operations of a train of which it matters when they start, from a forced one of it on, in
-    /// the order in which they come.
+    /// The operations of a train of which it matters when they start, from a forced one of it on,
+    /// in the order in which they come.
     pub(crate) fn stops_from(&self, spot: &Spot) -> &[Stop] {
         match self.stops.get(spot.train as usize) {
             Some(stops) => stops.get(spot.stops as usize..).unwrap_or(&[]),

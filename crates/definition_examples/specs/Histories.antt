@@ -34,13 +34,13 @@ asked = Asked 0 1 (Fix a0_at_0) (Accepted 1)
 abbrev pub published : List Event → ℕ → List Entry
 published plan cost =
     Asked 0 1 (Fix a0_at_0) (Accepted 1) ∷ Shown 0 2
-        (record { edition = 1; best = None; mark = mark.Working }) ∷ Published 1 plan cost ∷ []
+    (record { edition = 1; best = None; mark = mark.Working }) ∷ Published 1 plan cost ∷ []
 
 -- a plan is published before the fixing is accepted, and a feed is shown the edition after it
 abbrev pub outdated : List Entry
 outdated =
     Published 0 second_first 18 ∷ Asked 0 1 (Fix a0_at_0) (Accepted 1)
-        ∷ Shown 0 2 (record { edition = 1; best = None; mark = mark.Working }) ∷ []
+    ∷ Shown 0 2 (record { edition = 1; best = None; mark = mark.Working }) ∷ []
 
 -- an edition is stopped
 abbrev pub stopped : ℕ → ℕ → List Entry
@@ -51,7 +51,7 @@ stopped spent bound = Stopped 0 spent bound ∷ []
 abbrev pub settled : List Event → ℕ → List Entry
 settled plan cost =
     Asked 0 1 (Fix a0_at_0) (Accepted 1) ∷ Shown 0 2
-        (record { edition = 1; best = None; mark = mark.Working })
+    (record { edition = 1; best = None; mark = mark.Working })
     ∷ Grown 0 1 1 0 (record { node = 0; choice = Order a0 b0 } ∷ []) ∷ Published 1 plan cost
     ∷ Settled 1 (Optimal cost) late_tree ∷ []
 

@@ -25,8 +25,13 @@ b1 = op_named 1 1
 
 -- an operation that may start from 0 on, of a duration, with what it lists and what may come next
 abbrev pub lasting : ℕ → List Listing → List ℕ → Operation
-lasting min listings next = record { lower = 0; upper = None; min = min; listings = listings;
-    next = next }
+lasting min listings next = record {
+  lower = 0;
+  upper = None;
+  min = min;
+  listings = listings;
+  next = next;
+}
 
 -- a resource, with a release time
 abbrev pub listing : ℕ → ℕ → Listing
@@ -78,8 +83,13 @@ pub record HasForkedTrain (problem : Problem) : Type 0 where
 
 -- the costs of the forked train's branches: one unit for each unit of time by 1, two by 2
 abbrev pub branch_costs : List Component
-branch_costs = each_unit 0 1 ∷ record { train = 0; operation = 2; threshold = 0; increment = 0;
-    coeff = 2 } ∷ []
+branch_costs = each_unit 0 1 ∷ record {
+  train = 0;
+  operation = 2;
+  threshold = 0;
+  increment = 0;
+  coeff = 2;
+} ∷ []
 
 -- a problem with the forked train, and costs on its branches
 pub record HasBranchCosts (problem : Problem) : Type 0 where

@@ -67,7 +67,7 @@ pub record IsOrderArc (problem : Problem) (decisions : List Decision) (a b : Op)
 abbrev pub GoesTo : Node → Op → Op → Type 0
 GoesTo node a n =
     (n.train ≡ a.train) × ((route : List ℕ) → IsAllowed node a.train route
-        → after a.op route ≡ Some n.op)
+    → after a.op route ≡ Some n.op)
 
 -- a is decided before b, and n follows a on each allowed route: from n the release time
 pub record IsReleaseArc (node : Node) (n b : Op) (arc_length : ℕ) : Type 0 where

@@ -20,7 +20,7 @@ abbrev pub standing_from : List Change → ℕ → List Change → List (ℕ × 
 standing_from all number [] = []
 standing_from all number (Fix fixing ∷ changes) =
     if is_withdrawn number all then standing_from all (number + 1) changes else (number, fixing)
-        ∷ standing_from all (number + 1) changes
+    ∷ standing_from all (number + 1) changes
 standing_from all number (Withdraw other ∷ changes) = standing_from all (number + 1) changes
 
 -- the fixings that stand, each with the number of its change

@@ -23,7 +23,7 @@ op_of e = record { train = e.train; op = e.operation }
 abbrev pub ComesBefore : Event → Event → Type 0
 ComesBefore e f =
     (e.time < f.time) ⊎ ((e.time ≡ f.time) ×
-        ((e.train < f.train) ⊎ ((e.train ≡ f.train) × (e.operation < f.operation))))
+    ((e.train < f.train) ⊎ ((e.train ≡ f.train) × (e.operation < f.operation))))
 
 -- the events before those that are left have all from which an arc leads to this one
 abbrev pub IsReady : Node → List Event → Event → Type 0
@@ -59,7 +59,7 @@ pub record IsEarliest (node : Node) (plan : List Event) : Type 0 where
 abbrev pub HasTwoRoutes : Node → ℕ → Type 0
 HasTwoRoutes node t =
     (route : List ℕ) × (other : List ℕ) × IsAllowed node t route × IsAllowed node t other
-        × (route ≢ other)
+    × (route ≢ other)
 
 -- all allowed routes of the train reach the operation alike, and two go on differently from there
 pub record IsFork (node : Node) (o : Op) : Type 0 where

@@ -14,7 +14,7 @@ FollowsDecision plan (Go o next) = Contains (operations_of o.train plan) o.op
     → after o.op (operations_of o.train plan) ≡ Some next
 FollowsDecision plan (First a b) =
     (i j : ℕ) (e f : Event) → slice_get plan i ≡ Some e → slice_get plan j ≡ Some f → Starts a e
-        → Starts b f → i < j
+    → Starts b f → i < j
 FollowsDecision plan (Run o) = Contains (operations_of o.train plan) o.op
 FollowsDecision plan (Skip o) = Contains (operations_of o.train plan) o.op → ⊥
 

@@ -72,7 +72,7 @@ abbrev pub IsBestCost : Problem → List Entry → Option ℕ → Type 0
 IsBestCost problem history best =
     MatchOption (last_plan history) (best ≡ None)
     (λ p. (IsValid problem (edition_of history) p.0 × (best ≡ Some p.1))
-        ⊎ ((IsValid problem (edition_of history) p.0 → ⊥) × (best ≡ None)))
+    ⊎ ((IsValid problem (edition_of history) p.0 → ⊥) × (best ≡ None)))
 
 -- the mark of a verdict
 abbrev pub mark_of_verdict : Verdict → Mark

@@ -10,8 +10,11 @@ pub record Node : Type 0 where
   pub decisions : List Decision
 
 abbrev pub node_at : Problem → List Fixing → List Decision → Node
-node_at problem fixings decisions = record { problem = problem; fixings = fixings;
-    decisions = decisions }
+node_at problem fixings decisions = record {
+  problem = problem;
+  fixings = fixings;
+  decisions = decisions;
+}
 
 -- the node at which nothing is decided
 abbrev pub root_of : Problem → List Fixing → Node
@@ -19,10 +22,16 @@ root_of problem fixings = node_at problem fixings []
 
 -- the node with one more decision
 abbrev pub with_decision : Node → Decision → Node
-with_decision node decision = record { problem = node.problem; fixings = node.fixings;
-    decisions = node.decisions ++ decision ∷ [] }
+with_decision node decision = record {
+  problem = node.problem;
+  fixings = node.fixings;
+  decisions = node.decisions ++ decision ∷ [];
+}
 
 -- the node with more fixings
 abbrev pub with_fixings : Node → List Fixing → Node
-with_fixings node more = record { problem = node.problem; fixings = node.fixings ++ more;
-    decisions = node.decisions }
+with_fixings node more = record {
+  problem = node.problem;
+  fixings = node.fixings ++ more;
+  decisions = node.decisions;
+}

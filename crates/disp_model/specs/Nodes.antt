@@ -29,7 +29,7 @@ component_op c = record { train = c.train; op = c.operation }
 abbrev pub AddsForced : Node → Component → ℕ → Type 0
 AddsForced node c cost =
     ((total : ℕ) × IsForced node (component_op c) × IsLongest node (component_op c) total
-        × (cost ≡ cost_at c total))
+    × (cost ≡ cost_at c total))
     ⊎ ((IsForced node (component_op c) → ⊥) × (cost ≡ 0))
 
 -- what these components add up to
@@ -37,7 +37,7 @@ abbrev pub ForcedAddUp : Node → List Component → ℕ → Type 0
 ForcedAddUp node [] bound = bound ≡ 0
 ForcedAddUp node (c ∷ components) bound =
     (cost : ℕ) × (rest : ℕ) × AddsForced node c cost × ForcedAddUp node components rest
-        × (bound ≡ cost + rest)
+    × (bound ≡ cost + rest)
 
 -- what all components add up to
 abbrev pub IsForcedBound : Node → ℕ → Type 0

@@ -56,7 +56,7 @@ IsCounted changes reply = Row (length changes ≡ MOST_CHANGES) (Refused (Full M
 abbrev pub IsRouted : Problem → List Change → ℕ → Fixing → Reply → Type 0
 IsRouted problem changes t fixing reply =
     Row (HasRoute (root_of problem (standing_of changes ++ fixing ∷ [])) t → ⊥) (Refused NoRoute)
-        reply (IsCounted changes reply)
+    reply (IsCounted changes reply)
 
 -- of a started operation, from the rows on its time on
 abbrev pub RepliesToStart : Problem → List Change → ℕ → ℕ → ℕ → Operation → Reply → Type 0
@@ -70,8 +70,8 @@ RepliesToStart problem changes t o time operation reply =
         MatchOption (known_as (Started t o time) (numbered_standing changes))
         (MatchOption (fixed_start (standing_of changes) (record { train = t; op = o }))
         (Row (time < not_before (standing_of changes) (record { train = t; op = o }))
-            (Refused (EarliestIs (not_before (standing_of changes) (record { train = t; op = o }))))
-            reply
+        (Refused (EarliestIs (not_before (standing_of changes) (record { train = t; op = o }))))
+        reply
         (IsRouted problem changes t (Started t o time) reply))
         (λ kept. reply ≡ Refused (StartedAt kept)))
         (λ k. reply ≡ Known k)
@@ -112,13 +112,13 @@ RepliesToWithdrawal changes number None reply = reply ≡ Refused NoSuchChange
 RepliesToWithdrawal changes number (Some (Withdraw other)) reply = reply ≡ Refused NoSuchChange
 RepliesToWithdrawal changes number (Some (Fix fixing)) reply =
     MatchOption (withdrawn_from number 1 changes) (IsCounted changes reply)
-        (λ k. reply ≡ Refused (Withdrawn k))
+    (λ k. reply ≡ Refused (Withdrawn k))
 
 -- the reply to a change, with the changes accepted before (this project)
 abbrev pub IsReply : Problem → List Change → Change → Reply → Type 0
 IsReply problem changes (Fix (Started t o time)) reply =
     RepliesToFixing problem t o reply (λ operation. RepliesToStart problem changes t o time
-        operation reply)
+    operation reply)
 IsReply problem changes (Fix (Chosen t o next)) reply =
     RepliesToFixing problem t o reply (λ operation. RepliesToChoice problem changes t o next reply)
 IsReply problem changes (Fix (NotBefore t o time)) reply =

@@ -25,7 +25,7 @@ abbrev pub reached_from : (ℕ → ℕ) → List Operation → ℕ → List ℕ 
 reached_from base train time [] o = None
 reached_from base train time (p ∷ route) o =
     if p == o then Some (max time (base p))
-        else reached_from base train (max time (base p) + duration_of train p) route o
+    else reached_from base train (max time (base p) + duration_of train p) route o
 
 -- the least time at which an operation is reached, over the allowed routes that have it (this
 -- project)
@@ -101,7 +101,7 @@ AreWalksOn node t [] (arrival ∷ arrivals) = ⊥
 AreWalksOn node t (walk ∷ walks) [] = ⊥
 AreWalksOn node t (walk ∷ walks) (arrival ∷ arrivals) =
     EndsIn walk (record { train = t; op = arrival.operation }) × IsWalk node walk arrival.total
-        × AreWalksOn node t walks arrivals
+    × AreWalksOn node t walks arrivals
 
 -- the greatest length of these walks that end at an operation, or 0
 abbrev pub greatest_to : ℕ → List Arrival → ℕ
@@ -136,5 +136,5 @@ HaveDistinctTrains trains = (i j : ℕ) (s u : TrainWalks) → i < j → slice_g
 abbrev pub AreOfOthers : Problem → List ComponentWalk → List TrainWalks → Type 0
 AreOfOthers problem walks trains =
     (i j : ℕ) (w : ComponentWalk) (listed : TrainWalks) (c : Component) → slice_get walks i ≡ Some w
-        → slice_get trains j ≡ Some listed
+    → slice_get trains j ≡ Some listed
     → slice_get problem.components w.component ≡ Some c → c.train ≢ listed.train

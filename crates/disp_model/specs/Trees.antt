@@ -51,7 +51,7 @@ abbrev pub WalksCost : Node → List ComponentWalk → ℕ → Type 0
 WalksCost node [] sum = sum ≡ 0
 WalksCost node (w ∷ walks) sum =
     (cost : ℕ) × (rest : ℕ) × WalkCosts node w cost × WalksCost node walks rest
-        × (sum ≡ cost + rest)
+    × (sum ≡ cost + rest)
 
 -- no component has two walks
 abbrev pub HaveDistinct : List ComponentWalk → Type 0

@@ -43,7 +43,7 @@ abbrev pub WalksOn : Node → Op → ℕ → List Op → ℕ → Type 0
 WalksOn node u walked [] total = walked ≡ total
 WalksOn node u walked (v ∷ rest) total =
     (arc_length : ℕ) × IsLongestArc node u v arc_length
-        × WalksOn node v (walked + arc_length) rest total
+    × WalksOn node v (walked + arc_length) rest total
 
 -- a walk of a length: the lower of the first, and the longest arc of each step (2002 paper)
 abbrev pub IsWalk : Node → List Op → ℕ → Type 0

@@ -22,7 +22,7 @@ pub record IsGrowth (core : Core) (fragment : Fragment) : Type 0 where
 abbrev pub MayGiveBack : Core → Work → Bool → Type 0
 MayGiveBack core work examined =
     examined ≡ true → IsExamined core.settings.rule
-        (node_at core.problem (fixings_after work.edition core.history) work.decisions) work.bound
+    (node_at core.problem (fixings_after work.edition core.history) work.decisions) work.bound
 
 abbrev pub MayStep : Core → CoreEvent → Type 0
 MayStep core (event.Ask feed line change) = Unit {0}

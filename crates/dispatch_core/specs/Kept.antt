@@ -17,7 +17,7 @@ abbrev pub IsCostUnder : Problem → List Fixing → Option (List Event × ℕ) 
 IsCostUnder problem fixings last cost =
     MatchOption last (cost ≡ None)
     (λ p. (IsValid problem fixings p.0 × (cost ≡ Some p.1))
-        ⊎ ((IsValid problem fixings p.0 → ⊥) × (cost ≡ None)))
+    ⊎ ((IsValid problem fixings p.0 → ⊥) × (cost ≡ None)))
 
 -- the last published plan stands in the entry of this place
 pub record IsLastAt (history : List Entry) (place : ℕ) : Type 0 where

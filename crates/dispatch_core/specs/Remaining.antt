@@ -23,7 +23,7 @@ AreFixingChanges changes = All (λ change. IsWithdrawal change → ⊥) changes
 abbrev pub AreLeftOf : Core → Fragment → List TreeNode → List ℕ → Type 0
 AreLeftOf core fragment nodes bounds =
     AreLeft (node_at core.problem (edition_of core.history) fragment.work.decisions ∷ [])
-        fragment.subtree fragment.bounds nodes bounds
+    fragment.subtree fragment.bounds nodes bounds
 
 -- the fragment with other nodes and bounds
 abbrev pub with_tree : Fragment → List TreeNode → List ℕ → Fragment

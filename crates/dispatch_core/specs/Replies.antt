@@ -73,14 +73,26 @@ pub record ShowsStanding (core : Core) (feed line : ℕ) (standing : Standing) (
   pub after_is : after ≡ entered core (entry.Shown feed line standing)
 
 abbrev pub with_ended : Core → ℕ → Core
-with_ended core feed = record { problem = core.problem; settings = core.settings;
-    history = core.history; nodes = core.nodes; ended = slice_set core.ended feed true; left =
-    core.left }
+with_ended core feed = record {
+  problem = core.problem;
+  settings = core.settings;
+  history = core.history;
+  nodes = core.nodes;
+  ended = slice_set core.ended feed true;
+  left =
+      core.left;
+}
 
 abbrev pub with_left : Core → ℕ → Core
-with_left core searcher = record { problem = core.problem; settings = core.settings;
-    history = core.history; nodes = core.nodes; ended = core.ended; left =
-    slice_set core.left searcher true }
+with_left core searcher = record {
+  problem = core.problem;
+  settings = core.settings;
+  history = core.history;
+  nodes = core.nodes;
+  ended = core.ended;
+  left =
+      slice_set core.left searcher true;
+}
 
 -- how many have not ended
 abbrev pub open_feed_count : List Bool → ℕ

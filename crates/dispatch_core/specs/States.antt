@@ -39,13 +39,25 @@ pub record Core : Type 0 where
 
 -- with one more entry
 abbrev pub entered : Core → Entry → Core
-entered core entry = record { problem = core.problem; settings = core.settings;
-    history = core.history ++ entry ∷ []; nodes = core.nodes; ended = core.ended; left = core.left }
+entered core entry = record {
+  problem = core.problem;
+  settings = core.settings;
+  history = core.history ++ entry ∷ [];
+  nodes = core.nodes;
+  ended = core.ended;
+  left = core.left;
+}
 
 -- with another tree
 abbrev pub with_nodes : Core → State → Core
-with_nodes core nodes = record { problem = core.problem; settings = core.settings;
-    history = core.history; nodes = nodes; ended = core.ended; left = core.left }
+with_nodes core nodes = record {
+  problem = core.problem;
+  settings = core.settings;
+  history = core.history;
+  nodes = nodes;
+  ended = core.ended;
+  left = core.left;
+}
 
 -- how many branchings may still be allowed for the newest edition
 abbrev pub free_of : Core → ℕ

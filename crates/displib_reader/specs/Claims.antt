@@ -45,7 +45,7 @@ operation_claims count t o d =
 unfoldable pub train_claims : ℕ → Data → List (Claim Place)
 train_claims t d =
     needed (place.Train t) want.List (Some d)
-        ∷ claims_from (operation_claims (length (members_in (Some d))) t) 0 (members_in (Some d))
+    ∷ claims_from (operation_claims (length (members_in (Some d))) t) 0 (members_in (Some d))
 
 -- how many operations the train of a number has, none where there is no such train
 abbrev pub count_at : List Data → Option ℕ → ℕ
@@ -56,7 +56,7 @@ count_at trains (Some t) = length (members_in (slice_get trains t))
 abbrev pub cost_claims : ℕ → Data → List (Claim Place)
 cost_claims c d =
     optional (place.ComponentKey c key.Threshold) (want.Number GREATEST_NUMBER)
-        (field (codes "threshold") d)
+    (field (codes "threshold") d)
     ∷ optional (place.ComponentKey c key.Increment) (want.Number GREATEST_NUMBER)
     (field (codes "increment") d)
     ∷ optional (place.ComponentKey c key.Coeff) (want.Number GREATEST_NUMBER)

@@ -23,4 +23,4 @@ too_many d =
     if nat_lt MOST_TRAINS (trains_given d) then Some (Trains, trains_given d) else
     (if nat_lt MOST_OPERATIONS (operations_given d) then Some (Operations, operations_given d) else
     (if nat_lt MOST_COMPONENTS (components_given d) then Some (Components, components_given d)
-        else None))
+    else None))

@@ -46,8 +46,13 @@ operation_read names d = do
   listings ← each (listing_of names) resources
   successors ← array_or_empty (codes "successors") d
   next ← each (whole_of GREATEST_NUMBER) successors
-  Some (record { lower = lower; upper = upper; min = min; listings = listings;
-      next = once nat_eq next })
+  Some (record {
+    lower = lower;
+    upper = upper;
+    min = min;
+    listings = listings;
+    next = once nat_eq next;
+  })
 
 abbrev pub train_read_as : List (List ℕ) → Data → Option (List Operation)
 train_read_as names d = option_map values_of (as_array d) >>= each (operation_read names)
@@ -64,8 +69,13 @@ component_of d = do
   threshold ← number_or (codes "threshold") GREATEST_NUMBER 0 d
   increment ← number_or (codes "increment") GREATEST_NUMBER 0 d
   coeff ← number_or (codes "coeff") GREATEST_NUMBER 0 d
-  if is_delay kind then Some (record { train = train; operation = operation; threshold = threshold;
-      increment = increment; coeff = coeff }) else None
+  if is_delay kind then Some (record {
+    train = train;
+    operation = operation;
+    threshold = threshold;
+    increment = increment;
+    coeff = coeff;
+  }) else None
 
 -- the trains, where the resources have these names
 abbrev pub trains_with : List (List ℕ) → Data → Option (List (List Operation))

@@ -26,8 +26,10 @@ operation_fixed (NotBefore t p time) = p
 abbrev pub times_with : Fixing → FixedTimes → FixedTimes
 times_with (Started t p time) times = record { start = Some time; not_before = times.not_before }
 times_with (Chosen t p next) times = times
-times_with (NotBefore t p time) times = record { start = times.start;
-    not_before = max time times.not_before }
+times_with (NotBefore t p time) times = record {
+  start = times.start;
+  not_before = max time times.not_before;
+}
 
 -- what fixings say of an operation
 abbrev pub fixed_times : List Fixing → Op → FixedTimes
@@ -42,8 +44,10 @@ pub record AreTimesOf (problem : Problem) (fixings : List Fixing) (times : List 
 
 -- when an operation may start
 abbrev pub window_by : Problem → List Fixing → Op → Window
-window_by problem fixings o = record { lower = lower_of problem fixings o;
-    upper = upper_of problem fixings o }
+window_by problem fixings o = record {
+  lower = lower_of problem fixings o;
+  upper = upper_of problem fixings o;
+}
 
 -- when each operation may start stands at its number
 pub record AreWindowsOf (problem : Problem) (fixings : List Fixing) (windows : List Window)

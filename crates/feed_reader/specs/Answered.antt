@@ -49,7 +49,7 @@ one_too_many feed = Unread feed (MOST_LINES + 1) TooMany
 abbrev pub AnswersAs : ℕ → List (List ℕ) → List Entry → Reading → Type 0
 AnswersAs feed lines entries reading.Ended =
     AnswerLines feed 1 lines entries × (length entries ≡ length lines)
-        × (length entries ≤ MOST_LINES)
+    × (length entries ≤ MOST_LINES)
 AnswersAs feed lines entries reading.TooMany =
     (read : List Entry) × (entries ≡ read ++ one_too_many feed ∷ []) × AnswerLines feed 1 lines read
     × (length read ≡ MOST_LINES) × (MOST_LINES < length lines)
@@ -63,7 +63,7 @@ abbrev pub AnsweredSome : ℕ → Option (List (List ℕ)) → Option (List (Lis
 AnsweredSome feed None left entries = left ≡ None
 AnsweredSome feed (Some lines) left entries =
     AnswerLines feed 1 lines entries × (length entries ≤ length lines)
-        × (left ≡ Some (drop (length entries) lines))
+    × (left ≡ Some (drop (length entries) lines))
 
 -- the next line is answered by one entry more
 abbrev pub AnswersNext : ℕ → ℕ → Option (List (List ℕ)) → Option (List (List ℕ)) → List Entry
@@ -73,7 +73,7 @@ AnswersNext feed number None left before after = (left ≡ None)
 AnswersNext feed number (Some []) left before after = ⊥
 AnswersNext feed number (Some (line ∷ rest)) left before after =
     (left ≡ Some rest) × ((entry : Entry) × AnswersLine feed number line entry
-        × (after ≡ before ++ entry ∷ []))
+    × (after ≡ before ++ entry ∷ []))
 
 -- as many entries as lines of the pass have come, and they answer these
 pub record IsReadTo (feed count lines : ℕ) (told left : Option (List (List ℕ)))

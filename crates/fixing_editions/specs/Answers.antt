@@ -16,7 +16,7 @@ use Rattle.disp_model.specs.Replies.{Row, known_as, IsRouted}
 abbrev pub RepliesFromEarliest : Problem → List Change → ℕ → ℕ → ℕ → ℕ → Reply → Type 0
 RepliesFromEarliest problem changes t o time earliest reply =
     Row (time < earliest) (Refused (EarliestIs earliest)) reply
-        (IsRouted problem changes t (Started t o time) reply)
+    (IsRouted problem changes t (Started t o time) reply)
 
 -- the reply to a start at a time at which the operation may start
 abbrev pub RepliesInTime : Problem → List Change → ℕ → ℕ → ℕ → Reply → Type 0
@@ -24,7 +24,7 @@ RepliesInTime problem changes t o time reply =
     MatchOption (known_as (Started t o time) (numbered_standing changes))
     (MatchOption (fixed_start (standing_of changes) (record { train = t; op = o }))
     (RepliesFromEarliest problem changes t o time
-        (not_before (standing_of changes) (record { train = t; op = o })) reply)
+    (not_before (standing_of changes) (record { train = t; op = o })) reply)
     (λ kept. reply ≡ Refused (StartedAt kept)))
     (λ k. reply ≡ Known k)
 

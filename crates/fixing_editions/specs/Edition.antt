@@ -32,7 +32,7 @@ changes_after changes change (Refused why) = changes
 abbrev pub AreOwn : List Change → List (List Numbered) → Type 0
 AreOwn changes by_train =
     (t : ℕ) → t < length by_train → slice_index_or by_train t [] ≡ own_of t
-        (numbered_standing changes)
+    (numbered_standing changes)
 
 -- at each place stands by which change the one of this place was taken back, if it was
 pub record AreWithdrawn (changes : List Change) (withdrawn : List (Option ℕ)) : Type 0 where
@@ -69,8 +69,8 @@ pub record EntersFixing (number : ℕ) (fixing : Fixing) (old new : Kept) : Type
   pub by_train :
       new.by_train.items
       ≡ slice_set old.by_train.items (train_of fixing)
-          (slice_index_or old.by_train.items (train_of fixing) []
-          ++ record { number = number; fixing = fixing } ∷ [])
+      (slice_index_or old.by_train.items (train_of fixing) []
+      ++ record { number = number; fixing = fixing } ∷ [])
   pub standing : new.standing.items ≡ old.standing.items ++ fixing ∷ []
   pub stale : new.stale ≡ old.stale
 
@@ -81,7 +81,7 @@ pub record TakesBack (number taken : ℕ) (fixing : Fixing) (old new : Kept) : T
   pub by_train :
       new.by_train.items
       ≡ slice_set old.by_train.items (train_of fixing)
-          (without taken (slice_index_or old.by_train.items (train_of fixing) []))
+      (without taken (slice_index_or old.by_train.items (train_of fixing) []))
   pub standing : new.standing.items ≡ old.standing.items
   pub stale : new.stale ≡ true
 

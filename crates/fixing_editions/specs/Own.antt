@@ -17,7 +17,7 @@ abbrev pub own_of : ℕ → List (ℕ × Fixing) → List Numbered
 own_of t [] = []
 own_of t (p ∷ standing) =
     if train_of p.1 == t then record { number = p.0; fixing = p.1 } ∷ own_of t standing
-        else own_of t standing
+    else own_of t standing
 
 -- the number of a fixing among them
 abbrev pub number_in : List Numbered → Fixing → Option ℕ

@@ -28,4 +28,4 @@ pub record IsSpanOf (node : Node) (o : Op) (start end : ℕ) : Type 0 where
 abbrev pub IsListed : Problem → Op → ℕ → ℕ → Type 0
 IsListed problem o resource release =
     (l : Listing) × Contains (listings_of problem o) l × (l.resource ≡ resource)
-        × (l.release ≡ release)
+    × (l.release ≡ release)

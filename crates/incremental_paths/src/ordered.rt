@@ -321,7 +321,8 @@ impl OrderedPaths {
     /// The greatest length of a walk that ends in the node.
     pub fn length(&self, node: u32) -> u64
         requires { IsNode self.now.network node }
-        ensures longest { IsLongestLength self.now.network.lowers self.now.network.arcs node result }
+        ensures longest { IsLongestLength self.now.network.lowers self.now.network.arcs
+            node result }
         ensures of_all_walks { (nodes : List ℕ)
             → IsWalkTo self.now.network.lowers self.now.network.arcs node nodes
             → walk_length self.now.network.lowers self.now.network.arcs nodes ≤ result }

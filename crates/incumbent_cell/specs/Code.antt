@@ -26,7 +26,7 @@ code_cost code = told_cost (code % SPAN)
 abbrev pub IsNoWorse : ℕ → ℕ → ℕ → ℕ → Type 0
 IsNoWorse edition cost other_edition other_cost =
     (other_edition < edition) ⊎ ((other_edition ≡ edition)
-        × (min cost SATURATED ≤ min other_cost SATURATED))
+    × (min cost SATURATED ≤ min other_cost SATURATED))
 
 -- the cost of a code, as far as codes tell, is no greater than this one
 abbrev pub IsNoMore : Option ℕ → ℕ → Type 0

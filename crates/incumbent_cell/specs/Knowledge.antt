@@ -21,17 +21,25 @@ with_found_code v code = record { put = v.put; found = v.found ++ code ∷ []; s
 
 -- a pass and the one that is split off know the same, and have half the share each
 abbrev pub halved : Known → Known
-halved v = record { put = v.put; found = v.found;
-    share = record { parts = v.share.parts; halvings = v.share.halvings + 1 } }
+halved v = record {
+  put = v.put;
+  found = v.found;
+  share = record { parts = v.share.parts; halvings = v.share.halvings + 1 };
+}
 
 abbrev pub share_sum : Share → Share → Share
-share_sum s t = record { parts = s.parts * 2 ^ t.halvings + t.parts * 2 ^ s.halvings;
-    halvings = s.halvings + t.halvings }
+share_sum s t = record {
+  parts = s.parts * 2 ^ t.halvings + t.parts * 2 ^ s.halvings;
+  halvings = s.halvings + t.halvings;
+}
 
 -- after another pass was joined_known
 abbrev pub joined_known : Known → Known → Known
-joined_known v w = record { put = v.put ++ w.put; found = v.found ++ w.found;
-    share = share_sum v.share w.share }
+joined_known v w = record {
+  put = v.put ++ w.put;
+  found = v.found ++ w.found;
+  share = share_sum v.share w.share;
+}
 
 -- no other pass is left: all that were split off are joined_known again, here
 abbrev pub IsWhole : Known → Type 0

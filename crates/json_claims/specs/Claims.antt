@@ -19,8 +19,12 @@ pub record Claim (P : Type 0) : Type 0 where
   pub found : Option Data
 
 abbrev pub claim : {P : Type 0} → P → Want → Bool → Option Data → Claim P
-claim place want needed found = record { place = place; want = want; needed = needed;
-    found = found }
+claim place want needed found = record {
+  place = place;
+  want = want;
+  needed = needed;
+  found = found;
+}
 
 abbrev pub needed : {P : Type 0} → P → Want → Option Data → Claim P
 needed place want found = claim place want true found

@@ -21,5 +21,5 @@ abbrev pub AreHolders : List Operation → List ℕ → List Demand → List (Op
     → List (Option ℕ) → Type 0
 AreHolders train places demands sums needed holders =
     (o : ℕ) → MatchOption (sum_at holders o)
-        ((h : ℕ) → Holds train places demands sums needed h o → ⊥)
-        (λ h. Holds train places demands sums needed h o)
+    ((h : ℕ) → Holds train places demands sums needed h o → ⊥)
+    (λ h. Holds train places demands sums needed h o)

@@ -37,7 +37,7 @@ abbrev pub spots_for : ℕ → ℕ → List Decision → List Spot
 spots_for parent number [] = []
 spots_for parent number (decision ∷ decisions) =
     record { number = number; above = Some (record { parent = parent; decision = decision }) }
-        ∷ spots_for parent (number + 1) decisions
+    ∷ spots_for parent (number + 1) decisions
 
 -- a place shows this leaf
 pub record ShowsLeaf (kept : List TreeNode) (place : Place) (leaf : TreeLeaf) : Type 0 where

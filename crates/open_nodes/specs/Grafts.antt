@@ -30,7 +30,7 @@ FillPlaces problem (suc left) (Leaf leaf ∷ tree) (bound ∷ bounds) =
     FillPlaces problem left tree bounds
 FillPlaces problem (suc left) (Branch choice children ∷ tree) bounds =
     (children ≡ length (children_of problem choice))
-        × FillPlaces problem (children + left) tree bounds
+    × FillPlaces problem (children + left) tree bounds
 
 -- where a leaf is known dead
 abbrev pub kind_of : TreeLeaf → Kind
@@ -42,13 +42,27 @@ kind_of (Shares walks trains) = Open
 
 -- a place as it becomes a branch, with its first child behind it
 abbrev pub branch_at : Place → ℕ → ℕ → Place
-branch_at place first shows = record { above = place.above; next = Some first; shows = shows;
-    kind = Branched; bound = 0; out = None; examined = None }
+branch_at place first shows = record {
+  above = place.above;
+  next = Some first;
+  shows = shows;
+  kind = Branched;
+  bound = 0;
+  out = None;
+  examined = None;
+}
 
 -- a place as it becomes this leaf
 abbrev pub leaf_at : Place → ℕ → TreeLeaf → ℕ → Place
-leaf_at place shows leaf bound = record { above = place.above; next = place.next; shows = shows;
-    kind = kind_of leaf; bound = bound; out = None; examined = None }
+leaf_at place shows leaf bound = record {
+  above = place.above;
+  next = place.next;
+  shows = shows;
+  kind = kind_of leaf;
+  bound = bound;
+  out = None;
+  examined = None;
+}
 
 abbrev pub next_in : Option ℕ → ℕ → List Decision → Option ℕ
 next_in behind number [] = behind
@@ -59,9 +73,17 @@ next_given None number behind = behind
 next_given (Some decision) number behind = Some number
 
 abbrev pub new_place : ℕ → Decision → Option ℕ → Place
-new_place parent decision next = record { above = Some
-    (record { parent = parent; decision = decision }); next = next; shows = 0; kind = Open; bound =
-    0; out = None; examined = None }
+new_place parent decision next = record {
+  above = Some
+      (record { parent = parent; decision = decision });
+  next = next;
+  shows = 0;
+  kind = Open;
+  bound =
+      0;
+  out = None;
+  examined = None;
+}
 
 -- the places of the children of a branch, numbered from a number on
 abbrev pub children_at : ℕ → Option ℕ → ℕ → List Decision → List Place
@@ -90,7 +112,7 @@ behind_first (bound ∷ bounds) = bounds
 abbrev pub branched : Problem → ℕ → ℕ → ℕ → Place → Choice → List Place → List Place
 branched problem last shows n place choice grown =
     slice_set (grown ++ children_at n place.next (last + length grown) (children_of problem choice))
-        (n - last) (branch_at place (last + length grown) shows)
+    (n - last) (branch_at place (last + length grown) shows)
 
 -- one node more: of the places the leaf that grows is the first, and the last one there is has its
 -- number before it
@@ -126,8 +148,12 @@ grafted problem last shows (node ∷ tree) graft =
 
 -- a leaf that is in, before it grows
 abbrev pub ungrown : Place → ℕ → List ℕ → Graft
-ungrown place n bounds = record { grown = with_out place None ∷ []; at = Some n; bounds = bounds;
-    splits = [] }
+ungrown place n bounds = record {
+  grown = with_out place None ∷ [];
+  at = Some n;
+  bounds = bounds;
+  splits = [];
+}
 
 -- what the leaf of a number makes, with the nodes that show it
 abbrev pub grown_at : Problem → State → ℕ → Place → List TreeNode → List ℕ → Graft

@@ -38,8 +38,15 @@ leaf_of state n = leaf_in (shown_at state.places state.kept n)
 
 -- a leaf as it falls back: it shows the empty list of walks, has the bound 0, and is not marked
 abbrev pub fallen : Place → Place
-fallen place = record { above = place.above; next = place.next; shows = 0; kind = Open; bound = 0;
-    out = place.out; examined = None }
+fallen place = record {
+  above = place.above;
+  next = place.next;
+  shows = 0;
+  kind = Open;
+  bound = 0;
+  out = place.out;
+  examined = None;
+}
 
 abbrev pub fallen_by : List Place → ℕ → Place → Kind → List Place
 fallen_by places n place Branched = places

@@ -25,8 +25,15 @@ with_places state places = record { places = places; kept = state.kept; edition 
 
 -- the first leaf, which shows the empty list of walks
 abbrev pub first_place : Place
-first_place = record { above = None; next = None; shows = 0; kind = Open; bound = 0; out = None;
-    examined = None }
+first_place = record {
+  above = None;
+  next = None;
+  shows = 0;
+  kind = Open;
+  bound = 0;
+  out = None;
+  examined = None;
+}
 
 abbrev pub one_open_leaf : State
 one_open_leaf = record { places = first_place ∷ []; kept = Leaf (Costs []) ∷ []; edition = 0 }
@@ -85,8 +92,13 @@ allowed_of state = sum_by (λ p. allowance_for state.edition p.out) state.places
 -- ---- works
 
 abbrev pub errand_of : Work → Errand
-errand_of work = record { bound = work.bound; edition = work.edition; best = work.best;
-    seen = work.seen; allowance = work.allowance }
+errand_of work = record {
+  bound = work.bound;
+  edition = work.edition;
+  best = work.best;
+  seen = work.seen;
+  allowance = work.allowance;
+}
 
 -- a work that equals this one in every field is out
 pub record IsOut (places : List Place) (work : Work) (place : Place) : Type 0 where
@@ -100,17 +112,38 @@ ForOut places work = (place : Place) × IsOut places work place
 -- ---- what the calls change
 
 abbrev pub with_out : Place → Option Errand → Place
-with_out place out = record { above = place.above; next = place.next; shows = place.shows;
-    kind = place.kind; bound = place.bound; out = out; examined = place.examined }
+with_out place out = record {
+  above = place.above;
+  next = place.next;
+  shows = place.shows;
+  kind = place.kind;
+  bound = place.bound;
+  out = out;
+  examined = place.examined;
+}
 
 abbrev pub marked : Place → Option ℕ → Place
-marked place examined = record { above = place.above; next = place.next; shows = place.shows;
-    kind = place.kind; bound = place.bound; out = None; examined = examined }
+marked place examined = record {
+  above = place.above;
+  next = place.next;
+  shows = place.shows;
+  kind = place.kind;
+  bound = place.bound;
+  out = None;
+  examined = examined;
+}
 
 abbrev pub work_for : State → ℕ → Place → Option ℕ → ℕ → ℕ → Work
 work_for state node place best seen allowance =
-    record { node = node; bound = place.bound; edition = state.edition;
-    decisions = decisions_of state.places node; best = best; seen = seen; allowance = allowance }
+    record {
+      node = node;
+      bound = place.bound;
+      edition = state.edition;
+      decisions = decisions_of state.places node;
+      best = best;
+      seen = seen;
+      allowance = allowance;
+    }
 
 -- a leaf of this place goes out with this work
 pub record Sends (state : State) (node : ℕ) (best : Option ℕ) (seen allowance : ℕ) (work : Work)

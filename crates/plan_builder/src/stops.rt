@@ -18,7 +18,8 @@ fn stop_of(train: u32, first: u32, operation: u32, paths: &Paths) -> Stop
     requires node { first + operation < length paths.now.lowers }
     ensures op { op_of result.event ≡ op_on train operation }
     ensures node { result.node ≡ first + operation }
-    ensures longest { IsLongestLength paths.now.lowers paths.now.arcs result.node result.event.time }
+    ensures longest { IsLongestLength paths.now.lowers paths.now.arcs
+        result.node result.event.time }
 {
     let node = first + operation;
     Stop {

@@ -59,7 +59,7 @@ module _ {F : Type 0} where
   pub record IsEnded (name : F → List ℕ) (faults : F → ℕ) (trees : Option (List ℕ)) (first : Pass)
       (readers : List (Reader F)) (searchers : List Searcher)
       (printed : Result (Unit {0}) PrintNo) (old new : Outside) (core : Core)
-          (told : Result (Unit {0}) PrintNo) : Type 0 where
+      (told : Result (Unit {0}) PrintNo) : Type 0 where
     pub sound : IsSound core
     pub terms : (known first).terms ≡ Some (terms_of core)
     pub starts : StartsWith core.history (known first).seen

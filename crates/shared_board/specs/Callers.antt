@@ -7,8 +7,12 @@ use Rattle.shared_board.specs.declared.terms.Terms.{Terms}
 
 -- what never changes of a core
 abbrev pub terms_of : Core → Terms
-terms_of core = record { problem = core.problem; settings = core.settings;
-    feeds = length core.ended; searchers = length core.left }
+terms_of core = record {
+  problem = core.problem;
+  settings = core.settings;
+  feeds = length core.ended;
+  searchers = length core.left;
+}
 
 -- the caller of a searcher
 abbrev pub searcher_caller : ℕ → ℕ

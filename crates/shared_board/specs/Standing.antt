@@ -38,8 +38,8 @@ EntersAs (event.Show feed line) (reply.Shown standing) v w =
     StandsEntered v (entry.Shown feed line standing) w
 EntersAs (event.Grow searcher fragment) (reply.Grown count) v w =
     (splits : List Split) × StandsEntered v
-        (entry.Grown searcher fragment.work.edition fragment.work.seen fragment.work.node splits) w
-        × (count ≡ length splits)
+    (entry.Grown searcher fragment.work.edition fragment.work.seen fragment.work.node splits) w
+    × (count ≡ length splits)
 EntersAs (event.Publish edition plan) (reply.Published cost) v w =
     StandsEntered v (entry.Published edition plan cost) w
 EntersAs (event.Settle edition) (reply.Settled verdict) v w = (tree : List TreeNode)

@@ -8,7 +8,7 @@ use Rattle.disp_model.specs.declared.plan.Event.{Event}
 abbrev pub event_text : Event → List ℕ
 event_text e =
     codes "{\"operation\":" ++ decimal e.operation ++ codes ",\"time\":" ++ decimal e.time
-        ++ codes ",\"train\":" ++ decimal e.train ++ codes "}"
+    ++ codes ",\"train\":" ++ decimal e.train ++ codes "}"
 
 -- an event behind another one
 abbrev pub next_event_text : Event → List ℕ

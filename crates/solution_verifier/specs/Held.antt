@@ -27,8 +27,8 @@ event_end (s ∷ next) by_itself (f ∷ run) = Some f.time
 abbrev pub ended_in : Problem → List Event → ℕ → Event → Option ℕ
 ended_in problem stood i d =
     event_end (next_of (train_at problem d.train) d.operation)
-        (d.time + duration_of (train_at problem d.train) d.operation)
-        (run_of d.train (drop (i + 1) stood))
+    (d.time + duration_of (train_at problem d.train) d.operation)
+    (run_of d.train (drop (i + 1) stood))
 
 -- from the end on the release time has passed
 abbrev pub HasPassed : Option ℕ → ℕ → ℕ → Type 0
@@ -40,7 +40,7 @@ HasPassed (Some t) release time = t + release ≤ time
 abbrev pub LetsBy : Problem → List Event → ℕ → Event → Event → Listing → Type 0
 LetsBy problem stood i d e l =
     Any (λ k. k.resource ≡ l.resource) (listings_at problem e)
-        → HasPassed (ended_in problem stood i d) l.release e.time
+    → HasPassed (ended_in problem stood i d) l.release e.time
 
 -- the event d at position i, where it is of another train, lets e by on each listing
 abbrev pub LetsPass : Problem → List Event → ℕ → Event → Event → Type 0

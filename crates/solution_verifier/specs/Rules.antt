@@ -48,7 +48,7 @@ KeepsRule problem stood e first_is_entry = run_of e.train stood ≡ []
 -- any other is a successor of its train's event before it
 KeepsRule problem stood e next_is_successor =
     (d : Event) → EndsWith (run_of e.train stood) d
-        → IsSuccessor (train_at problem e.train) d.operation e.operation
+    → IsSuccessor (train_at problem e.train) d.operation e.operation
 -- it starts at its operation's lower or later
 KeepsRule problem stood e from_lower = (o : Operation) → operation_of problem e ≡ Some o
     → o.lower ≤ e.time
@@ -58,7 +58,7 @@ KeepsRule problem stood e until_upper = (o : Operation) → operation_of problem
 -- its train's event before it lasts its operation's duration at least
 KeepsRule problem stood e lasts_its_duration =
     (d : Event) → EndsWith (run_of e.train stood) d
-        → d.time + duration_of (train_at problem e.train) d.operation ≤ e.time
+    → d.time + duration_of (train_at problem e.train) d.operation ≤ e.time
 
 -- of the rules, this is the first that the event does not keep
 pub record IsFirstBroken (problem : Problem) (stood : List Event) (e : Event) (rule : Rule)

@@ -14,4 +14,4 @@ pub record IsStatedOtherwise (cost : ℕ) (stated : Option ℕ) (fault : Fault) 
 abbrev pub IsStated : ℕ → Option ℕ → Result ℕ Fault → Type 0
 IsStated cost stated answer =
     MatchResult answer (λ c. (c ≡ cost) × IfSome stated (λ s. s ≡ cost))
-        (IsStatedOtherwise cost stated)
+    (IsStatedOtherwise cost stated)

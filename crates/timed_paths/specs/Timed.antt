@@ -15,13 +15,20 @@ network_of timed = record { lowers = timed.lowers; arcs = timed.arcs; changed = 
 
 -- one arc more, behind the others
 abbrev pub with_one : Timed → ℕ → ℕ → ℕ → Timed
-with_one timed from to length = record { lowers = timed.lowers; arcs = timed.arcs
-    ++ record { from = from; to = to; length = length } ∷ []; uppers = timed.uppers }
+with_one timed from to length = record {
+  lowers = timed.lowers;
+  arcs = timed.arcs
+      ++ record { from = from; to = to; length = length } ∷ [];
+  uppers = timed.uppers;
+}
 
 -- the last so many arcs are taken away
 abbrev pub without_last_timed : Timed → ℕ → Timed
-without_last_timed timed count = record { lowers = timed.lowers;
-    arcs = take (length timed.arcs - count) timed.arcs; uppers = timed.uppers }
+without_last_timed timed count = record {
+  lowers = timed.lowers;
+  arcs = take (length timed.arcs - count) timed.arcs;
+  uppers = timed.uppers;
+}
 
 -- for each number of arcs, a node that was above its upper with the first so many
 pub record AreLates (lowers : List ℕ) (arcs : List Arc) (uppers : List (Option ℕ))

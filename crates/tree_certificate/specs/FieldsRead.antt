@@ -46,14 +46,14 @@ is_decimal bytes =
 unfoldable pub whole_field : ℕ → ℕ → List ℕ → Result ℕ Fault
 whole_field left most field =
     if is_decimal field then (if nat_le (value_of field) most then Ok (value_of field)
-        else Err (Large left)) else Err (Bad left)
+    else Err (Large left)) else Err (Bad left)
 
 -- a space, and the number of the field behind it
 unfoldable pub field_number : ℕ → ℕ → List ℕ → Result (ℕ × List ℕ) Fault
 field_number left most [] = Err (Bad left)
 field_number left most (space ∷ bytes) =
     if space == 32 then (whole_field left most (before 32 bytes) >>= λ n. Ok (n, from 32 bytes))
-        else Err (Bad left)
+    else Err (Bad left)
 
 unfoldable pub op_at : ℕ → List ℕ → Result (Op × List ℕ) Fault
 op_at left bytes = do

@@ -113,7 +113,8 @@ fn below_verdict(
     requires routes { HasNoRoute (node_at problem.now fixings.now decisions.now) → ⊥ }
     requires not_shown { Shows (node_at problem.now fixings.now decisions.now) verdict leaf.now
         → ⊥ }
-    requires keeps { KeepsAllRules (node_at problem.now fixings.now decisions.now) verdict leaf.now }
+    requires keeps { KeepsAllRules (node_at problem.now fixings.now decisions.now)
+        verdict leaf.now }
     ensures { IfOk result
         (IsFirstRule (node_at problem.now fixings.now decisions.now) verdict leaf.now) }
 {

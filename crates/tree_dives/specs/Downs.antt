@@ -8,9 +8,13 @@ use Rattle.tree_growth.specs.Grown.{Helps, branches}
 use Rattle.tree_dives.specs.Halves.{Sides, Completes, AreSidesComplete}
 
 abbrev pub sides_of : Halves → Sides
-sides_of halves = record { before = halves.before.nodes.items;
-    before_bounds = halves.before.bounds.items; behind = halves.behind.nodes.items; behind_bounds =
-    halves.behind.bounds.items }
+sides_of halves = record {
+  before = halves.before.nodes.items;
+  before_bounds = halves.before.bounds.items;
+  behind = halves.behind.nodes.items;
+  behind_bounds =
+      halves.behind.bounds.items;
+}
 
 abbrev pub branches_in : Sides → ℕ
 branches_in sides = branches sides.before + branches sides.behind
@@ -24,5 +28,5 @@ DiveGoesOn rule best root here sides false = AreSidesComplete rule best root sid
 abbrev pub GoesDown : Rule → Choice → Node → Sides → Node → Sides → Bool → Type 0
 GoesDown rule choice here old below new more =
     ((best : Option ℕ) (root : Node) → Helps rule best here choice
-        → Completes rule best root here old → DiveGoesOn rule best root below new more)
+    → Completes rule best root here old → DiveGoesOn rule best root below new more)
     × (branches_in new ≡ branches_in old + 1)

@@ -15,6 +15,9 @@ pub record IsDiveWhole (sides : Sides) (end : End) (dive : Dive) : Type 0 where
 
 -- the place filled by a leaf
 abbrev pub with_leaf : Sides → NodeLeaf → Sides
-with_leaf sides shown = record { before = sides.before ++ Leaf (leaf_held shown) ∷ [];
-    before_bounds = sides.before_bounds ++ bound_in shown ∷ []; behind = sides.behind;
-    behind_bounds = sides.behind_bounds }
+with_leaf sides shown = record {
+  before = sides.before ++ Leaf (leaf_held shown) ∷ [];
+  before_bounds = sides.before_bounds ++ bound_in shown ∷ [];
+  behind = sides.behind;
+  behind_bounds = sides.behind_bounds;
+}

@@ -24,11 +24,11 @@ AreLeft [] (top ∷ tree) bounds left least = ⊥
 AreLeft (node ∷ places) (Leaf leaf ∷ tree) [] left least = ⊥
 AreLeft (node ∷ places) (Leaf leaf ∷ tree) (bound ∷ bounds) left least =
     (one : TreeLeaf) × (less : ℕ) × (rest : List TreeNode) × (others : List ℕ)
-        × IsLeafLeft node leaf bound one less
+    × IsLeafLeft node leaf bound one less
     × AreLeft places tree bounds rest others × (left ≡ Leaf one ∷ rest) × (least ≡ less ∷ others)
 AreLeft (node ∷ places) (Branch choice children ∷ tree) bounds left least =
     (rest : List TreeNode) × AreLeft (map (with_decision node) (children_of node.problem choice)
-        ++ places) tree bounds rest least
+    ++ places) tree bounds rest least
     × (left ≡ Branch choice children ∷ rest)
 
 -- a fragment as its leaves hold under an edition's fixings

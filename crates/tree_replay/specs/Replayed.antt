@@ -12,10 +12,10 @@ use Rattle.open_nodes.specs.Preorder.{preorder}
 abbrev pub IsShownAt : State → ℕ → Grown → Type 0
 IsShownAt state n (branch choice) =
     (place : Place) × (children : ℕ) × (slice_get state.places n ≡ Some place)
-        × (slice_get state.kept place.shows ≡ Some (Branch choice children))
+    × (slice_get state.kept place.shows ≡ Some (Branch choice children))
 IsShownAt state n (leaf number above) =
     (place : Place) × (shown : TreeLeaf) × (slice_get state.places n ≡ Some place)
-        × (slice_get state.kept place.shows ≡ Some (Leaf shown))
+    × (slice_get state.kept place.shows ≡ Some (Leaf shown))
     × (number ≡ n) × (above ≡ decisions_of state.places n)
 
 abbrev pub AreShownAt : State → List ℕ → List Grown → Type 0

@@ -35,13 +35,31 @@ module _ {E : Type 0} where
 module _ {E T : Type 0} where
   -- what the first pass of a lock begins with
   abbrev pub first_known : ℕ → T → Known E T
-  first_known caller terms = record { first = true; caller = caller; terms = Some terms; seen = [];
-      mine = []; count = 0; tries = 0; given = []; back = [] }
+  first_known caller terms = record {
+    first = true;
+    caller = caller;
+    terms = Some terms;
+    seen = [];
+    mine = [];
+    count = 0;
+    tries = 0;
+    given = [];
+    back = [];
+  }
 
   -- what a pass begins with that this one gives to a caller
   abbrev pub given_known : Known E T → ℕ → Known E T
-  given_known v caller = record { first = false; caller = caller; terms = v.terms; seen = v.seen;
-      mine = []; count = v.count; tries = 0; given = []; back = [] }
+  given_known v caller = record {
+    first = false;
+    caller = caller;
+    terms = v.terms;
+    seen = v.seen;
+    mine = [];
+    count = v.count;
+    tries = 0;
+    given = [];
+    back = [];
+  }
 
   -- after a pass was given to a caller
   abbrev pub with_given : Known E T → ℕ → Known E T

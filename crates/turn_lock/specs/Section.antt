@@ -49,8 +49,12 @@ module _ {E T : Type 0} (named : E → Option ℕ) where
   Knows v before after w =
       ((after ≡ before) × (w ≡ record v { seen = after; count = w.count; tries = w.tries }))
       ⊎ (AddsEntry named v.caller before after
-      × (w ≡ record v { seen = after; mine = v.mine ++ length before ∷ []; count = w.count;
-      tries = w.tries }))
+      × (w ≡ record v {
+        seen = after;
+        mine = v.mine ++ length before ∷ [];
+        count = w.count;
+        tries = w.tries;
+      }))
 
 module _ {S E T : Type 0} (entries : S → List E) (named : E → Option ℕ) (terms : S → T)
     (kept : S → Type 0) where

@@ -16,8 +16,12 @@ module _ {E T : Type 0} where
 
   -- after the history that ends with its new entry was counted
   abbrev pub entered : View E T → List E → View E T
-  entered v history = record v { seen = history; held = history; mine = v.mine ++ length v.held
-      ∷ [] }
+  entered v history = record v {
+    seen = history;
+    held = history;
+    mine = v.mine ++ length v.held
+        ∷ [];
+  }
 
   -- after this count was read
   abbrev pub counted : View E T → ℕ → View E T
@@ -46,17 +50,26 @@ module _ {E T : Type 0} (named : E → Option ℕ) where
 
   -- what is left of a view with the turn once the history, which has become `after`, is counted
   pub record HasCounted (v : View E T) (grew : Bool) (after : List E) (w : View E T) : Type 0 where
-    pub knows : w ≡ record v { seen = after; held = after;
-        mine = (if grew then v.mine ++ length v.held ∷ [] else v.mine); count = w.count }
+    pub knows : w ≡ record v {
+      seen = after;
+      held = after;
+      mine = (if grew then v.mine ++ length v.held ∷ [] else v.mine);
+      count = w.count;
+    }
     pub count : v.count ≤ w.count
     pub owns : Owns w
 
   -- what is left of a view with the turn once the turn is given back, and the history has become
   -- `after`
   pub record GaveBack (v : View E T) (grew : Bool) (after : List E) (w : View E T) : Type 0 where
-    pub knows : w ≡ record v { seen = after;
-        mine = (if grew then v.mine ++ length v.held ∷ [] else v.mine); count = w.count; holding =
-        false; held = [] }
+    pub knows : w ≡ record v {
+      seen = after;
+      mine = (if grew then v.mine ++ length v.held ∷ [] else v.mine);
+      count = w.count;
+      holding =
+          false;
+      held = [];
+    }
     pub count : v.count ≤ w.count
     pub owns : Owns w
 
@@ -64,8 +77,13 @@ module _ {E T : Type 0} (named : E → Option ℕ) where
   pub record Left (v : View E T) (before after : List E) (w : View E T) : Type 0 where
     pub begins : Begins v before
     pub adds : AddsOne named v.caller before after
-    pub knows : w ≡ record v { seen = after; mine = places_after v.mine before after;
-        count = w.count; holding = false; held = [] }
+    pub knows : w ≡ record v {
+      seen = after;
+      mine = places_after v.mine before after;
+      count = w.count;
+      holding = false;
+      held = [];
+    }
     pub count : v.count ≤ w.count
     pub owns : Owns w
 
@@ -107,5 +125,5 @@ module _ {S E T : Type 0} (entries : S → List E) (named : E → Option ℕ) (t
   abbrev pub Settles : Step (Option S) → Sat S E T → ℕ → Sat S E T → Type 0
   Settles st m r m' =
       (m'.1 ≡ m.1) × (m'.0 ≡ m.0) × Owns named m.0 × AreApart m.0.met.kept m.0.met.brought
-          × StartsWith m.0.met.longer m.0.met.shorter
+      × StartsWith m.0.met.longer m.0.met.shorter
       × IsFreshFrom named m.0.caller m.0.met.past m.0.met.longer

@@ -11,8 +11,17 @@ module _ {E : Type 0} where
 module _ {E T : Type 0} where
   -- what the pass knows
   abbrev pub known_of : View E T → Known E T
-  known_of v = record { first = v.first; caller = v.caller; terms = v.terms; seen = v.seen;
-      mine = v.mine; count = v.count; tries = v.tries; given = v.given; back = v.back }
+  known_of v = record {
+    first = v.first;
+    caller = v.caller;
+    terms = v.terms;
+    seen = v.seen;
+    mine = v.mine;
+    count = v.count;
+    tries = v.tries;
+    given = v.given;
+    back = v.back;
+  }
 
   abbrev pub first_view : ℕ → T → View E T
   first_view caller terms = record {
@@ -76,6 +85,11 @@ module _ {E T : Type 0} where
     mine = v.mine ++ w.mine;
     count = max v.count w.count;
     back = v.back ++ w.caller ∷ [];
-    met = record { past = length v.seen; kept = v.mine; brought = w.mine;
-        longer = longer_of v.seen w.seen; shorter = shorter_of v.seen w.seen };
+    met = record {
+      past = length v.seen;
+      kept = v.mine;
+      brought = w.mine;
+      longer = longer_of v.seen w.seen;
+      shorter = shorter_of v.seen w.seen;
+    };
   }
