@@ -5,13 +5,14 @@ ghost use Rattle.tree_growth.specs.Left.{IsLeafLeft, AreLeft};
 ghost use Rattle.dispatch_core.specs.Pending.{lists_below, IsNextOf, LeavesPending, LeavesLeaf};
 
 use disp_model::{Copied, Decision, Fixing, Leaf, List, Memory, Problem, TreeNode, Verdict};
+use packed_nodes::PackedNode;
 use std::alloc::Global;
 use tree_checker::{check_leaf, decisions_below};
 
 /// Nodes in preorder, and the bounds of the leaves among them.
 #[derive(Drop)]
 pub(crate) struct Left {
-    pub nodes: Vec<TreeNode>,
+    pub nodes: Vec<PackedNode>,
     pub bounds: Vec<u64>,
 }
 
@@ -21,15 +22,15 @@ fn leaf_left(
     problem: &Problem,
     fixings: &[Fixing],
     decisions: &[Decision],
-    leaf: &Leaf,
+    leaf: Leaf,
     bound: u64,
 ) -> Result<(Leaf, u64), Memory>
     ensures { IfOk result (λ left.
-        IsLeafLeft (node_at problem.now fixings.now decisions.now) leaf.now bound left.0 left.1) }
+        IsLeafLeft (node_at problem.now fixings.now decisions.now) leaf bound left.0 left.1) }
 {
     let verdict = Verdict::Optimal(bound);
-    if check_leaf(alloc, problem, fixings, decisions, verdict, leaf)? {
-        Ok((leaf.copy()?, bound))
+    if check_leaf(alloc, problem, fixings, decisions, verdict, &leaf)? {
+        Ok((leaf, bound))
     } else {
         Ok((Leaf::Costs(List::new(alloc)), 0))
     }
@@ -60,16 +61,16 @@ fn leave_leaf(
     fixings: &[Fixing],
     bounds: &[u64],
     above: &List<Decision>,
-    leaf: &Leaf,
+    leaf: Leaf,
     left: &mut Left,
 ) -> Result<(), Memory>
     requires { length left.old.bounds.items < length bounds.now }
-    ensures { OnOk result (LeavesLeaf problem.now fixings.now bounds.now above.now leaf.now
+    ensures { OnOk result (LeavesLeaf problem.now fixings.now bounds.now above.now leaf
         left.old.nodes.items left.new.nodes.items left.old.bounds.items left.new.bounds.items) }
 {
     let bound = bounds[left.bounds.len()];
     let (leaf, bound) = leaf_left(alloc, problem, fixings, above.as_slice(), leaf, bound)?;
-    left.nodes.push(TreeNode::Leaf(leaf))?;
+    left.nodes.push(PackedNode::pack(alloc, TreeNode::Leaf(leaf)))?;
     left.bounds.push(bound)?;
     Ok(())
 }
@@ -81,13 +82,13 @@ fn leave(
     problem: &Problem,
     fixings: &[Fixing],
     bounds: &[u64],
-    node: &TreeNode,
+    node: TreeNode,
     pending: &mut Vec<List<Decision>>,
     left: &mut Left,
 ) -> Result<(), Memory>
-    requires { IsNextOf problem.now pending.old.items node.now
+    requires { IsNextOf problem.now pending.old.items node
         (drop (length left.old.bounds.items) bounds.now) }
-    ensures { OnOk result (LeavesPending problem.now fixings.now bounds.now node.now
+    ensures { OnOk result (LeavesPending problem.now fixings.now bounds.now node
         pending.old.items pending.new.items left.old.nodes.items left.new.nodes.items
         left.old.bounds.items left.new.bounds.items) }
 {
@@ -95,10 +96,11 @@ fn leave(
         return Ok(());
     };
     match node {
-        TreeNode::Branch { .. } => {
-            let children = decisions_below(alloc, problem, node)?;
-            push_below(pending, &above, children.as_slice())?;
-            left.nodes.push(node.copy()?)?;
+        TreeNode::Branch { choice, children } => {
+            let branch = TreeNode::Branch { choice, children };
+            let below = decisions_below(alloc, problem, &branch)?;
+            push_below(pending, &above, below.as_slice())?;
+            left.nodes.push(PackedNode::pack(alloc, branch))?;
             Ok(())
         }
         TreeNode::Leaf(leaf) => {
@@ -114,7 +116,7 @@ pub(crate) fn left_of(
     problem: &Problem,
     fixings: &[Fixing],
     decisions: &List<Decision>,
-    nodes: &[TreeNode],
+    nodes: &[PackedNode],
     bounds: &[u64],
 ) -> Result<Left, Memory>
     requires { FillPlaces problem.now 1 nodes.now bounds.now }
@@ -128,7 +130,8 @@ pub(crate) fn left_of(
     };
     let mut pending = Vec::new(alloc);
     pending.push(decisions.copy()?)?;
-    for node in nodes {
+    for packed in nodes {
+        let node = packed.node(alloc)?;
         leave(
             alloc,
             problem,

@@ -1,11 +1,10 @@
 -- What has changed where one place is replaced, or a leaf has grown.
-use Rattle.std.proofs.Common.{◌≡◌, ◌≢◌, ◌∙◌, ℕ, zero, suc, ◌+◌, ◌-◌, ◌*◌, ◌<◌, ◌≤◌, List, [], ◌∷◌, ◌++◌, length, set, get_or, refl, sym, ap, subst, arith}
+use Rattle.std.proofs.Common.{◌≡◌, ◌∙◌, ℕ, zero, suc, ◌+◌, ◌-◌, ◌<◌, ◌≤◌, List, [], ◌∷◌, ◌++◌, length, set, get_or, refl, sym, ap, subst, arith}
 use Rattle.std.specs.Prelude.{cond, Option, Some, None, slice_get, is_some, sum_by}
 use Rattle.std.proofs.lemmas.Option.{slice_get_within, get_or_from_slice_get}
 use Rattle.std.proofs.lemmas.List.{length-set, length-append}
 use Rattle.std.proofs.lemmas.List.Sums.{sum_by-set, sum_by-append, sum_by-cons}
 use Rattle.open_nodes.specs.declared.place.Place.{Place}
-use Rattle.open_nodes.specs.declared.place.Above.{Above}
 use Rattle.open_nodes.specs.declared.blocks.Blocks.{Blocks}
 use Rattle.open_nodes.specs.States.{out_count}
 use Rattle.open_nodes.specs.Grafts.{AllStand, placed}

@@ -17,3 +17,4 @@ pub mod HoldingOn
 pub mod Reckoning
 pub mod Seeking
 pub mod Changing
+pub mod Outlining

@@ -9,7 +9,7 @@ use Rattle.std.proofs.lemmas.Option.{same_Some, slice_get_past, slice_get_within
 use Rattle.least_bounds.specs.Tournaments.{bound_at, lesser_bound}
 use Rattle.open_nodes.specs.declared.place.Place.{Place}
 use Rattle.open_nodes.specs.declared.blocks.Pool.{Pool}
-use Rattle.open_nodes.specs.Blocks.{IsPoolAt, IsRangeLeast, IsBlockLeast, AreBlockLeast, AreBlockLeastBut, IsBlockSet, HaveSameBounds, HaveChanged, IsFirstBlock}
+use Rattle.open_nodes.specs.Blocks.{IsRangeLeast, IsBlockLeast, AreBlockLeast, AreBlockLeastBut, IsBlockSet, HaveSameBounds, HaveChanged, IsFirstBlock}
 use Rattle.open_nodes.proofs.Paths.{no_some}
 
 -- ---- the lesser of two

@@ -1,6 +1,6 @@
 -- What the least bounds of blocks say of the places.
 use Rattle.std.proofs.Common.{◌≡◌, ◌≢◌, ◌∙◌, ◌↔◌, ℕ, zero, suc, ◌+◌, ◌*◌, ◌/◌, ◌<◌, ◌≤◌, List, [], ◌∷◌, length, get_or, inl, inr, refl, sym, ap, subst, arith}
-use Rattle.std.specs.Prelude.{Bool, true, false, not, Option, Some, None, ◌⊎◌, slice_get, MatchOption, IsTrue, is_some}
+use Rattle.std.specs.Prelude.{Bool, true, false, not, Option, Some, None, slice_get, MatchOption, IsTrue, is_some}
 use Rattle.std.proofs.lemmas.Bool.{false≢true}
 use Rattle.std.proofs.lemmas.Option.{same_Some, slice_get_within, slice_get-get_or, get_or_from_slice_get}
 use Rattle.least_bounds.specs.Tournaments.{bound_at, LiesBelow, NoneLiesBelow, HasNoBound, IsLeastBoundOf}
@@ -9,7 +9,7 @@ use Rattle.open_nodes.specs.declared.place.Kind.TheVariants.{Open}
 use Rattle.open_nodes.specs.declared.blocks.Pool.{Pool}
 use Rattle.open_nodes.specs.declared.blocks.Pool.TheVariants.{Alive, Inside, Unmarked}
 use Rattle.open_nodes.specs.States.{IsBoundBelow, IsWanted, IsTakeable, NoneWanted, NoneTakeable, AreNotOpen, HaveBounds, HasBound, IsLeastBound}
-use Rattle.open_nodes.specs.Blocks.{IsPoolAt, AreBlockLeast, IsCandidate, NoneIsCandidate}
+use Rattle.open_nodes.specs.Blocks.{AreBlockLeast, IsCandidate, NoneIsCandidate}
 use Rattle.open_nodes.proofs.Paths.{no_some}
 
 -- an answer, said otherwise

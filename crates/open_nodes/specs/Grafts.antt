@@ -17,6 +17,8 @@ use Rattle.open_nodes.specs.declared.work.Growth.TheVariants.{Grown, Gone}
 use Rattle.open_nodes.specs.declared.place.Place.{Place}
 use Rattle.open_nodes.specs.declared.place.Kind.{Kind}
 use Rattle.open_nodes.specs.declared.place.Kind.TheVariants.{Open, Dead, Branch as Branched}
+use Rattle.packed_nodes.specs.declared.outline.Outline.{Outline}
+use Rattle.packed_nodes.specs.declared.outline.Outline.TheVariants as outline
 
 -- the nodes fill so many places, from the first on: each branch has as many children as its choice,
 -- and each leaf a bound
@@ -52,17 +54,21 @@ branch_at place first shows = record {
   examined = None;
 }
 
--- a place as it becomes this leaf
-abbrev pub leaf_at : Place → ℕ → TreeLeaf → ℕ → Place
-leaf_at place shows leaf bound = record {
+-- a place as it becomes a leaf of a kind
+abbrev pub leaf_as : Place → ℕ → Kind → ℕ → Place
+leaf_as place shows kind bound = record {
   above = place.above;
   next = place.next;
   shows = shows;
-  kind = kind_of leaf;
+  kind = kind;
   bound = bound;
   out = None;
   examined = None;
 }
+
+-- a place as it becomes this leaf
+abbrev pub leaf_at : Place → ℕ → TreeLeaf → ℕ → Place
+leaf_at place shows leaf bound = leaf_as place shows (kind_of leaf) bound
 
 abbrev pub next_in : Option ℕ → ℕ → List Decision → Option ℕ
 next_in behind number [] = behind
@@ -114,6 +120,15 @@ branched problem last shows n place choice grown =
     slice_set (grown ++ children_at n place.next (last + length grown) (children_of problem choice))
     (n - last) (branch_at place (last + length grown) shows)
 
+-- a place is filled with a leaf of a kind
+abbrev pub filled_by_leaf : ℕ → ℕ → ℕ → Place → Kind → Graft → Graft
+filled_by_leaf last shows n place kind graft = record {
+  grown = slice_set graft.grown (n - last) (leaf_as place shows kind (first_or_zero graft.bounds));
+  at = place.next;
+  bounds = behind_first graft.bounds;
+  splits = graft.splits;
+}
+
 -- one node more: of the places the leaf that grows is the first, and the last one there is has its
 -- number before it
 abbrev pub fills_at : Problem → ℕ → ℕ → ℕ → Place → TreeNode → Graft → Graft
@@ -123,12 +138,19 @@ fills_at problem last shows n place (Branch choice children) graft = record {
   bounds = graft.bounds;
   splits = graft.splits ++ record { node = n; choice = choice } ∷ [];
 }
-fills_at problem last shows n place (Leaf leaf) graft = record {
-  grown = slice_set graft.grown (n - last) (leaf_at place shows leaf (first_or_zero graft.bounds));
-  at = place.next;
-  bounds = behind_first graft.bounds;
-  splits = graft.splits;
+fills_at problem last shows n place (Leaf leaf) graft =
+    filled_by_leaf last shows n place (kind_of leaf) graft
+
+-- the same, where it is known what the node is, without what it lists
+abbrev pub fills_as : Problem → ℕ → ℕ → ℕ → Place → Outline → Graft → Graft
+fills_as problem last shows n place (outline.Branch choice) graft = record {
+  grown = branched problem last shows n place choice graft.grown;
+  at = Some (last + length graft.grown);
+  bounds = graft.bounds;
+  splits = graft.splits ++ record { node = n; choice = choice } ∷ [];
 }
+fills_as problem last shows n place outline.Dead graft = filled_by_leaf last shows n place Dead graft
+fills_as problem last shows n place outline.Open graft = filled_by_leaf last shows n place Open graft
 
 abbrev pub fills_there : Problem → ℕ → ℕ → ℕ → Option Place → TreeNode → Graft → Graft
 fills_there problem last shows n None node graft = graft

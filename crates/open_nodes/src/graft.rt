@@ -1,22 +1,12 @@
-ghost use Rattle.std.specs.Prelude.{◌≡◌, ◌+◌, ◌-◌, ◌<◌, ◌++◌, [], IfOk, IfErr, OnOk, OnErr, length, slice_get, Some};
+ghost use Rattle.std.specs.Prelude.{◌≡◌, ◌+◌, ◌-◌, ◌<◌, ◌++◌, [], IfOk, IfErr, OnOk, OnErr, length, slice_get, slice_set, Some};
 ghost use Rattle.disp_model.specs.Trees.{children_of};
-ghost use Rattle.open_nodes.specs.Grafts.{kind_of, leaf_at, children_at, new_place, next_given, first_or_zero, behind_first, branched, fills_at, fills, IsGraft, IsGrafted, grafted, ungrown, placed};
+ghost use Rattle.open_nodes.specs.Grafts.{leaf_as, children_at, new_place, next_given, first_or_zero, behind_first, branched, fills_as, fills, IsGraft, IsGrafted, grafted, ungrown, placed};
 
 use crate::child::child;
 use crate::place::{Above, Kind, Place};
-use disp_model::{Choice, Decision, Leaf, List, Memory, Problem, Split, TreeNode};
-use packed_nodes::PackedNode;
+use disp_model::{Choice, Decision, List, Memory, Problem, Split};
+use packed_nodes::{Outline, PackedNode};
 use std::alloc::Global;
-
-/// Whether a leaf is known dead.
-fn kind_of(leaf: &Leaf) -> Kind
-    ensures { result ≡ kind_of leaf.now }
-{
-    match leaf {
-        Leaf::NoRoute | Leaf::Cycle(_) | Leaf::Late(_) => Kind::Dead,
-        Leaf::Costs(_) | Leaf::Shares { .. } => Kind::Open,
-    }
-}
 
 /// The first bound, 0 where there is none.
 fn first_or_zero(bounds: &[u64]) -> u64
@@ -125,13 +115,13 @@ fn branch_out(
     Ok(first)
 }
 
-/// A place as it becomes a leaf that is in.
-fn leaf_at(place: Place, shows: usize, leaf: &Leaf, bound: u64) -> Place
-    ensures { result ≡ leaf_at place shows leaf.now bound }
+/// A place as it becomes a leaf of a kind that is in.
+fn leaf_as(place: Place, shows: usize, kind: Kind, bound: u64) -> Place
+    ensures { result ≡ leaf_as place shows kind bound }
 {
     Place {
         shows,
-        kind: kind_of(leaf),
+        kind,
         bound,
         out: None,
         examined: None,
@@ -146,6 +136,29 @@ struct Step<'a> {
     left: &'a [u64],
 }
 
+/// Fills the place of a number with a leaf of a kind.
+fn fill_leaf<'a>(
+    last: usize,
+    shows: usize,
+    number: usize,
+    place: Place,
+    kind: Kind,
+    left: &'a [u64],
+    grown: &mut Vec<Place>,
+) -> Step<'a>
+    requires { number - last < length grown.old.items }
+    ensures grown { grown.new.items ≡ slice_set grown.old.items (number - last)
+        (leaf_as place shows kind (first_or_zero left.now)) }
+    ensures at { result.at ≡ place.next }
+    ensures left { result.left.now ≡ behind_first left.now }
+{
+    grown[number.saturating_sub(last)] = leaf_as(place, shows, kind, first_or_zero(left));
+    Step {
+        at: place.next,
+        left: behind_first(left),
+    }
+}
+
 /// Fills the place of a number with a node.
 fn fill_at<'a>(
     alloc: Global,
@@ -154,13 +167,13 @@ fn fill_at<'a>(
     shows: usize,
     number: usize,
     place: Place,
-    node: &TreeNode,
+    node: Outline,
     left: &'a [u64],
     grown: &mut Vec<Place>,
     splits: &mut List<Split>,
 ) -> Result<Step<'a>, Memory>
     requires { number - last < length grown.old.items }
-    ensures { IfOk result (λ step. IsGraft (fills_at problem.now last shows number place node.now
+    ensures { IfOk result (λ step. IsGraft (fills_as problem.now last shows number place node
         (record {
           grown = grown.old.items;
           at = Some number;
@@ -169,24 +182,19 @@ fn fill_at<'a>(
         })) grown.new.items step.at step.left.now splits.new) }
 {
     match node {
-        TreeNode::Branch { choice, .. } => {
+        Outline::Branch(choice) => {
             splits.push(Split {
                 node: number as u128,
-                choice: *choice,
+                choice,
             })?;
-            let first = branch_out(alloc, problem, last, grown, number, place, shows, *choice)?;
+            let first = branch_out(alloc, problem, last, grown, number, place, shows, choice)?;
             Ok(Step {
                 at: Some(first),
                 left,
             })
         }
-        TreeNode::Leaf(leaf) => {
-            grown[number.saturating_sub(last)] = leaf_at(place, shows, leaf, first_or_zero(left));
-            Ok(Step {
-                at: place.next,
-                left: behind_first(left),
-            })
-        }
+        Outline::Dead => Ok(fill_leaf(last, shows, number, place, Kind::Dead, left, grown)),
+        Outline::Open => Ok(fill_leaf(last, shows, number, place, Kind::Open, left, grown)),
     }
 }
 
@@ -204,7 +212,7 @@ fn fill<'a>(
     last: usize,
     shows: usize,
     at: Option<usize>,
-    node: &TreeNode,
+    node: &PackedNode,
     left: &'a [u64],
     grown: &mut Vec<Place>,
     splits: &mut List<Split>,
@@ -224,7 +232,16 @@ fn fill<'a>(
         return Ok(Step { at, left });
     };
     fill_at(
-        alloc, problem, last, shows, number, place, node, left, grown, splits,
+        alloc,
+        problem,
+        last,
+        shows,
+        number,
+        place,
+        node.outline(),
+        left,
+        grown,
+        splits,
     )
 }
 
@@ -244,7 +261,7 @@ pub fn graft(
     shows: usize,
     number: usize,
     place: Place,
-    subtree: &[TreeNode],
+    subtree: &[PackedNode],
     bounds: &[u64],
 ) -> Result<Grafted, Memory>
     requires { shows + length subtree.now < 18446744073709551616 }
@@ -282,8 +299,8 @@ pub fn put(
     kept: &mut Vec<PackedNode>,
     number: usize,
     grown: &[Place],
-    subtree: List<TreeNode>,
-) -> Result<(), List<TreeNode>>
+    subtree: List<PackedNode>,
+) -> Result<(), List<PackedNode>>
     requires { number < length places.old.items }
     ensures places { OnOk result (places.new.items ≡ placed places.old.items number grown.now) }
     ensures kept { OnOk result (kept.new.items ≡ kept.old.items ++ subtree) }
@@ -310,29 +327,15 @@ pub fn put(
     }
 }
 
-/// Nodes as they are kept.
-fn packed(alloc: Global, nodes: &[TreeNode]) -> Result<Vec<PackedNode>, Memory>
-    ensures { IfOk result (λ packed. packed.items ≡ nodes.now) }
-{
-    let mut packed = Vec::with_capacity(alloc, nodes.len())?;
-    for node in nodes {
-        packed.push(PackedNode::of(alloc, node)?)?;
-    }
-    Ok(packed)
-}
-
 /// Keeps nodes, or gives them back where memory runs out.
-fn keep(kept: &mut Vec<PackedNode>, subtree: List<TreeNode>) -> Result<(), List<TreeNode>>
+fn keep(kept: &mut Vec<PackedNode>, subtree: List<PackedNode>) -> Result<(), List<PackedNode>>
     ensures kept { OnOk result (kept.new.items ≡ kept.old.items ++ subtree) }
     ensures back { IfErr result (λ nodes. nodes ≡ subtree) }
     ensures same { OnErr result (kept.new.items ≡ kept.old.items) }
 {
-    let alloc = *kept.allocator();
-    let Ok(mut packed) = packed(alloc, subtree.as_slice()) else {
-        return Err(subtree);
-    };
-    match kept.append(&mut packed) {
+    let mut nodes = subtree.into_vec();
+    match kept.append(&mut nodes) {
         Ok(()) => Ok(()),
-        Err(_) => Err(subtree),
+        Err(_) => Err(List::from_vec(nodes)),
     }
 }

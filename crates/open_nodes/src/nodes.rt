@@ -64,7 +64,7 @@ impl Nodes {
         })?;
         let first = TreeNode::Leaf(Leaf::Costs(List::new(alloc)));
         let mut kept = Vec::new(alloc);
-        kept.push(PackedNode::of(alloc, &first)?)?;
+        kept.push(PackedNode::pack(alloc, first))?;
         let blocks = Blocks::new(alloc, &places, 0)?;
         Ok(Nodes {
             places,
@@ -273,7 +273,7 @@ impl Nodes {
 
     /// Puts a fragment in the place of its leaf: the leaf becomes the fragment's subtree, and the
     /// children of each branch have the next unused numbers, in the order of the subtree. Gives the
-    /// splits. `problem` is the search's.
+    /// splits. `problem` is the search's. The nodes are moved as they are packed, and not read.
     ///
     /// # Errors
     ///
@@ -347,8 +347,8 @@ impl Nodes {
         &mut self,
         number: usize,
         grown: &[Place],
-        subtree: List<TreeNode>,
-    ) -> Result<(), List<TreeNode>>
+        subtree: List<PackedNode>,
+    ) -> Result<(), List<PackedNode>>
         requires inside { number < length self.old.places }
         requires stand { (place : Place) → slice_get self.old.places number ≡ Some place
             → AllStand (length self.old.places - 1) place.above grown.now }

@@ -2,7 +2,8 @@ ghost use Rattle.std.specs.Prelude.{◌≡◌};
 ghost use Rattle.open_nodes.specs.States.{errand_of};
 
 use crate::place::Errand;
-use disp_model::{Decision, List, Split, Tree};
+use disp_model::{Decision, List, Split};
+use packed_nodes::PackedNode;
 
 /// A leaf that is out: its number, its kept bound, the edition, the decisions above it, the best
 /// cost and the place in the history when it was taken, and how many branches it may grow.
@@ -32,12 +33,12 @@ impl Work {
     }
 }
 
-/// What grew below the leaf of a work: the nodes in preorder, and the kept bounds of the leaves
-/// among them, 0 for one that is known dead.
+/// What grew below the leaf of a work: the nodes in preorder, each packed by who made it, and the
+/// kept bounds of the leaves among them, 0 for one that is known dead.
 #[derive(Drop)]
 pub struct Fragment {
     pub work: Work,
-    pub subtree: Tree,
+    pub subtree: List<PackedNode>,
     pub bounds: List<u64>,
 }
 

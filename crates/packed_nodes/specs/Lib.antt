@@ -1,3 +1,4 @@
 pub mod Reading
 pub mod Packed
 pub mod Kept
+pub mod Outlines

@@ -1,8 +1,11 @@
 ghost use Rattle.std.specs.Prelude.{ℕ, List, ◌≡◌, Some, IfOk, IfSome};
-ghost use Rattle.packed_nodes.specs.Kept.{found_leaf};
+ghost use Rattle.disp_model.specs.declared.tree.TreeNode.TheVariants.{Leaf as LeafNode};
+ghost use Rattle.packed_nodes.specs.Kept.{found_leaf, node_in};
+ghost use Rattle.packed_nodes.specs.Outlines.{outline_of};
 ghost use Rattle.packed_nodes.specs.Packed.{packed_leaf_at};
 
 use crate::check::behind_leaf;
+use crate::outline::{Outline, dead, open, outline_of};
 use crate::read::leaf_at;
 use crate::unread::Unread;
 use crate::write::written;
@@ -10,11 +13,13 @@ use disp_model::{Copied, Leaf, Memory, TreeNode};
 use std::alloc::Global;
 use std::marker::Model;
 
-/// How a node is kept: as it is, or as the bytes of a leaf.
+/// How a node is kept: as it is, or as the bytes of a leaf, beside which it is told whether the
+/// leaf is known dead.
 #[derive(Drop)]
 enum Stored {
     Plain(TreeNode),
-    Packed(Vec<u8>),
+    Dead(Vec<u8>),
+    Open(Vec<u8>),
 }
 
 /// A node of a tree that is kept in little memory. Contracts see the node.
@@ -44,20 +49,55 @@ fn packed(alloc: Global, leaf: &Leaf) -> Option<Vec<u8>>
     }
 }
 
-/// The node that bytes say.
-fn said(alloc: Global, bytes: &[u8]) -> Result<TreeNode, Memory>
-    ensures { IfOk result (λ node. node ≡ found_leaf (packed_leaf_at bytes.now)) }
+/// How a leaf is kept that these bytes say.
+fn stored_as(leaf: &Leaf, bytes: Vec<u8>) -> Stored
+    requires { (rest : List ℕ) × (packed_leaf_at bytes.items ≡ Some (leaf.now, rest)) }
+    ensures { node_in result ≡ LeafNode leaf.now }
+{
+    match leaf {
+        Leaf::NoRoute | Leaf::Cycle(_) | Leaf::Late(_) => Stored::Dead(bytes),
+        Leaf::Costs(_) | Leaf::Shares { .. } => Stored::Open(bytes),
+    }
+}
+
+/// How a leaf is kept.
+fn kept_leaf(alloc: Global, leaf: Leaf) -> Stored
+    ensures { node_in result ≡ LeafNode leaf }
+{
+    match packed(alloc, &leaf) {
+        Some(bytes) => stored_as(&leaf, bytes),
+        None => Stored::Plain(TreeNode::Leaf(leaf)),
+    }
+}
+
+/// The leaf that bytes say; where they say none, one that shows nothing.
+fn said(alloc: Global, bytes: &[u8]) -> Result<Leaf, Memory>
+    ensures { IfOk result (λ leaf. leaf ≡ found_leaf (packed_leaf_at bytes.now)) }
 {
     match leaf_at(alloc, bytes) {
-        Ok((leaf, _)) => Ok(TreeNode::Leaf(leaf)),
-        Err(Unread::Nothing) => Ok(TreeNode::Leaf(Leaf::NoRoute)),
+        Ok((leaf, _)) => Ok(leaf),
+        Err(Unread::Nothing) => Ok(Leaf::NoRoute),
         Err(Unread::Memory) => Err(Memory),
     }
 }
 
 impl PackedNode {
     /// Keeps a node. Takes time and memory linear in what it lists, some two bytes an operation
-    /// where numbers are small.
+    /// where numbers are small. Where memory runs out the node is kept as it is.
+    pub fn pack(alloc: Global, node: TreeNode) -> PackedNode
+        ensures { result ≡ node }
+    {
+        match node {
+            TreeNode::Leaf(leaf) => PackedNode {
+                stored: kept_leaf(alloc, leaf),
+            },
+            TreeNode::Branch { choice, children } => PackedNode {
+                stored: Stored::Plain(TreeNode::Branch { choice, children }),
+            },
+        }
+    }
+
+    /// Keeps a copy of a node, as `pack` does.
     ///
     /// # Errors
     ///
@@ -68,13 +108,24 @@ impl PackedNode {
         if let TreeNode::Leaf(leaf) = node {
             if let Some(bytes) = packed(alloc, leaf) {
                 return Ok(PackedNode {
-                    stored: Stored::Packed(bytes),
+                    stored: stored_as(leaf, bytes),
                 });
             }
         }
         Ok(PackedNode {
             stored: Stored::Plain(node.copy()?),
         })
+    }
+
+    /// What the node is, without what it lists.
+    pub fn outline(&self) -> Outline
+        ensures { result ≡ outline_of self.now }
+    {
+        match &self.stored {
+            Stored::Plain(node) => outline_of(node),
+            Stored::Dead(_) => Outline::Dead,
+            Stored::Open(_) => Outline::Open,
+        }
     }
 
     /// The node.
@@ -87,7 +138,8 @@ impl PackedNode {
     {
         match &self.stored {
             Stored::Plain(node) => node.copy(),
-            Stored::Packed(bytes) => said(alloc, bytes),
+            Stored::Dead(bytes) => Ok(TreeNode::Leaf(dead(said(alloc, bytes)?))),
+            Stored::Open(bytes) => Ok(TreeNode::Leaf(open(alloc, said(alloc, bytes)?))),
         }
     }
 }

@@ -15,6 +15,7 @@ use disp_model::{Leaf, List, Memory, Plan, Problem, TreeNode};
 use event_graph::Graph;
 use node_leaves::Reckoning;
 use open_nodes::Work;
+use packed_nodes::PackedNode;
 use share_bound::KnownShares;
 use std::alloc::Global;
 use train_insertion::Target;
@@ -23,9 +24,9 @@ use tree_dives::{Dive, End, Guide, dive};
 /// What a searcher makes of a leaf.
 #[derive(Drop)]
 pub enum Growth {
-    /// Nodes in preorder, the bounds of the leaves among them, and a plan if one was found.
+    /// Packed nodes in preorder, the bounds of the leaves among them, and a plan if one was found.
     Subtree {
-        nodes: List<TreeNode>,
+        nodes: List<PackedNode>,
         bounds: List<u64>,
         plan: Option<Plan>,
     },
@@ -38,7 +39,7 @@ pub fn leaf_alone(alloc: Global, leaf: Leaf) -> Result<Growth, Memory>
     ensures { IfOk result (λ growth. growth ≡ Subtree (LeafNode leaf ∷ []) (0 ∷ []) None) }
 {
     Ok(Growth::Subtree {
-        nodes: List::from_vec(vec![in alloc; TreeNode::Leaf(leaf)]?),
+        nodes: List::from_vec(vec![in alloc; PackedNode::pack(alloc, TreeNode::Leaf(leaf))]?),
         bounds: List::from_vec(vec![in alloc; 0]?),
         plan: None,
     })

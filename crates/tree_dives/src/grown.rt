@@ -4,12 +4,14 @@ ghost use Rattle.tree_dives.specs.Leaves.{leaf_held, bound_in};
 
 use disp_model::{Choice, Memory, TreeNode};
 use node_leaves::NodeLeaf;
+use packed_nodes::PackedNode;
 use std::alloc::Global;
 
-/// Nodes of a tree in preorder, and the bounds that are kept for the leaves among them.
+/// Nodes of a tree in preorder, each packed as soon as it is made, and the bounds that are kept for
+/// the leaves among them.
 #[derive(Drop)]
 pub(crate) struct Grown {
-    pub nodes: Vec<TreeNode>,
+    pub nodes: Vec<PackedNode>,
     pub bounds: Vec<u64>,
 }
 
@@ -24,13 +26,21 @@ pub(crate) fn nothing(alloc: Global) -> Grown
     }
 }
 
+/// A node as it is kept among others.
+fn packed(grown: &Grown, node: TreeNode) -> PackedNode
+    ensures { result ≡ node }
+{
+    PackedNode::pack(*grown.nodes.allocator(), node)
+}
+
 /// Adds a branch behind the others.
 pub(crate) fn push_branch(grown: &mut Grown, choice: Choice, children: u32) -> Result<(), Memory>
     ensures nodes { OnOk result
         (grown.new.nodes.items ≡ grown.old.nodes.items ++ Branch choice children ∷ []) }
     ensures bounds { OnOk result (grown.new.bounds.items ≡ grown.old.bounds.items) }
 {
-    grown.nodes.push(TreeNode::Branch { choice, children })?;
+    let branch = packed(grown, TreeNode::Branch { choice, children });
+    grown.nodes.push(branch)?;
     Ok(())
 }
 
@@ -45,7 +55,8 @@ pub(crate) fn push_leaf(grown: &mut Grown, shown: NodeLeaf) -> Result<(), Memory
         NodeLeaf::Dead(leaf) => (leaf, 0),
         NodeLeaf::Open { leaf, bound } => (leaf, bound),
     };
-    grown.nodes.push(TreeNode::Leaf(leaf))?;
+    let leaf = packed(grown, TreeNode::Leaf(leaf));
+    grown.nodes.push(leaf)?;
     grown.bounds.push(bound)?;
     Ok(())
 }

@@ -44,8 +44,9 @@ fn shown_node(node: &TreeNode) -> &'static str {
 /// How a dive ended, its nodes, and the bounds of its leaves.
 fn shown(alloc: Global, dive: &Dive) -> Result<String, Memory> {
     let mut text = String::from_str(alloc, shown_end(&dive.end))?;
-    for node in dive.nodes.as_slice() {
-        text.push_str(shown_node(node))?;
+    for packed in dive.nodes.as_slice() {
+        let node = packed.node(alloc)?;
+        text.push_str(shown_node(&node))?;
     }
     for bound in dive.bounds.as_slice() {
         text.push_str(format!(in alloc; " {bound}")?.as_str())?;

@@ -1,10 +1,13 @@
 // A tree of one leaf: it is taken, given back and grown.
-ghost use Rattle.std.specs.Prelude.{IfOk};
+ghost use Rattle.std.specs.Prelude.{◌≡◌, [], IfOk};
 ghost use Rattle.disp_model.specs.declared.problem.Problem.{Problem as ProblemOf};
+ghost use Rattle.disp_model.specs.declared.tree.Leaf.TheVariants.{Costs};
+ghost use Rattle.disp_model.specs.declared.tree.TreeNode.TheVariants.{Leaf as LeafNode};
 ghost use Rattle.open_nodes.specs.Grafts.{FillPlaces};
 
 use disp_model::{Choice, Leaf, List, Memory, Op, TreeNode};
 use open_nodes::{Fragment, GiveBack, Growth, Nodes, Take, Work};
+use packed_nodes::PackedNode;
 use std::alloc::Global;
 use std::panic::Expect;
 use std::process::Abort;
@@ -36,6 +39,13 @@ fn one_leaf_is_taken_and_given_back(rt: HostRuntime) -> Result<(), Fail> {
     Ok(())
 }
 
+/// A leaf that shows no walks.
+fn no_walks(alloc: Global) -> PackedNode
+    ensures { result ≡ LeafNode (Costs []) }
+{
+    PackedNode::pack(alloc, TreeNode::Leaf(Leaf::Costs(List::new(alloc))))
+}
+
 /// A branch of an order, with two leaves of the bounds 24 and 18.
 fn ordered(alloc: Global, work: Work) -> Result<Fragment, Memory>
     ensures { IfOk result (λ fragment. (problem : ProblemOf)
@@ -43,12 +53,13 @@ fn ordered(alloc: Global, work: Work) -> Result<Fragment, Memory>
 {
     let choice = Choice::Order(Op { train: 0, op: 0 }, Op { train: 1, op: 0 });
     let mut tree = List::new(alloc);
-    tree.push(TreeNode::Branch {
+    let branch = TreeNode::Branch {
         choice,
         children: 2,
-    })?;
-    tree.push(TreeNode::Leaf(Leaf::Costs(List::new(alloc))))?;
-    tree.push(TreeNode::Leaf(Leaf::Costs(List::new(alloc))))?;
+    };
+    tree.push(PackedNode::pack(alloc, branch))?;
+    tree.push(no_walks(alloc))?;
+    tree.push(no_walks(alloc))?;
     let mut bounds = List::new(alloc);
     bounds.push(24)?;
     bounds.push(18)?;

@@ -9,13 +9,13 @@ ghost use Rattle.event_graph.specs.Joined.{IsOfEdition};
 ghost use Rattle.search_tests.specs.Scripts.{IsGrownAt, IsRun};
 
 use disp_model::{
-    Change, Copied, Event, Fixing, List, Mark, Plan, Problem, Reply, Rule, Settings, TreeNode,
-    Verdict,
+    Change, Copied, Event, Fixing, List, Mark, Plan, Problem, Reply, Rule, Settings, Verdict,
 };
 use dispatch_core::{Core, CoreEvent, CoreReply, StepNo};
 use event_graph::Graph;
 use node_leaves::Reckoning;
 use open_nodes::{Fragment, Work};
+use packed_nodes::PackedNode;
 use search_workers::{Growth, grow};
 use share_bound::KnownShares;
 use solution_verifier::Fault;
@@ -107,7 +107,7 @@ fn growth(
     problem: &Problem,
     graph: &mut Graph,
     work: &Work,
-) -> (List<TreeNode>, List<u64>)
+) -> (List<PackedNode>, List<u64>)
     requires problem { graph.old.problem ≡ problem.now }
     requires edition { IsOfEdition graph.old }
     ensures grown { IsGrownAt problem.now graph.old.fixings work.now result.0 result.1 }

@@ -1,6 +1,6 @@
-use Rattle.std.proofs.Common.{◌≡◌, ◌∙◌, ap, refl, sym, arith}
+use Rattle.std.proofs.Common.{◌≡◌, refl, arith}
 use Rattle.std.proofs.lemmas.Bool.{false≢true}
-use Rattle.open_nodes.specs.States.{State, NoneWanted, out_count}
+use Rattle.open_nodes.specs.States.{NoneWanted, out_count}
 use Rattle.open_nodes.proofs.nodes.Nodes.why_none.Goals as goal
 
 pub returns-then-is_ripe : goal.returns-then-is_ripe
