@@ -8,10 +8,11 @@ use crate::cause::Cause;
 use crate::input::{editions_of, given_plan, problem_file, tree_file};
 use crate::judge_tree::judge_tree;
 use crate::outcome::Answer;
-use disp_model::{Fixing, Problem, Text, Tree, Verdict};
+use disp_model::{Fixing, Problem, Text, Verdict};
 use disp_outside::Shelf;
 use fixing_editions::Editions;
 use std::alloc::Global;
+use tree_certificate::PackedTree;
 
 /// The number of the edition of the accepted changes.
 fn edition_of(editions: &Editions) -> u32
@@ -27,7 +28,7 @@ fn check_with<S: Shelf>(
     problem: &Problem,
     fixings: &[Fixing],
     verdict: Verdict,
-    tree: &Tree,
+    tree: &PackedTree,
     plan: Option<&Text>,
 ) -> Result<Answer, Cause>
     ensures ok { IfOk result

@@ -9,14 +9,14 @@ ghost use Rattle.answered_tasks.specs.Causes.{Misses, RefusesProblem, RefusesSol
 ghost use Rattle.answered_tasks.specs.Files.{IsProblemFile, IsSolutionFile, TakesLines, IsFixingsTaken, AreChangesTaken, IsAskedFile, AreAsked, IsTreeText, IsTreeOf, IsTreeFile, IsPlanFile};
 
 use crate::cause::{Cause, Input};
-use disp_model::{Change, MOST_FILE_BYTES, Plan, Problem, Text, Tree, Verdict};
+use disp_model::{Change, MOST_FILE_BYTES, Plan, Problem, Text, Verdict};
 use disp_outside::{Feed, FeedNo, FetchNo, Shelf};
 use displib_reader::{ProblemNo, read_problem};
 use fixing_editions::Editions;
 use fixing_files::{FileNo, take_fixings};
 use solution_text::{SolutionNo, read_solution};
 use std::alloc::Global;
-use tree_certificate::{TreeNo, read_tree};
+use tree_certificate::{PackedTree, TreeNo, read_tree};
 
 /// The bytes of a file.
 fn fetch<S: Shelf>(alloc: Global, shelf: &mut S, which: Input, name: &str) -> Result<Vec<u8>, Cause>
@@ -270,7 +270,7 @@ pub(crate) fn editions_of<S: Shelf>(
 }
 
 /// What the text of a tree says.
-fn tree_text(alloc: Global, bytes: &[u8]) -> Result<(Option<u32>, Verdict, Tree), Cause>
+fn tree_text(alloc: Global, bytes: &[u8]) -> Result<(Option<u32>, Verdict, PackedTree), Cause>
     ensures { MatchResult result (λ r. IsTreeText bytes.now r.0 r.1 r.2)
         (RefusesTreeText bytes.now) }
 {
@@ -293,7 +293,7 @@ fn other_edition(named: Option<u32>, edition: u32) -> Option<u32>
 }
 
 /// The verdict and the tree of a text that names an edition or none.
-fn tree_of(alloc: Global, edition: u32, bytes: &[u8]) -> Result<(Verdict, Tree), Cause>
+fn tree_of(alloc: Global, edition: u32, bytes: &[u8]) -> Result<(Verdict, PackedTree), Cause>
     ensures { MatchResult result (λ r. IsTreeOf edition bytes.now r.0 r.1)
         (RefusesTree bytes.now edition) }
 {
@@ -310,7 +310,7 @@ pub(crate) fn tree_file<S: Shelf>(
     shelf: &mut S,
     edition: u32,
     name: &str,
-) -> Result<(Verdict, Tree), Cause>
+) -> Result<(Verdict, PackedTree), Cause>
     ensures ok { IfOk result (λ r. IsTreeFile (S.holds shelf.old) name.now edition r.0 r.1) }
     ensures no { IfErr result
         (StopsTree (S.holds shelf.old) (S.reading_faults shelf.old) (S.reading_faults shelf.new)

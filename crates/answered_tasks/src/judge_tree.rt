@@ -8,9 +8,10 @@ use crate::cause::Cause;
 use crate::judge::one_line;
 use crate::outcome::Answer;
 use crate::tree_lines::{accepted_line, no_plan_line, plan_fault_line, refused_line};
-use disp_model::{Fixing, List, Memory, Plan, Problem, Tree, Verdict};
+use disp_model::{Fixing, List, Memory, Plan, Problem, Verdict};
 use solution_verifier::{Fault, verify};
 use std::alloc::Global;
+use tree_certificate::PackedTree;
 use tree_checker::{Checked, check};
 
 /// An answer of two lines.
@@ -118,7 +119,7 @@ fn answer_to(
     problem: &Problem,
     fixings: &[Fixing],
     verdict: Verdict,
-    tree: &Tree,
+    tree: &PackedTree,
     plan: Option<(Plan, Option<u64>)>,
 ) -> Result<Answer, Memory>
     ensures ok { IfOk result (IsTreeChecked problem.now fixings.now verdict tree.now plan) }
@@ -136,7 +137,7 @@ pub(crate) fn judge_tree(
     problem: &Problem,
     fixings: &[Fixing],
     verdict: Verdict,
-    tree: &Tree,
+    tree: &PackedTree,
     plan: Option<(Plan, Option<u64>)>,
 ) -> Result<Answer, Cause>
     ensures ok { IfOk result (IsTreeChecked problem.now fixings.now verdict tree.now plan) }

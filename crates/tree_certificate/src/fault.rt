@@ -1,6 +1,7 @@
 ghost use Rattle.std.specs.Prelude.{◌≡◌};
-ghost use Rattle.tree_certificate.specs.declared.fault.ReadError.TheVariants.{Memory};
+ghost use Rattle.tree_certificate.specs.declared.fault.ReadError.TheVariants as errors;
 
+use disp_model::Memory;
 use std::alloc::{AllocError, AllocFailed};
 
 /// Why bytes are no tree's text: the first line that breaks a rule. Lines are counted from 1.
@@ -35,8 +36,16 @@ pub(crate) enum ReadError {
     Fault(Fault),
 }
 
+impl From<Memory> for ReadError {
+    ghost from_gives = { λ _ e. e ≡ errors.Memory };
+
+    fn from(_refused: Memory) -> ReadError {
+        ReadError::Memory
+    }
+}
+
 impl From<AllocError> for ReadError {
-    ghost from_gives = { λ _ e. e ≡ Memory };
+    ghost from_gives = { λ _ e. e ≡ errors.Memory };
 
     fn from(_refused: AllocError) -> ReadError {
         ReadError::Memory
@@ -44,7 +53,7 @@ impl From<AllocError> for ReadError {
 }
 
 impl<T: Drop> From<AllocFailed<T>> for ReadError {
-    ghost from_gives = { λ _ e. e ≡ Memory };
+    ghost from_gives = { λ _ e. e ≡ errors.Memory };
 
     fn from(_refused: AllocFailed<T>) -> ReadError {
         ReadError::Memory

@@ -17,5 +17,5 @@ mod write;
 
 pub use fault::TreeNo;
 pub use laws::{a_text_says_one_thing, written_is_read};
-pub use read::read_tree;
+pub use read::{PackedTree, read_tree};
 pub use write::write_tree;

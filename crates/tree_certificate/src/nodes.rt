@@ -9,6 +9,7 @@ use crate::fields::{behind, index_at, line_ended, op_at, ops_at};
 use crate::lines::{MOST, last_count, line_at, trains_at, walks_at};
 use crate::word::Word;
 use disp_model::{Choice, Leaf, List, TreeNode};
+use packed_nodes::PackedNode;
 use std::alloc::Global;
 
 /// The word of a node's line, and what stands behind it.
@@ -226,12 +227,12 @@ fn places_opened(node: &TreeNode) -> u32
     }
 }
 
-/// The nodes of a tree.
+/// The nodes of a tree, each kept in few bytes before the next one is read.
 pub(crate) fn nodes_at(
     alloc: Global,
     third: bool,
     bytes: &[u8],
-) -> Result<(Vec<TreeNode>, &[u8]), ReadError>
+) -> Result<(Vec<PackedNode>, &[u8]), ReadError>
     ensures { GivesRead (λ x. (x.0.items, x.1.now)) result
         (nodes_at third (length bytes.now) 1 bytes.now) }
 {
@@ -244,7 +245,7 @@ pub(crate) fn nodes_at(
         }
         let (node, after) = node_read(alloc, third, rest)?;
         open = open - 1 + u128::from(places_opened(&node));
-        nodes.push(node)?;
+        nodes.push(PackedNode::of(alloc, &node)?)?;
         rest = after;
     }
     if open == 0 {

@@ -10,9 +10,12 @@ use crate::fields::{behind, field_number, index_at, line_ended, word_at};
 use crate::lines::line_at;
 use crate::nodes::nodes_at;
 use crate::word::Version;
-use disp_model::{GREATEST_COST, Tree, Verdict};
-use plain_values::List;
+use disp_model::{GREATEST_COST, List, Verdict};
+use packed_nodes::PackedNode;
 use std::alloc::Global;
+
+/// A tree as a text is read: its nodes in preorder, each in few bytes.
+pub type PackedTree = List<PackedNode>;
 
 /// The version of a text, by its first line.
 #[tactic(auto, unfolding(crate::specs::TreesRead::version_word_at))]
@@ -141,7 +144,7 @@ fn is_third_version(version: Version) -> bool
 
 /// What a text says.
 #[tactic(auto, unfolding(crate::specs::TreesRead::tree_at))]
-fn tree_at(alloc: Global, bytes: &[u8]) -> Result<(Option<u32>, Verdict, Tree), ReadError>
+fn tree_at(alloc: Global, bytes: &[u8]) -> Result<(Option<u32>, Verdict, PackedTree), ReadError>
     ensures { GivesRead (λ x. read_of x.0 x.1 x.2) result (tree_at bytes.now) }
 {
     let (version, rest) = version_at(bytes)?;
@@ -179,7 +182,7 @@ fn refusal_of(bytes: &[u8], fault: Fault) -> TreeNo
 }
 
 /// What is read of the bytes, or the refusal.
-fn answer(alloc: Global, bytes: &[u8]) -> Result<(Option<u32>, Verdict, Tree), TreeNo>
+fn answer(alloc: Global, bytes: &[u8]) -> Result<(Option<u32>, Verdict, PackedTree), TreeNo>
     ensures { MatchResult result (λ x. tree_at bytes.now ≡ Ok (read_of x.0 x.1 x.2))
         (λ why. AnswersTree bytes.now why (tree_at bytes.now)) }
 {
@@ -191,11 +194,12 @@ fn answer(alloc: Global, bytes: &[u8]) -> Result<(Option<u32>, Verdict, Tree), T
 }
 
 /// The edition, the verdict and the tree that the bytes are the text of, in one of three versions.
+/// Each node is kept in few bytes before the next one is read.
 ///
 /// # Errors
 ///
 /// The first line that breaks a rule, as `TreeNo` says; `Memory` may come in place of any answer.
-pub fn read_tree(alloc: Global, bytes: &[u8]) -> Result<(Option<u32>, Verdict, Tree), TreeNo>
+pub fn read_tree(alloc: Global, bytes: &[u8]) -> Result<(Option<u32>, Verdict, PackedTree), TreeNo>
     // What is read is a text of a tree within the limits.
     ensures found { IfOk result
         (λ x. (version : Version) × IsText bytes.now version (read_of x.0 x.1 x.2)) }

@@ -13,6 +13,7 @@ use crate::why::{Checked, Why};
 use decision_paths::DecisionPath;
 use disp_model::{Fixing, Memory, Problem, TreeNode, Verdict};
 use node_facts::{FixingIndex, KnownTrains};
+use packed_nodes::PackedNode;
 use problem_facts::OwnComponents;
 use std::alloc::Global;
 
@@ -49,13 +50,39 @@ fn step(
     Ok(None)
 }
 
+/// Unpacks a node of the tree, and does the same with it.
+fn unpacked_step(
+    alloc: Global,
+    problem: &Problem,
+    fixings: &FixingIndex,
+    verdict: Verdict,
+    path: &mut DecisionPath,
+    trains: &mut KnownTrains,
+    own: &OwnComponents,
+    places: &mut Vec<Place>,
+    packed: &PackedNode,
+) -> Result<Option<Why>, Memory>
+    requires nested { IsNested (length path.old) (reverse places.old.items) }
+    requires known { AreKnown (node_at problem.now fixings.now path.old) trains.old }
+    requires own { AreOwnOf problem.now own.now }
+    ensures steps { IfOk result (IsStep problem.now fixings.now verdict packed.now
+        path.old path.new places.old.items places.new.items) }
+    ensures known { OnOk result
+        (AreKnown (node_at problem.now fixings.now path.new) trains.new) }
+{
+    let top = packed.node(alloc)?;
+    step(
+        alloc, problem, fixings, verdict, path, trains, own, places, &top,
+    )
+}
+
 /// What is to be said of a tree: accepted, or the first node that is refused, and why.
 fn check_tree(
     alloc: Global,
     problem: &Problem,
     fixings: &FixingIndex,
     verdict: Verdict,
-    tree: &[TreeNode],
+    tree: &[PackedNode],
 ) -> Result<Checked, Memory>
     ensures { IfOk result (IsChecked problem.now fixings.now verdict tree.now) }
 {
@@ -67,8 +94,8 @@ fn check_tree(
         depth: 0,
         decision: None,
     })?;
-    for (node, top) in tree.iter().enumerate() {
-        if let Some(why) = step(
+    for (node, packed) in tree.iter().enumerate() {
+        if let Some(why) = unpacked_step(
             alloc,
             problem,
             fixings,
@@ -77,7 +104,7 @@ fn check_tree(
             &mut trains,
             &own,
             &mut places,
-            top,
+            packed,
         )? {
             return Ok(Checked::Refused { node, why });
         }
@@ -97,7 +124,7 @@ fn check_tree(
 /// that it may have and a child for each of its decisions. Then no valid plan costs less than the
 /// verdict, or none is valid. Else the answer names the first node, counted from 0, that does not
 /// hold, and the first rule that it breaks; a node without a place, and the end of the tree where
-/// a place is left, are of a wrong choice or number of children.
+/// a place is left, are of a wrong choice or number of children. One node at a time is unpacked.
 ///
 /// # Errors
 ///
@@ -107,7 +134,7 @@ pub fn check(
     problem: &Problem,
     fixings: &[Fixing],
     verdict: Verdict,
-    tree: &[TreeNode],
+    tree: &[PackedNode],
 ) -> Result<Checked, Memory>
     ensures { IfOk result (IsChecked problem.now fixings.now verdict tree.now) }
 {

@@ -3,6 +3,7 @@
 use disp_model::{
     Choice, ComponentWalk, Leaf, List, Memory, Op, Problem, TrainWalks, TreeNode, Verdict,
 };
+use packed_nodes::PackedNode;
 use std::alloc::Global;
 use std::process::Abort;
 use std::test::Fail;
@@ -76,6 +77,20 @@ fn fast_first(alloc: Global) -> Result<Leaf, Memory> {
     )
 }
 
+/// What is answered of the tree of these nodes.
+fn checked(
+    alloc: Global,
+    problem: &Problem,
+    verdict: Verdict,
+    nodes: &[TreeNode],
+) -> Result<Checked, Memory> {
+    let mut tree = Vec::new(alloc);
+    for node in nodes {
+        tree.push(PackedNode::of(alloc, node)?)?;
+    }
+    check(alloc, problem, &[], verdict, &tree)
+}
+
 /// What is answered of the branch of an order, whose first leaf is for the slow train first.
 fn ordered(
     alloc: Global,
@@ -90,7 +105,7 @@ fn ordered(
         children: 2,
     };
     let tree = vec![in alloc; branch, TreeNode::Leaf(first), TreeNode::Leaf(second)]?;
-    check(alloc, problem, &[], verdict, tree.as_slice())
+    checked(alloc, problem, verdict, tree.as_slice())
 }
 
 /// What is answered of one leaf.
@@ -101,7 +116,7 @@ fn single(
     leaf: Leaf,
 ) -> Result<Checked, Memory> {
     let tree = vec![in alloc; TreeNode::Leaf(leaf)]?;
-    check(alloc, problem, &[], verdict, tree.as_slice())
+    checked(alloc, problem, verdict, tree.as_slice())
 }
 
 /// What is answered where the first leaf of the order of both trains is this one.
@@ -282,7 +297,7 @@ fn both_ways(alloc: Global, problem: &Problem, cost: u64) -> Result<Checked, Mem
     let one = TreeNode::Leaf(alone(alloc)?);
     let other = TreeNode::Leaf(alone(alloc)?);
     let tree = vec![in alloc; branch, one, other]?;
-    check(alloc, problem, &[], Verdict::Optimal(cost), tree.as_slice())
+    checked(alloc, problem, Verdict::Optimal(cost), tree.as_slice())
 }
 
 /// Over all ways the exit of the fork costs 3, and 5 over the first.

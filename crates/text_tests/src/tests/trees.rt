@@ -1,13 +1,23 @@
 // Texts with what they are read as, from outside; and what is written of what was read.
-use disp_model::{Memory, Tree, Verdict};
+use disp_model::{List, Memory, Tree, Verdict};
 use std::alloc::Global;
 use std::process::Abort;
 use std::test::Fail;
-use tree_certificate::{TreeNo, read_tree, write_tree};
+use tree_certificate::{PackedTree, TreeNo, read_tree, write_tree};
+
+/// The nodes of a tree that was read.
+fn unpacked(alloc: Global, tree: &PackedTree) -> Result<Tree, Memory> {
+    let mut nodes = List::new(alloc);
+    for packed in tree.as_slice() {
+        nodes.push(packed.node(alloc)?)?;
+    }
+    Ok(nodes)
+}
 
 /// What was read, written again.
-fn written(alloc: Global, read: (Option<u32>, Verdict, Tree)) -> Result<String, Memory> {
-    let (edition, verdict, tree) = read;
+fn written(alloc: Global, read: (Option<u32>, Verdict, PackedTree)) -> Result<String, Memory> {
+    let (edition, verdict, packed) = read;
+    let tree = unpacked(alloc, &packed)?;
     let text = write_tree(alloc, edition.unwrap_or(7), &verdict, &tree)?;
     Ok(String::from_str(alloc, text.as_str())?)
 }

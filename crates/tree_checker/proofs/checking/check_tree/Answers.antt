@@ -11,12 +11,12 @@ pub returns-in-Some : goal.returns-in-Some
 returns-in-Some c =
     let problem = c.args.problem.now in
     let fixings = c.args.fixings.now in
-    let stops = subst (λ (found : Option Why). IsStep problem fixings c.args.verdict c.index-tree-node.result c.loop-node.path c.step.new.path c.loop-node.places.items c.step.new.places.items found) c.in-Some.is c.in_ok-why.ensures.steps in
+    let stops = subst (λ (found : Option Why). IsStep problem fixings c.args.verdict c.index-tree-node.result c.loop-node.path c.unpacked_step.new.path c.loop-node.places.items c.unpacked_step.new.places.items found) c.in-Some.is c.in_ok-why.ensures.steps in
     refused_here problem fixings c.args.verdict c.args.tree.now c.loop-node.node c.index-tree-node.result c.loop-node.path c.loop-node.places.items c.in-Some.why c.loop-node-test.true c.index-tree-node.is c.loop-node.invariant.0 stops
 
 pub loop-node-preserved : goal.loop-node-preserved
 loop-node-preserved c = (
-  step_left c.args.problem.now c.args.fixings.now c.args.verdict c.args.tree.now c.loop-node.node c.index-tree-node.result c.loop-node.path c.step.new.path c.loop-node.places.items c.step.new.places.items c.loop-node-test.true c.index-tree-node.is
+  step_left c.args.problem.now c.args.fixings.now c.args.verdict c.args.tree.now c.loop-node.node c.index-tree-node.result c.loop-node.path c.unpacked_step.new.path c.loop-node.places.items c.unpacked_step.new.places.items c.loop-node-test.true c.index-tree-node.is
       c.loop-node.invariant.0 (none_of _ c.in_ok-why.field-0 c.in_default.not-Some c.in_ok-why.ensures.steps),
   c.in_ok-why.ensures.known,
 )
