@@ -14,7 +14,7 @@ use Rattle.command_words.specs.declared.task.Task.TheVariants.{Solve, Verify, Re
 use Rattle.command_words.specs.Settings.{settings_of}
 use Rattle.command_words.specs.Task.{IsTask, AreRefused}
 use Rattle.solved_problems.specs.Promised.{Promises}
-use Rattle.text_puts.specs.Outside.{Holdings, Counts}
+use Rattle.disp_outside.specs.States.{Holdings, Counts}
 use Rattle.answered_tasks.specs.declared.cause.Cause.{Cause}
 use Rattle.answered_tasks.specs.declared.cause.Cause.TheVariants.{Words, Failed, TooLong, NoProblem, NoSolution, BadLine, NoTree, WrongEdition, NoPlan, Memory}
 use Rattle.answered_tasks.specs.declared.cause.Input.TheVariants as input

@@ -14,7 +14,7 @@ use Rattle.solution_text.specs.declared.fault.SolutionNo.TheVariants as solution
 use Rattle.solution_text.proofs.OneAnswer.{refusals_agree as solutions_refused}
 use Rattle.fixing_files.specs.declared.take.LineNo.{LineNo}
 use Rattle.fixing_files.specs.Files.{StopsAt}
-use Rattle.text_puts.specs.Outside.{Holdings, Counts}
+use Rattle.disp_outside.specs.States.{Holdings, Counts}
 use Rattle.tree_certificate.specs.declared.fault.TreeNo.{TreeNo}
 use Rattle.tree_certificate.specs.declared.fault.TreeNo.TheVariants as tree_no
 use Rattle.tree_certificate.specs.TreesRead.{TreeRead, tree_at, refusal_of, read_of, AnswersTree}

@@ -35,7 +35,7 @@ use Rattle.tree_checker.specs.declared.why.Why.TheVariants.{
 use Rattle.tree_checker.specs.Checks.{places_behind, StopsAtNode, IsChecked}
 use Rattle.tree_checker.specs.Rules.{rank_of_why, rule_at, component_walks, listed_trains, CostsBelow, BreaksNode, IsFirstBrokenWhy}
 use Rattle.tree_checker.proofs.Enough.{walks_cost_once, shares_cost_once}
-use Rattle.text_puts.specs.Outside.{Holdings}
+use Rattle.disp_outside.specs.States.{Holdings}
 use Rattle.command_words.specs.declared.task.Task.TheVariants.{Check}
 use Rattle.answered_tasks.specs.declared.cause.Input.TheVariants as input
 use Rattle.answered_tasks.specs.declared.outcome.Answer.{Answer}

@@ -21,7 +21,7 @@ use Rattle.solution_text.proofs.OneAnswer.{
 }
 use Rattle.fixing_files.specs.declared.take.LineNo.{LineNo}
 use Rattle.fixing_files.specs.Files.{TakesAll, AskInTurn, StopsAt}
-use Rattle.text_puts.specs.Outside.{Holdings}
+use Rattle.disp_outside.specs.States.{Holdings}
 use Rattle.tree_certificate.specs.declared.fault.TreeNo.{TreeNo}
 use Rattle.tree_certificate.specs.declared.fault.TreeNo.TheVariants as tree_no
 use Rattle.tree_certificate.specs.TreesRead.{TreeRead, tree_at, read_of, AnswersTree}

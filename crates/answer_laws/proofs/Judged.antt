@@ -8,7 +8,7 @@ use Rattle.command_words.specs.declared.task.JudgeTask.{JudgeTask}
 use Rattle.solution_verifier.specs.declared.fault.Fault.{Fault}
 use Rattle.solution_verifier.specs.First.{IsRight, IsFirstFault}
 use Rattle.solution_verifier.proofs.Firsts.{fault_right, fault_first}
-use Rattle.text_puts.specs.Outside.{Holdings}
+use Rattle.disp_outside.specs.States.{Holdings}
 use Rattle.answered_tasks.specs.declared.cause.Input.{Input}
 use Rattle.answered_tasks.specs.declared.cause.Input.TheVariants as input
 use Rattle.answered_tasks.specs.declared.judge.Telling.{Telling}

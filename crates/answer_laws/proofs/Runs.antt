@@ -8,7 +8,8 @@ use Rattle.command_words.specs.declared.task.SolveTask.{SolveTask}
 use Rattle.command_words.specs.declared.task.Task.{Task}
 use Rattle.command_words.specs.declared.task.Task.TheVariants.{Solve}
 use Rattle.command_words.specs.Task.{IsTask}
-use Rattle.text_puts.specs.Outside.{Outside, Holdings, Writes}
+use Rattle.disp_outside.specs.States.{Holdings}
+use Rattle.text_puts.specs.Outside.{Outside, Writes}
 use Rattle.answered_tasks.specs.declared.cause.Cause.{Cause}
 use Rattle.answered_tasks.specs.declared.cause.Cause.TheVariants.{Failed}
 use Rattle.answered_tasks.specs.declared.outcome.Answer.{Answer}

@@ -15,7 +15,7 @@ use Rattle.command_words.specs.declared.task.MakeTask.{MakeTask}
 use Rattle.command_words.specs.declared.task.SolveTask.{SolveTask}
 use Rattle.command_words.specs.declared.task.Task.{Task}
 use Rattle.command_words.specs.declared.task.Task.TheVariants.{Solve, Verify, Report, Make, Check, Roll}
-use Rattle.text_puts.specs.Outside.{Holdings, Counts}
+use Rattle.disp_outside.specs.States.{Holdings, Counts}
 use Rattle.answered_tasks.specs.declared.cause.Cause.{Cause}
 use Rattle.answered_tasks.specs.declared.cause.Cause.TheVariants.{Words, Failed, TooLong, NoProblem, NoSolution, BadLine, NoTree, WrongEdition, NoPlan, Memory}
 use Rattle.answered_tasks.specs.declared.cause.Input.{Input}

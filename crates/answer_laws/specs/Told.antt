@@ -2,7 +2,8 @@
 use Rattle.std.specs.Prelude.{◌≡◌, ℕ, List, Some, IsSome}
 use Rattle.command_words.specs.declared.task.Task.{Task}
 use Rattle.command_words.specs.Task.{IsTask}
-use Rattle.text_puts.specs.Outside.{Outside, Holdings}
+use Rattle.disp_outside.specs.States.{Holdings}
+use Rattle.text_puts.specs.Outside.{Outside}
 use Rattle.answered_tasks.specs.declared.cause.Input.{Input}
 use Rattle.answered_tasks.specs.Causes.{input_name}
 

@@ -18,7 +18,7 @@ use Rattle.answered_tasks.specs.declared.cause.Cause.{Cause}
 use Rattle.answered_tasks.specs.declared.cause.Cause.TheVariants.{Words, Failed, TooLong, NoProblem, NoSolution, BadLine, NoTree, WrongEdition, NoPlan, Memory}
 use Rattle.answered_tasks.specs.declared.cause.Input.{Input}
 use Rattle.answered_tasks.specs.declared.cause.Input.TheVariants as input
-use Rattle.text_puts.specs.Outside.{Holdings, Counts}
+use Rattle.disp_outside.specs.States.{Holdings, Counts, ShelfState}
 use Rattle.answered_tasks.specs.Outside.{ReadsOne, ReadsNames, ReadsBehind, IsName, IsGiven, IsOneOfFour}
 use Rattle.answered_tasks.specs.Files.{IsProblemFile, IsTreeFile, IsPlanFile, AreFixings, AreOfEdition, AreChangesTaken, HasFixings}
 use Rattle.answered_tasks.specs.Answers.{IsCheckedWithPlan, IsCheckedFile}
@@ -135,8 +135,9 @@ stops_by_plan before holds first old new problem fixings edition verdict nodes p
 -- ---- which names were read
 
 -- nothing was read
-pub reads_nothing : (Given : List ℕ → Type 0) (counts puts : Counts) (holds : Holdings) (Fault : Type 0) → ReadsNames Given counts counts puts puts holds holds Fault
-reads_nothing Given counts puts holds Fault = record {
+pub reads_nothing : (Given : List ℕ → Type 0) (at : ShelfState) (Fault : Type 0)
+    → ReadsNames Given at at Fault
+reads_nothing Given at Fault = record {
   counted = λ name. omega arith;
   fault = λ name lt. absurd (omega (arith, lt));
   one = λ name other lt also. absurd (omega (arith, lt));
@@ -146,15 +147,15 @@ reads_nothing Given counts puts holds Fault = record {
 }
 
 -- one name was read, which is given
-pub reads_given : (one : List ℕ) (old new old_puts new_puts : Counts) (old_holds new_holds : Holdings) (Fault : Type 0) → ReadsOne one old new old_puts new_puts old_holds new_holds Fault
-    → ReadsNames (IsGiven (Some one)) old new old_puts new_puts old_holds new_holds Fault
-reads_given one old new old_puts new_puts old_holds new_holds Fault h = reads_among (IsName one) (IsGiven (Some one)) old new old_puts new_puts old_holds new_holds Fault (λ n e. ap Some (sym e))
-    (reads_of_one one old new old_puts new_puts old_holds new_holds Fault h)
+pub reads_given : (one : List ℕ) (old new : ShelfState) (Fault : Type 0) → ReadsOne one old new Fault
+    → ReadsNames (IsGiven (Some one)) old new Fault
+reads_given one old new Fault h = reads_among (IsName one) (IsGiven (Some one)) old new Fault (λ n e. ap Some (sym e))
+    (reads_of_one one old new Fault h)
 
 -- names were read, and no fault was met
-pub reads_well : (Given : List ℕ → Type 0) (old new old_puts new_puts : Counts) (old_holds new_holds : Holdings) (Never Fault : Type 0) → (Never → ⊥) → ReadsNames Given old new old_puts new_puts old_holds new_holds Never
-    → ReadsNames Given old new old_puts new_puts old_holds new_holds Fault
-reads_well Given old new old_puts new_puts old_holds new_holds Never Fault none h = record {
+pub reads_well : (Given : List ℕ → Type 0) (old new : ShelfState) (Never Fault : Type 0) → (Never → ⊥) → ReadsNames Given old new Never
+    → ReadsNames Given old new Fault
+reads_well Given old new Never Fault none h = record {
   counted = h.counted;
   fault = λ name lt. absurd (none (h.fault name lt));
   one = h.one;
@@ -164,8 +165,10 @@ reads_well Given old new old_puts new_puts old_holds new_holds Never Fault none 
 }
 
 -- what is read behind names that were read without a fault is behind them
-pub behind_names : (Given : List ℕ → Type 0) (before holds : Holdings) (first old : Counts) (first_puts old_puts : Counts) (Fault : Type 0) → ReadsNames Given first old first_puts old_puts before holds Fault → ReadsBehind before holds first old
-behind_names Given before holds first old first_puts old_puts Fault h = record { held = h.held; counted = h.counted }
+pub behind_names : (Given : List ℕ → Type 0) (before after : ShelfState) (Fault : Type 0)
+    → ReadsNames Given before after Fault
+    → ReadsBehind before.holds after.holds before.reading after.reading
+behind_names Given before after Fault h = record { held = h.held; counted = h.counted }
 
 -- one reading behind another
 pub behind_both : (before mid holds : Holdings) (first middle old : Counts) → ReadsBehind before mid first middle → ReadsBehind mid holds middle old → ReadsBehind before holds first old

@@ -5,7 +5,8 @@ use Rattle.disp_model.specs.declared.entry.Entry.{Entry}
 use Rattle.answered_tasks.specs.declared.outcome.Answer.{Answer}
 use Rattle.answered_tasks.specs.declared.cause.Cause.{Cause}
 use Rattle.answered_tasks.specs.declared.cause.Cause.TheVariants.{Words, Failed, TooLong, NoProblem, NoSolution, BadLine, NoTree, WrongEdition, NoPlan, Memory}
-use Rattle.text_puts.specs.Outside.{Counts, Outside, Writes}
+use Rattle.disp_outside.specs.States.{Counts}
+use Rattle.text_puts.specs.Outside.{Outside, Writes}
 use Rattle.text_puts.specs.Puts.{PutsUnder, PutsOnly}
 use Rattle.answered_tasks.specs.Outside.{FailsOfOne}
 use Rattle.answered_tasks.specs.Answers.{IsAnswer, IsDuePut}

@@ -13,7 +13,7 @@ use Rattle.answered_tasks.specs.declared.outcome.Answer.{Answer}
 use Rattle.solved_problems.specs.Promised.{Promises}
 use Rattle.solved_problems.specs.Solved.{IsSearched, MayBeAsked}
 use Rattle.solved_problems.proofs.Marks.{marks_say}
-use Rattle.text_puts.specs.Outside.{Holdings}
+use Rattle.disp_outside.specs.States.{Holdings}
 use Rattle.answered_tasks.specs.Files.{AreAsked}
 use Rattle.answered_tasks.specs.Answers.{status_of_mark, best_plan, puts_of, IsFinished, IsSolved}
 use Rattle.answered_tasks.specs.Settled.{settled_tree, ShowsMark}

@@ -16,7 +16,7 @@ use Rattle.answered_tasks.specs.declared.judge.Telling.{Telling}
 use Rattle.answered_tasks.specs.declared.cause.Cause.{Cause}
 use Rattle.answered_tasks.specs.declared.cause.Cause.TheVariants.{Words, Failed, TooLong, NoProblem, NoSolution, BadLine, NoTree, WrongEdition, NoPlan, Memory}
 use Rattle.answered_tasks.specs.declared.cause.Input.TheVariants as input
-use Rattle.text_puts.specs.Outside.{Holdings, Counts}
+use Rattle.disp_outside.specs.States.{Holdings, Counts, ShelfState}
 use Rattle.text_puts.proofs.Counting.{never_falls}
 use Rattle.answered_tasks.specs.Outside.{IsFile, HoldsTooMuch, ReadsOne, ReadsNames, ReadsBehind, IsName, IsProblemOrFixings, IsOneOfThree}
 use Rattle.answered_tasks.specs.Files.{IsProblemFile, IsRefusedLine, AreAsked, AreFixings, HasFixings}
@@ -300,29 +300,29 @@ judged_file_before holds mid telling problem fixings name answer same h = record
 }
 
 -- one reading
-pub reads_of_one : (one : List ℕ) (old new : Counts) (old_puts new_puts : Counts) (old_holds new_holds : Holdings) (Fault : Type 0) → ReadsOne one old new old_puts new_puts old_holds new_holds Fault
-    → ReadsNames (IsName one) old new old_puts new_puts old_holds new_holds Fault
-reads_of_one one old new old_puts new_puts old_holds new_holds Fault h = record {
-  counted = never_falls one old new h.counted h.others;
-  fault = λ name lt. h.fault (subst (λ (n : List ℕ). old n < new n) (is_one name lt) lt);
+pub reads_of_one : (one : List ℕ) (old new : ShelfState) (Fault : Type 0) → ReadsOne one old new Fault
+    → ReadsNames (IsName one) old new Fault
+reads_of_one one old new Fault h = record {
+  counted = never_falls one old.reading new.reading h.counted h.others;
+  fault = λ name lt. h.fault (subst (λ (n : List ℕ). old.reading n < new.reading n) (is_one name lt) lt);
   one = λ name other lt also. is_one name lt ∙ sym (is_one other also);
   others = h.others;
   puttings = h.puttings;
   held = h.held;
 }
   where
-    rise : (name : List ℕ) → (b : Bool) → Decides b (name ≡ one) → old name < new name → name ≡ one
+    rise : (name : List ℕ) → (b : Bool) → Decides b (name ≡ one) → old.reading name < new.reading name → name ≡ one
     rise name true same lt = same.0 refl
     rise name false unlike lt = absurd (omega (arith, lt, h.others name (λ e. different (unlike.1 e))))
 
-    is_one : (name : List ℕ) → old name < new name → name ≡ one
+    is_one : (name : List ℕ) → old.reading name < new.reading name → name ≡ one
     is_one name lt = rise name (bytes_eq name one) (bytes_eq-Decides name one) lt
 
 -- two readings, of which the first had no fault
-pub reads_then : (One Two : List ℕ → Type 0) (old mid new : Counts) (old_puts mid_puts new_puts : Counts) (old_holds mid_holds new_holds : Holdings) (First Fault : Type 0) → (First → ⊥)
-    → ReadsNames One old mid old_puts mid_puts old_holds mid_holds First → ReadsNames Two mid new mid_puts new_puts mid_holds new_holds Fault
-    → ReadsNames (λ name. One name ⊎ Two name) old new old_puts new_puts old_holds new_holds Fault
-reads_then One Two old mid new old_puts mid_puts new_puts old_holds mid_holds new_holds First Fault none first second = record {
+pub reads_then : (One Two : List ℕ → Type 0) (old mid new : ShelfState) (First Fault : Type 0) → (First → ⊥)
+    → ReadsNames One old mid First → ReadsNames Two mid new Fault
+    → ReadsNames (λ name. One name ⊎ Two name) old new Fault
+reads_then One Two old mid new First Fault none first second = record {
   counted = λ name. omega (arith, first.counted name, second.counted name);
   fault = λ name lt. second.fault name (omega (arith, lt, kept name));
   one = λ name other lt also. second.one name other (omega (arith, lt, kept name)) (omega (arith, also, kept other));
@@ -331,13 +331,13 @@ reads_then One Two old mid new old_puts mid_puts new_puts old_holds mid_holds ne
   held = λ other. second.held other ∙ first.held other;
 }
   where
-    kept : (name : List ℕ) → mid name ≡ old name
-    kept name = omega (arith, first.counted name, (λ (lt : old name < mid name). none (first.fault name lt)))
+    kept : (name : List ℕ) → mid.reading name ≡ old.reading name
+    kept name = omega (arith, first.counted name, (λ (lt : old.reading name < mid.reading name). none (first.fault name lt)))
 
 -- readings among more names
-pub reads_among : (Few Many : List ℕ → Type 0) (old new : Counts) (old_puts new_puts : Counts) (old_holds new_holds : Holdings) (Fault : Type 0) → ((name : List ℕ) → Few name → Many name)
-    → ReadsNames Few old new old_puts new_puts old_holds new_holds Fault → ReadsNames Many old new old_puts new_puts old_holds new_holds Fault
-reads_among Few Many old new old_puts new_puts old_holds new_holds Fault more h = record {
+pub reads_among : (Few Many : List ℕ → Type 0) (old new : ShelfState) (Fault : Type 0) → ((name : List ℕ) → Few name → Many name)
+    → ReadsNames Few old new Fault → ReadsNames Many old new Fault
+reads_among Few Many old new Fault more h = record {
   counted = h.counted;
   fault = h.fault;
   one = h.one;

@@ -35,7 +35,7 @@ use Rattle.dispatch_reports.specs.Tables.{report_lines}
 use Rattle.instance_maker.specs.Made.{IsMade}
 use Rattle.journal_printer.specs.Journal.{tree_file}
 use Rattle.text_puts.specs.declared.put.Put.{Put}
-use Rattle.text_puts.specs.Outside.{Holdings}
+use Rattle.disp_outside.specs.States.{Holdings}
 use Rattle.text_puts.specs.Puts.{PutsUnder}
 use Rattle.answered_tasks.specs.Files.{IsProblemFile, IsSolutionFile, AreAsked, AreFixings, AreOfEdition, IsTreeFile, IsPlanFile}
 use Rattle.answered_tasks.specs.Settled.{settled_tree, ShowsMark}

@@ -29,7 +29,7 @@ use Rattle.answered_tasks.specs.declared.cause.Cause.{Cause}
 use Rattle.answered_tasks.specs.declared.cause.Cause.TheVariants.{Words, Failed, TooLong, NoProblem, NoSolution, BadLine, NoTree, WrongEdition, NoPlan, Memory}
 use Rattle.answered_tasks.specs.declared.cause.Input.{Input}
 use Rattle.answered_tasks.specs.declared.cause.Input.TheVariants as input
-use Rattle.text_puts.specs.Outside.{Holdings, Counts}
+use Rattle.disp_outside.specs.States.{Holdings, Counts}
 use Rattle.answered_tasks.specs.Outside.{IsFile, HoldsTooMuch, ReadsBehind}
 use Rattle.answered_tasks.specs.Texts.{line}
 use Rattle.answered_tasks.specs.Files.{IsProblemFile, HasFixings, IsRefusedLine, AreOfEdition, IsTreeNamed, IsTreeFile}

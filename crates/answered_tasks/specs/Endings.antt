@@ -7,7 +7,8 @@ use Rattle.answered_tasks.specs.declared.outcome.Answer.{Answer}
 use Rattle.answered_tasks.specs.declared.cause.Cause.{Cause}
 use Rattle.answered_tasks.specs.declared.cause.Cause.TheVariants.{Failed, Memory}
 use Rattle.answered_tasks.specs.declared.cause.Input.{Input}
-use Rattle.text_puts.specs.Outside.{Outside, Holdings, Counts, Writes}
+use Rattle.disp_outside.specs.States.{Holdings, Counts}
+use Rattle.text_puts.specs.Outside.{Outside, Writes}
 use Rattle.text_puts.specs.Puts.{StandsAfter, PutsSome, PutMisses}
 use Rattle.answered_tasks.specs.Answers.{IsAnswer, IsDuePut}
 use Rattle.answered_tasks.specs.Causes.{StopsRun, IsReadingFault, IsAnswerStatus, CountsReading, line_of, due_line, status_of}

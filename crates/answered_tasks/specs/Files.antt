@@ -15,7 +15,7 @@ use Rattle.displib_reader.specs.Outcome.{IsReadAs}
 use Rattle.solution_text.specs.Reading.{IsReadAsSolution}
 use Rattle.fixing_files.specs.declared.take.LineNo.{LineNo}
 use Rattle.fixing_files.specs.Files.{TakesAll, StopsAt, TakesInTurn, AskInTurn}
-use Rattle.text_puts.specs.Outside.{Holdings}
+use Rattle.disp_outside.specs.States.{Holdings}
 use Rattle.answered_tasks.specs.Outside.{IsFile}
 
 -- the name's file is that of a problem

@@ -1,6 +1,7 @@
 -- The outside as the program sees it at one moment.
 use Rattle.std.specs.Prelude.{◌≡◌, ◌≢◌, ◌⊎◌, ℕ, ◌<◌, ◌≤◌, List, length, Option, Some, IfSome, IsSomeAnd}
-use Rattle.text_puts.specs.Outside.{Holdings, Counts, HoldsBytes}
+use Rattle.disp_outside.specs.States.{Holdings, Counts, ShelfState}
+use Rattle.text_puts.specs.Outside.{HoldsBytes}
 use Rattle.disp_model.specs.declared.limits.TheConstants.{MOST_FILE_BYTES}
 
 -- the name holds a file that is too long, as far as is told
@@ -18,24 +19,23 @@ abbrev pub FailsOfOne : Counts → Counts → Type 0
 FailsOfOne old new = (one other : List ℕ) → old one < new one → old other < new other → one ≡ other
 
 -- one name was read: its count does not fall, and where it rises there is a fault; all else stays
-pub record ReadsOne (name : List ℕ) (old new : Counts) (old_puts new_puts : Counts)
-    (old_holds new_holds : Holdings) (Fault : Type 0) : Type 0 where
-  pub counted : old name ≤ new name
-  pub fault : old name < new name → Fault
-  pub others : (other : List ℕ) → other ≢ name → new other ≡ old other
-  pub puttings : (other : List ℕ) → new_puts other ≡ old_puts other
-  pub held : (other : List ℕ) → new_holds other ≡ old_holds other
+pub record ReadsOne (name : List ℕ) (old new : ShelfState) (Fault : Type 0) : Type 0 where
+  pub counted : old.reading name ≤ new.reading name
+  pub fault : old.reading name < new.reading name → Fault
+  pub others : (other : List ℕ) → other ≢ name → new.reading other ≡ old.reading other
+  pub puttings : (other : List ℕ) → new.putting other ≡ old.putting other
+  pub held : (other : List ℕ) → new.holds other ≡ old.holds other
 
 -- names were read, and no others, up to the first fault: no count falls, and where one rises there
 -- is a fault; all else stays
-pub record ReadsNames (Given : List ℕ → Type 0) (old new : Counts) (old_puts new_puts : Counts)
-    (old_holds new_holds : Holdings) (Fault : Type 0) : Type 0 where
-  pub counted : (name : List ℕ) → old name ≤ new name
-  pub fault : (name : List ℕ) → old name < new name → Fault
-  pub one : FailsOfOne old new
-  pub others : (other : List ℕ) → (Given other → ⊥) → new other ≡ old other
-  pub puttings : (other : List ℕ) → new_puts other ≡ old_puts other
-  pub held : (other : List ℕ) → new_holds other ≡ old_holds other
+pub record ReadsNames (Given : List ℕ → Type 0) (old new : ShelfState) (Fault : Type 0) :
+    Type 0 where
+  pub counted : (name : List ℕ) → old.reading name ≤ new.reading name
+  pub fault : (name : List ℕ) → old.reading name < new.reading name → Fault
+  pub one : FailsOfOne old.reading new.reading
+  pub others : (other : List ℕ) → (Given other → ⊥) → new.reading other ≡ old.reading other
+  pub puttings : (other : List ℕ) → new.putting other ≡ old.putting other
+  pub held : (other : List ℕ) → new.holds other ≡ old.holds other
 
 -- another reading comes behind: what names hold is the same, and no count has fallen
 pub record ReadsBehind (before holds : Holdings) (first old : Counts) : Type 0 where

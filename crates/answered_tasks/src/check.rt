@@ -32,18 +32,17 @@ fn check_with<S: Shelf>(
     plan: Option<&Text>,
 ) -> Result<Answer, Cause>
     ensures ok { IfOk result
-        (IsCheckedWithPlan (S.holds shelf.old) problem.now fixings.now verdict tree.now
+        (IsCheckedWithPlan (S.state shelf.old).holds problem.now fixings.now verdict tree.now
         (option_map (λ name. name.now) plan.entry)) }
     ensures no { IfErr result
-        (StopsFromPlan (S.holds shelf.old) (S.reading_faults shelf.old)
-        (S.reading_faults shelf.new) problem.now fixings.now verdict tree.now
+        (StopsFromPlan (S.state shelf.old).holds (S.state shelf.old).reading
+        (S.state shelf.new).reading problem.now fixings.now verdict tree.now
         (option_map (λ name. name.now) plan.entry)) }
     ensures status { IfOk result (λ answer. IsAnswerStatus answer.status) }
     ensures reads { ReadsNames (IsGiven (option_map (λ name. name.now) plan.entry))
-        (S.reading_faults shelf.old) (S.reading_faults shelf.new) (S.putting_faults shelf.old)
-        (S.putting_faults shelf.new) (S.holds shelf.old) (S.holds shelf.new)
+        (S.state shelf.old) (S.state shelf.new)
         (IsErrAnd result IsReadingFault) }
-    ensures feeds { S.open_feeds shelf.new ≡ S.open_feeds shelf.old }
+    ensures feeds { (S.state shelf.new).open_feeds ≡ (S.state shelf.old).open_feeds }
 {
     match given_plan(alloc, shelf, plan) {
         Ok(plan) => judge_tree(alloc, problem, fixings, verdict, tree, plan),
@@ -62,18 +61,17 @@ fn check_tree<S: Shelf>(
     plan: Option<&Text>,
 ) -> Result<Answer, Cause>
     ensures ok { IfOk result
-        (IsCheckedFile (S.holds shelf.old) problem.now fixings.now edition tree.now
+        (IsCheckedFile (S.state shelf.old).holds problem.now fixings.now edition tree.now
         (option_map (λ name. name.now) plan.entry)) }
     ensures no { IfErr result
-        (StopsFromTree (S.holds shelf.old) (S.reading_faults shelf.old)
-        (S.reading_faults shelf.new) problem.now fixings.now edition tree.now
+        (StopsFromTree (S.state shelf.old).holds (S.state shelf.old).reading
+        (S.state shelf.new).reading problem.now fixings.now edition tree.now
         (option_map (λ name. name.now) plan.entry)) }
     ensures status { IfOk result (λ answer. IsAnswerStatus answer.status) }
     ensures reads { ReadsNames (IsTreeOrPlan tree.now (option_map (λ name. name.now) plan.entry))
-        (S.reading_faults shelf.old) (S.reading_faults shelf.new) (S.putting_faults shelf.old)
-        (S.putting_faults shelf.new) (S.holds shelf.old) (S.holds shelf.new)
+        (S.state shelf.old) (S.state shelf.new)
         (IsErrAnd result IsReadingFault) }
-    ensures feeds { S.open_feeds shelf.new ≡ S.open_feeds shelf.old }
+    ensures feeds { (S.state shelf.new).open_feeds ≡ (S.state shelf.old).open_feeds }
 {
     match tree_file(alloc, shelf, edition, tree.as_str()) {
         Ok((verdict, tree)) => check_with(alloc, shelf, problem, fixings, verdict, &tree, plan),
@@ -91,20 +89,20 @@ fn check_files<S: Shelf>(
     plan: Option<&Text>,
 ) -> Result<Answer, Cause>
     ensures ok { IfOk result
-        (IsCheckedBy (S.holds shelf.old) problem.now (option_map (λ name. name.now) fixings.entry)
+        (IsCheckedBy (S.state shelf.old).holds problem.now
+        (option_map (λ name. name.now) fixings.entry)
         tree.now (option_map (λ name. name.now) plan.entry)) }
     ensures no { IfErr result
-        (StopsFromFixings (S.holds shelf.old) (S.reading_faults shelf.old)
-        (S.reading_faults shelf.new) problem.now (option_map (λ name. name.now) fixings.entry)
+        (StopsFromFixings (S.state shelf.old).holds (S.state shelf.old).reading
+        (S.state shelf.new).reading problem.now (option_map (λ name. name.now) fixings.entry)
         tree.now (option_map (λ name. name.now) plan.entry)) }
     ensures status { IfOk result (λ answer. IsAnswerStatus answer.status) }
     ensures reads { ReadsNames
         (IsBehindProblem (option_map (λ name. name.now) fixings.entry) tree.now
         (option_map (λ name. name.now) plan.entry))
-        (S.reading_faults shelf.old) (S.reading_faults shelf.new) (S.putting_faults shelf.old)
-        (S.putting_faults shelf.new) (S.holds shelf.old) (S.holds shelf.new)
+        (S.state shelf.old) (S.state shelf.new)
         (IsErrAnd result IsReadingFault) }
-    ensures feeds { S.open_feeds shelf.new ≡ S.open_feeds shelf.old }
+    ensures feeds { (S.state shelf.new).open_feeds ≡ (S.state shelf.old).open_feeds }
 {
     match editions_of(alloc, shelf, problem, fixings) {
         Ok(mut editions) => {
@@ -133,20 +131,19 @@ pub(crate) fn run_check<S: Shelf>(
     plan: Option<&Text>,
 ) -> Result<Answer, Cause>
     ensures ok { IfOk result
-        (AnswersCheck (S.holds shelf.old) problem.now tree.now
+        (AnswersCheck (S.state shelf.old).holds problem.now tree.now
         (option_map (λ name. name.now) fixings.entry) (option_map (λ name. name.now) plan.entry)) }
     ensures no { IfErr result
-        (StopsTask (S.holds shelf.old) (S.reading_faults shelf.old) (S.reading_faults shelf.new)
+        (StopsTask (S.state shelf.old).holds (S.state shelf.old).reading (S.state shelf.new).reading
         (Check problem.now tree.now (option_map (λ name. name.now) fixings.entry)
         (option_map (λ name. name.now) plan.entry))) }
     ensures status { IfOk result (λ answer. IsAnswerStatus answer.status) }
     ensures reads { ReadsNames
         (IsOneOfFour problem.now (option_map (λ name. name.now) fixings.entry) tree.now
         (option_map (λ name. name.now) plan.entry))
-        (S.reading_faults shelf.old) (S.reading_faults shelf.new) (S.putting_faults shelf.old)
-        (S.putting_faults shelf.new) (S.holds shelf.old) (S.holds shelf.new)
+        (S.state shelf.old) (S.state shelf.new)
         (IsErrAnd result IsReadingFault) }
-    ensures feeds { S.open_feeds shelf.new ≡ S.open_feeds shelf.old }
+    ensures feeds { (S.state shelf.new).open_feeds ≡ (S.state shelf.old).open_feeds }
 {
     match problem_file(alloc, shelf, problem.as_str()) {
         Ok(problem) => check_files(alloc, shelf, &problem, fixings, tree, plan),

@@ -20,14 +20,14 @@ use tree_certificate::{PackedTree, TreeNo, read_tree};
 
 /// The bytes of a file.
 fn fetch<S: Shelf>(alloc: Global, shelf: &mut S, which: Input, name: &str) -> Result<Vec<u8>, Cause>
-    ensures file { IfOk result (λ bytes. IsFile (S.holds shelf.old) name.now bytes.items) }
+    ensures file { IfOk result (λ bytes. IsFile (S.state shelf.old).holds name.now bytes.items) }
     ensures no { IfErr result
-        (Misses (S.holds shelf.old) (S.reading_faults shelf.old) (S.reading_faults shelf.new) which
+        (Misses (S.state shelf.old).holds (S.state shelf.old).reading (S.state shelf.new).reading
+        which
         name.now) }
-    ensures reads { ReadsOne name.now (S.reading_faults shelf.old) (S.reading_faults shelf.new)
-        (S.putting_faults shelf.old) (S.putting_faults shelf.new) (S.holds shelf.old)
-        (S.holds shelf.new) (result ≡ Err (Failed which)) }
-    ensures feeds { S.open_feeds shelf.new ≡ S.open_feeds shelf.old }
+    ensures reads { ReadsOne name.now (S.state shelf.old) (S.state shelf.new)
+        (result ≡ Err (Failed which)) }
+    ensures feeds { (S.state shelf.new).open_feeds ≡ (S.state shelf.old).open_feeds }
 {
     match shelf.fetch(alloc, name, MOST_FILE_BYTES) {
         Ok(bytes) => Ok(bytes),
@@ -67,14 +67,14 @@ fn solution_of(alloc: Global, bytes: &[u8]) -> Result<(Plan, Option<u64>), Cause
 /// `Failed` and `TooLong` of a problem where the file is not read, `NoProblem` where it is none,
 /// and `Memory`.
 pub fn problem_file<S: Shelf>(alloc: Global, shelf: &mut S, name: &str) -> Result<Problem, Cause>
-    ensures ok { IfOk result (IsProblemFile (S.holds shelf.old) name.now) }
+    ensures ok { IfOk result (IsProblemFile (S.state shelf.old).holds name.now) }
     ensures no { IfErr result
-        (StopsProblem (S.holds shelf.old) (S.reading_faults shelf.old) (S.reading_faults shelf.new)
+        (StopsProblem (S.state shelf.old).holds (S.state shelf.old).reading
+        (S.state shelf.new).reading
         name.now) }
-    ensures reads { ReadsOne name.now (S.reading_faults shelf.old) (S.reading_faults shelf.new)
-        (S.putting_faults shelf.old) (S.putting_faults shelf.new) (S.holds shelf.old)
-        (S.holds shelf.new) (IsErrAnd result IsReadingFault) }
-    ensures feeds { S.open_feeds shelf.new ≡ S.open_feeds shelf.old }
+    ensures reads { ReadsOne name.now (S.state shelf.old) (S.state shelf.new)
+        (IsErrAnd result IsReadingFault) }
+    ensures feeds { (S.state shelf.new).open_feeds ≡ (S.state shelf.old).open_feeds }
 {
     let bytes = fetch(alloc, shelf, Input::Problem, name)?;
     problem_of(alloc, &bytes)
@@ -86,14 +86,14 @@ pub(crate) fn solution_file<S: Shelf>(
     shelf: &mut S,
     name: &str,
 ) -> Result<(Plan, Option<u64>), Cause>
-    ensures ok { IfOk result (λ r. IsSolutionFile (S.holds shelf.old) name.now r.0 r.1) }
+    ensures ok { IfOk result (λ r. IsSolutionFile (S.state shelf.old).holds name.now r.0 r.1) }
     ensures no { IfErr result
-        (StopsSolution (S.holds shelf.old) (S.reading_faults shelf.old) (S.reading_faults shelf.new)
+        (StopsSolution (S.state shelf.old).holds (S.state shelf.old).reading
+        (S.state shelf.new).reading
         name.now) }
-    ensures reads { ReadsOne name.now (S.reading_faults shelf.old) (S.reading_faults shelf.new)
-        (S.putting_faults shelf.old) (S.putting_faults shelf.new) (S.holds shelf.old)
-        (S.holds shelf.new) (IsErrAnd result IsReadingFault) }
-    ensures feeds { S.open_feeds shelf.new ≡ S.open_feeds shelf.old }
+    ensures reads { ReadsOne name.now (S.state shelf.old) (S.state shelf.new)
+        (IsErrAnd result IsReadingFault) }
+    ensures feeds { (S.state shelf.new).open_feeds ≡ (S.state shelf.old).open_feeds }
 {
     let bytes = fetch(alloc, shelf, Input::Solution, name)?;
     solution_of(alloc, &bytes)
@@ -150,19 +150,20 @@ fn take<F: Feed>(alloc: Global, problem: &Problem, feed: &mut F) -> Result<Editi
 fn open<S: Shelf>(alloc: Global, shelf: &mut S, name: &str) -> Result<S::Feed, Cause>
     ensures name { IfOk result (λ feed. S.Feed.name feed ≡ name.now) }
     ensures lines { IfOk result
-        (λ feed. HasLinesOf (S.holds shelf.old name.now) (S.Feed.lines feed)) }
+        (λ feed. HasLinesOf ((S.state shelf.old).holds name.now) (S.Feed.lines feed)) }
     ensures open { IfOk result (λ feed. S.Feed.has_ended feed ≡ false) }
     ensures unbroken { IfOk result (λ feed. S.Feed.faults feed ≡ 0) }
     ensures known { IfOk result (λ feed. S.knows shelf.new name.now) }
     ensures no { IfErr result
-        (Misses (S.holds shelf.old) (S.reading_faults shelf.old) (S.reading_faults shelf.new)
+        (Misses (S.state shelf.old).holds (S.state shelf.old).reading (S.state shelf.new).reading
         Input.Fixings name.now) }
     ensures not_long { IfErr result IsNotLong }
-    ensures reads { ReadsOne name.now (S.reading_faults shelf.old) (S.reading_faults shelf.new)
-        (S.putting_faults shelf.old) (S.putting_faults shelf.new) (S.holds shelf.old)
-        (S.holds shelf.new) (result ≡ Err (Failed Input.Fixings)) }
-    ensures opened { OnOk result (S.open_feeds shelf.new ≡ S.open_feeds shelf.old + 1) }
-    ensures unopened { OnErr result (S.open_feeds shelf.new ≡ S.open_feeds shelf.old) }
+    ensures reads { ReadsOne name.now (S.state shelf.old) (S.state shelf.new)
+        (result ≡ Err (Failed Input.Fixings)) }
+    ensures opened { OnOk result ((S.state shelf.new).open_feeds
+        ≡ (S.state shelf.old).open_feeds + 1) }
+    ensures unopened { OnErr result ((S.state shelf.new).open_feeds
+        ≡ (S.state shelf.old).open_feeds) }
 {
     match shelf.feed(alloc, name) {
         Ok(feed) => Ok(feed),
@@ -179,14 +180,15 @@ pub(crate) fn fixings_file<S: Shelf>(
     name: &str,
 ) -> Result<Editions, Cause>
     ensures ok { IfOk result (λ editions.
-        IsFixingsTaken (S.holds shelf.old) problem.now name.now editions.problem editions.changes) }
+        IsFixingsTaken (S.state shelf.old).holds problem.now name.now editions.problem
+        editions.changes) }
     ensures no { IfErr result
-        (StopsFixings (S.holds shelf.old) (S.reading_faults shelf.old) (S.reading_faults shelf.new)
+        (StopsFixings (S.state shelf.old).holds (S.state shelf.old).reading
+        (S.state shelf.new).reading
         problem.now name.now) }
-    ensures reads { ReadsOne name.now (S.reading_faults shelf.old) (S.reading_faults shelf.new)
-        (S.putting_faults shelf.old) (S.putting_faults shelf.new) (S.holds shelf.old)
-        (S.holds shelf.new) (IsErrAnd result IsReadingFault) }
-    ensures feeds { S.open_feeds shelf.new ≡ S.open_feeds shelf.old }
+    ensures reads { ReadsOne name.now (S.state shelf.old) (S.state shelf.new)
+        (IsErrAnd result IsReadingFault) }
+    ensures feeds { (S.state shelf.new).open_feeds ≡ (S.state shelf.old).open_feeds }
 {
     let mut feed = open(alloc, shelf, name)?;
     let editions = take(alloc, problem, &mut feed);
@@ -202,14 +204,14 @@ fn asked_file<S: Shelf>(
     name: &str,
 ) -> Result<Vec<Change>, Cause>
     ensures ok { IfOk result (λ asked.
-        IsAskedFile (S.holds shelf.old) problem.now name.now asked.items) }
+        IsAskedFile (S.state shelf.old).holds problem.now name.now asked.items) }
     ensures no { IfErr result
-        (StopsFixings (S.holds shelf.old) (S.reading_faults shelf.old) (S.reading_faults shelf.new)
+        (StopsFixings (S.state shelf.old).holds (S.state shelf.old).reading
+        (S.state shelf.new).reading
         problem.now name.now) }
-    ensures reads { ReadsOne name.now (S.reading_faults shelf.old) (S.reading_faults shelf.new)
-        (S.putting_faults shelf.old) (S.putting_faults shelf.new) (S.holds shelf.old)
-        (S.holds shelf.new) (IsErrAnd result IsReadingFault) }
-    ensures feeds { S.open_feeds shelf.new ≡ S.open_feeds shelf.old }
+    ensures reads { ReadsOne name.now (S.state shelf.old) (S.state shelf.new)
+        (IsErrAnd result IsReadingFault) }
+    ensures feeds { (S.state shelf.new).open_feeds ≡ (S.state shelf.old).open_feeds }
 {
     let mut feed = open(alloc, shelf, name)?;
     let read = take_asked(alloc, problem, &mut feed);
@@ -228,15 +230,15 @@ pub(crate) fn asked_of<S: Shelf>(
     name: Option<&Text>,
 ) -> Result<Vec<Change>, Cause>
     ensures ok { IfOk result (λ asked.
-        AreAsked (S.holds shelf.old) problem.now (option_map (λ n. n.now) name.entry) asked.items) }
+        AreAsked (S.state shelf.old).holds problem.now (option_map (λ n. n.now) name.entry)
+        asked.items) }
     ensures no { IfErr result
-        (StopsGivenFixings (S.holds shelf.old) (S.reading_faults shelf.old)
-        (S.reading_faults shelf.new) problem.now (option_map (λ n. n.now) name.entry)) }
+        (StopsGivenFixings (S.state shelf.old).holds (S.state shelf.old).reading
+        (S.state shelf.new).reading problem.now (option_map (λ n. n.now) name.entry)) }
     ensures reads { ReadsNames (IsGiven (option_map (λ n. n.now) name.entry))
-        (S.reading_faults shelf.old) (S.reading_faults shelf.new) (S.putting_faults shelf.old)
-        (S.putting_faults shelf.new) (S.holds shelf.old) (S.holds shelf.new)
+        (S.state shelf.old) (S.state shelf.new)
         (IsErrAnd result IsReadingFault) }
-    ensures feeds { S.open_feeds shelf.new ≡ S.open_feeds shelf.old }
+    ensures feeds { (S.state shelf.new).open_feeds ≡ (S.state shelf.old).open_feeds }
 {
     match name {
         Some(name) => asked_file(alloc, shelf, problem, name.as_str()),
@@ -252,16 +254,15 @@ pub(crate) fn editions_of<S: Shelf>(
     name: Option<&Text>,
 ) -> Result<Editions, Cause>
     ensures ok { IfOk result (λ editions.
-        AreChangesTaken (S.holds shelf.old) problem.now (option_map (λ n. n.now) name.entry)
+        AreChangesTaken (S.state shelf.old).holds problem.now (option_map (λ n. n.now) name.entry)
         editions.problem editions.changes) }
     ensures no { IfErr result
-        (StopsGivenFixings (S.holds shelf.old) (S.reading_faults shelf.old)
-        (S.reading_faults shelf.new) problem.now (option_map (λ n. n.now) name.entry)) }
+        (StopsGivenFixings (S.state shelf.old).holds (S.state shelf.old).reading
+        (S.state shelf.new).reading problem.now (option_map (λ n. n.now) name.entry)) }
     ensures reads { ReadsNames (IsGiven (option_map (λ n. n.now) name.entry))
-        (S.reading_faults shelf.old) (S.reading_faults shelf.new) (S.putting_faults shelf.old)
-        (S.putting_faults shelf.new) (S.holds shelf.old) (S.holds shelf.new)
+        (S.state shelf.old) (S.state shelf.new)
         (IsErrAnd result IsReadingFault) }
-    ensures feeds { S.open_feeds shelf.new ≡ S.open_feeds shelf.old }
+    ensures feeds { (S.state shelf.new).open_feeds ≡ (S.state shelf.old).open_feeds }
 {
     match name {
         Some(name) => fixings_file(alloc, shelf, problem, name.as_str()),
@@ -311,14 +312,13 @@ pub(crate) fn tree_file<S: Shelf>(
     edition: u32,
     name: &str,
 ) -> Result<(Verdict, PackedTree), Cause>
-    ensures ok { IfOk result (λ r. IsTreeFile (S.holds shelf.old) name.now edition r.0 r.1) }
+    ensures ok { IfOk result (λ r. IsTreeFile (S.state shelf.old).holds name.now edition r.0 r.1) }
     ensures no { IfErr result
-        (StopsTree (S.holds shelf.old) (S.reading_faults shelf.old) (S.reading_faults shelf.new)
+        (StopsTree (S.state shelf.old).holds (S.state shelf.old).reading (S.state shelf.new).reading
         edition name.now) }
-    ensures reads { ReadsOne name.now (S.reading_faults shelf.old) (S.reading_faults shelf.new)
-        (S.putting_faults shelf.old) (S.putting_faults shelf.new) (S.holds shelf.old)
-        (S.holds shelf.new) (IsErrAnd result IsReadingFault) }
-    ensures feeds { S.open_feeds shelf.new ≡ S.open_feeds shelf.old }
+    ensures reads { ReadsOne name.now (S.state shelf.old) (S.state shelf.new)
+        (IsErrAnd result IsReadingFault) }
+    ensures feeds { (S.state shelf.new).open_feeds ≡ (S.state shelf.old).open_feeds }
 {
     let bytes = fetch(alloc, shelf, Input::Tree, name)?;
     tree_of(alloc, edition, &bytes)
@@ -342,14 +342,13 @@ fn plan_file<S: Shelf>(
     shelf: &mut S,
     name: &str,
 ) -> Result<(Plan, Option<u64>), Cause>
-    ensures ok { IfOk result (λ r. IsSolutionFile (S.holds shelf.old) name.now r.0 r.1) }
+    ensures ok { IfOk result (λ r. IsSolutionFile (S.state shelf.old).holds name.now r.0 r.1) }
     ensures no { IfErr result
-        (StopsPlan (S.holds shelf.old) (S.reading_faults shelf.old) (S.reading_faults shelf.new)
+        (StopsPlan (S.state shelf.old).holds (S.state shelf.old).reading (S.state shelf.new).reading
         name.now) }
-    ensures reads { ReadsOne name.now (S.reading_faults shelf.old) (S.reading_faults shelf.new)
-        (S.putting_faults shelf.old) (S.putting_faults shelf.new) (S.holds shelf.old)
-        (S.holds shelf.new) (IsErrAnd result IsReadingFault) }
-    ensures feeds { S.open_feeds shelf.new ≡ S.open_feeds shelf.old }
+    ensures reads { ReadsOne name.now (S.state shelf.old) (S.state shelf.new)
+        (IsErrAnd result IsReadingFault) }
+    ensures feeds { (S.state shelf.new).open_feeds ≡ (S.state shelf.old).open_feeds }
 {
     let bytes = fetch(alloc, shelf, Input::Plan, name)?;
     plan_of(alloc, &bytes)
@@ -362,15 +361,14 @@ pub(crate) fn given_plan<S: Shelf>(
     name: Option<&Text>,
 ) -> Result<Option<(Plan, Option<u64>)>, Cause>
     ensures ok { IfOk result
-        (IsPlanFile (S.holds shelf.old) (option_map (λ n. n.now) name.entry)) }
+        (IsPlanFile (S.state shelf.old).holds (option_map (λ n. n.now) name.entry)) }
     ensures no { IfErr result
-        (StopsGivenPlan (S.holds shelf.old) (S.reading_faults shelf.old)
-        (S.reading_faults shelf.new) (option_map (λ n. n.now) name.entry)) }
+        (StopsGivenPlan (S.state shelf.old).holds (S.state shelf.old).reading
+        (S.state shelf.new).reading (option_map (λ n. n.now) name.entry)) }
     ensures reads { ReadsNames (IsGiven (option_map (λ n. n.now) name.entry))
-        (S.reading_faults shelf.old) (S.reading_faults shelf.new) (S.putting_faults shelf.old)
-        (S.putting_faults shelf.new) (S.holds shelf.old) (S.holds shelf.new)
+        (S.state shelf.old) (S.state shelf.new)
         (IsErrAnd result IsReadingFault) }
-    ensures feeds { S.open_feeds shelf.new ≡ S.open_feeds shelf.old }
+    ensures feeds { (S.state shelf.new).open_feeds ≡ (S.state shelf.old).open_feeds }
 {
     let Some(name) = name else {
         return Ok(None);

@@ -13,11 +13,13 @@ use std::alloc::Global;
 
 /// Writes the lines, each at once, up to the first that is not written whole.
 pub(crate) fn print<O: Sink>(out: &mut O, lines: &[List<u8>]) -> Result<(), WriteNo>
-    ensures ok { OnOk result (Writes (O.written out.old) (O.written out.new) (concat lines.now)) }
+    ensures ok { OnOk result (Writes (O.state out.old).written (O.state out.new).written
+        (concat lines.now)) }
     ensures err { OnErr result
-        (WritesPart (O.written out.old) (O.written out.new) (concat lines.now)) }
-    ensures failed { IsErrOf result WriteNo.Failed ↔ (O.faults out.old < O.faults out.new) }
-    ensures counted { O.faults out.old ≤ O.faults out.new }
+        (WritesPart (O.state out.old).written (O.state out.new).written (concat lines.now)) }
+    ensures failed { IsErrOf result WriteNo.Failed
+        ↔ ((O.state out.old).faults < (O.state out.new).faults) }
+    ensures counted { (O.state out.old).faults ≤ (O.state out.new).faults }
 {
     for line in lines {
         out.write(line.as_slice())?;
@@ -28,8 +30,9 @@ pub(crate) fn print<O: Sink>(out: &mut O, lines: &[List<u8>]) -> Result<(), Writ
 /// Tells that memory ran out, and gives the status for it.
 pub fn give_up<O: Sink>(out: &mut O) -> u8
     ensures status { result ≡ 5 }
-    ensures part { WritesPart (O.written out.old) (O.written out.new) (line_of OutOfMemory) }
-    ensures counted { O.faults out.old ≤ O.faults out.new }
+    ensures part { WritesPart (O.state out.old).written (O.state out.new).written
+        (line_of OutOfMemory) }
+    ensures counted { (O.state out.old).faults ≤ (O.state out.new).faults }
 {
     let _ = out.write(b"memory\n");
     5
@@ -38,7 +41,8 @@ pub fn give_up<O: Sink>(out: &mut O) -> u8
 /// Writes the lines of an answer, and gives the status: that of the answer where all went out.
 pub(crate) fn finish<O: Sink>(out: &mut O, lines: &[List<u8>], status: u8) -> u8
     requires { IsAnswerStatus status }
-    ensures { Finishes (O.faults out.old) (O.faults out.new) (O.written out.old) (O.written out.new)
+    ensures { Finishes (O.state out.old).faults (O.state out.new).faults (O.state out.old).written
+        (O.state out.new).written
         (concat lines.now) status result }
 {
     match print(out, lines) {
@@ -50,7 +54,8 @@ pub(crate) fn finish<O: Sink>(out: &mut O, lines: &[List<u8>], status: u8) -> u8
 
 /// Tells what stopped the run, and gives the status.
 pub fn stop<O: Sink>(alloc: Global, out: &mut O, cause: &Cause) -> u8
-    ensures { Halts (O.faults out.old) (O.faults out.new) (O.written out.old) (O.written out.new)
+    ensures { Halts (O.state out.old).faults (O.state out.new).faults (O.state out.old).written
+        (O.state out.new).written
         cause.now result }
 {
     let Ok(line) = cause.line(alloc) else {

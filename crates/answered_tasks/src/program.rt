@@ -20,18 +20,16 @@ use text_puts::put_all;
 fn publish<S: Shelf, O: Sink>(alloc: Global, shelf: &mut S, out: &mut O, answer: &Answer) -> u8
     requires { IsAnswerStatus answer.now.status }
     ensures ends { Publishes answer.now
-        (outside (S.holds shelf.old) (S.reading_faults shelf.old) (S.putting_faults shelf.old)
-        (O.faults out.old) (O.written out.old))
-        (outside (S.holds shelf.new) (S.reading_faults shelf.new) (S.putting_faults shelf.new)
-        (O.faults out.new) (O.written out.new)) result }
-    ensures risen { (name : List ℕ) → S.putting_faults shelf.old name
-        < S.putting_faults shelf.new name → result ≡ 4 }
+        (outside (S.state shelf.old) (O.state out.old))
+        (outside (S.state shelf.new) (O.state out.new)) result }
+    ensures risen { (name : List ℕ) → (S.state shelf.old).putting name
+        < (S.state shelf.new).putting name → result ≡ 4 }
     ensures others { (name : List ℕ)
-        → PutsOnly answer.now.puts (S.holds shelf.old) (S.holds shelf.new)
-        (S.putting_faults shelf.old) (S.putting_faults shelf.new) name }
-    ensures readings { (name : List ℕ) → S.reading_faults shelf.new name
-        ≡ S.reading_faults shelf.old name }
-    ensures feeds { S.open_feeds shelf.new ≡ S.open_feeds shelf.old }
+        → PutsOnly answer.now.puts (S.state shelf.old).holds (S.state shelf.new).holds
+        (S.state shelf.old).putting (S.state shelf.new).putting name }
+    ensures readings { (name : List ℕ) → (S.state shelf.new).reading name
+        ≡ (S.state shelf.old).reading name }
+    ensures feeds { (S.state shelf.new).open_feeds ≡ (S.state shelf.old).open_feeds }
 {
     match put_all(alloc, shelf, answer.puts.as_slice()) {
         Ok(()) => finish(out, answer.lines.as_slice(), answer.status),
@@ -69,11 +67,9 @@ pub fn answer<R: Threads + Wait + Sync, S: Shelf, O: Sink, G: Gate>(
 ) -> Done
     requires task { IsNoRoll read }
     ensures ends { (words : List (List ℕ)) → IsRead words read → Ends words
-        (outside (S.holds shelf.old) (S.reading_faults shelf.old) (S.putting_faults shelf.old)
-        (O.faults out.old) (O.written out.old))
-        (outside (S.holds shelf.new) (S.reading_faults shelf.new) (S.putting_faults shelf.new)
-        (O.faults out.new) (O.written out.new)) result.status result.journal.items }
-    ensures feeds { S.open_feeds shelf.new ≡ S.open_feeds shelf.old }
+        (outside (S.state shelf.old) (O.state out.old))
+        (outside (S.state shelf.new) (O.state out.new)) result.status result.journal.items }
+    ensures feeds { (S.state shelf.new).open_feeds ≡ (S.state shelf.old).open_feeds }
 {
     match run(rt, alloc, read, shelf, gate) {
         Ok(answer) => {

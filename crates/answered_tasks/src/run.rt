@@ -1,6 +1,6 @@
 ghost use Rattle.std.specs.Prelude.{◌≡◌, ◌<◌, ℕ, List, Some, Ok, IfOk, IfErr, IsErrAnd, option_map};
 ghost use Rattle.command_words.specs.Task.{IsTask};
-ghost use Rattle.text_puts.specs.Outside.{Holdings, Counts};
+ghost use Rattle.disp_outside.specs.States.{Holdings, Counts};
 ghost use Rattle.answered_tasks.specs.Reading.{IsRead, IsNoRoll};
 ghost use Rattle.answered_tasks.specs.Outside.{FailsOfOne, ReadsOne, ReadsNames, IsGiven, IsProblemOrFixings, IsOneOfTwo, IsOneOfThree};
 ghost use Rattle.answered_tasks.specs.Answers.{IsAnswer, AnswersTask, AnswersSolve, IsSolvedWith, AnswersJudge, IsJudgedFile, IsJudgedBy};
@@ -44,16 +44,15 @@ fn solve_with<R: Threads + Wait + Sync, S: Shelf, G: Gate>(
     task: &SolveTask,
     gate: &G,
 ) -> Result<Answer, Cause>
-    ensures ok { IfOk result (IsSolvedWith (S.holds shelf.old) problem.now task.now) }
+    ensures ok { IfOk result (IsSolvedWith (S.state shelf.old).holds problem.now task.now) }
     ensures no { IfErr result
-        (StopsGivenFixings (S.holds shelf.old) (S.reading_faults shelf.old)
-        (S.reading_faults shelf.new) problem.now task.now.fixings) }
+        (StopsGivenFixings (S.state shelf.old).holds (S.state shelf.old).reading
+        (S.state shelf.new).reading problem.now task.now.fixings) }
     ensures status { IfOk result (λ answer. IsAnswerStatus answer.status) }
     ensures reads { ReadsNames (IsGiven task.now.fixings)
-        (S.reading_faults shelf.old) (S.reading_faults shelf.new) (S.putting_faults shelf.old)
-        (S.putting_faults shelf.new) (S.holds shelf.old) (S.holds shelf.new)
+        (S.state shelf.old) (S.state shelf.new)
         (IsErrAnd result IsReadingFault) }
-    ensures feeds { S.open_feeds shelf.new ≡ S.open_feeds shelf.old }
+    ensures feeds { (S.state shelf.new).open_feeds ≡ (S.state shelf.old).open_feeds }
 {
     match asked_of(alloc, shelf, problem, task.fixings.as_ref()) {
         Ok(asked) => solve(rt, alloc, problem, asked.as_slice(), task, gate),
@@ -69,16 +68,16 @@ fn run_solve<R: Threads + Wait + Sync, S: Shelf, G: Gate>(
     task: &SolveTask,
     gate: &G,
 ) -> Result<Answer, Cause>
-    ensures ok { IfOk result (AnswersSolve (S.holds shelf.old) task.now) }
+    ensures ok { IfOk result (AnswersSolve (S.state shelf.old).holds task.now) }
     ensures no { IfErr result
-        (StopsSolve (S.holds shelf.old) (S.reading_faults shelf.old) (S.reading_faults shelf.new)
+        (StopsSolve (S.state shelf.old).holds (S.state shelf.old).reading
+        (S.state shelf.new).reading
         task.now.problem task.now.fixings) }
     ensures status { IfOk result (λ answer. IsAnswerStatus answer.status) }
     ensures reads { ReadsNames (IsProblemOrFixings task.now.problem task.now.fixings)
-        (S.reading_faults shelf.old) (S.reading_faults shelf.new) (S.putting_faults shelf.old)
-        (S.putting_faults shelf.new) (S.holds shelf.old) (S.holds shelf.new)
+        (S.state shelf.old) (S.state shelf.new)
         (IsErrAnd result IsReadingFault) }
-    ensures feeds { S.open_feeds shelf.new ≡ S.open_feeds shelf.old }
+    ensures feeds { (S.state shelf.new).open_feeds ≡ (S.state shelf.old).open_feeds }
 {
     match problem_file(alloc, shelf, task.problem.as_str()) {
         Ok(problem) => solve_with(rt, alloc, shelf, &problem, task, gate),
@@ -96,15 +95,15 @@ fn judge_file<S: Shelf>(
     telling: Telling,
 ) -> Result<Answer, Cause>
     ensures ok { IfOk result
-        (IsJudgedFile (S.holds shelf.old) telling problem.now fixings.now solution.now) }
+        (IsJudgedFile (S.state shelf.old).holds telling problem.now fixings.now solution.now) }
     ensures no { IfErr result
-        (StopsSolution (S.holds shelf.old) (S.reading_faults shelf.old) (S.reading_faults shelf.new)
+        (StopsSolution (S.state shelf.old).holds (S.state shelf.old).reading
+        (S.state shelf.new).reading
         solution.now) }
     ensures status { IfOk result (λ answer. IsAnswerStatus answer.status) }
-    ensures reads { ReadsOne solution.now (S.reading_faults shelf.old) (S.reading_faults shelf.new)
-        (S.putting_faults shelf.old) (S.putting_faults shelf.new) (S.holds shelf.old)
-        (S.holds shelf.new) (IsErrAnd result IsReadingFault) }
-    ensures feeds { S.open_feeds shelf.new ≡ S.open_feeds shelf.old }
+    ensures reads { ReadsOne solution.now (S.state shelf.old) (S.state shelf.new)
+        (IsErrAnd result IsReadingFault) }
+    ensures feeds { (S.state shelf.new).open_feeds ≡ (S.state shelf.old).open_feeds }
 {
     let (plan, stated) = solution_file(alloc, shelf, solution)?;
     Ok(judge(alloc, problem, fixings, &plan, stated, telling)?)
@@ -120,16 +119,15 @@ fn judge_with<S: Shelf>(
     telling: Telling,
 ) -> Result<Answer, Cause>
     ensures ok { IfOk result
-        (IsJudgedBy (S.holds shelf.old) telling problem.now (Some name.now) solution.now) }
+        (IsJudgedBy (S.state shelf.old).holds telling problem.now (Some name.now) solution.now) }
     ensures no { IfErr result
-        (StopsJudging (S.holds shelf.old) (S.reading_faults shelf.old) (S.reading_faults shelf.new)
+        (StopsJudging (S.state shelf.old).holds (S.state shelf.old).reading
+        (S.state shelf.new).reading
         problem.now (Some name.now) solution.now) }
     ensures status { IfOk result (λ answer. IsAnswerStatus answer.status) }
     ensures reads { ReadsNames (IsOneOfTwo (Some name.now) solution.now)
-        (S.reading_faults shelf.old)
-        (S.reading_faults shelf.new) (S.putting_faults shelf.old) (S.putting_faults shelf.new)
-        (S.holds shelf.old) (S.holds shelf.new) (IsErrAnd result IsReadingFault) }
-    ensures feeds { S.open_feeds shelf.new ≡ S.open_feeds shelf.old }
+        (S.state shelf.old) (S.state shelf.new) (IsErrAnd result IsReadingFault) }
+    ensures feeds { (S.state shelf.new).open_feeds ≡ (S.state shelf.old).open_feeds }
 {
     match fixings_file(alloc, shelf, problem, name.as_str()) {
         Ok(mut editions) => judge_file(
@@ -154,18 +152,18 @@ fn judge_files<S: Shelf>(
     telling: Telling,
 ) -> Result<Answer, Cause>
     ensures ok { IfOk result
-        (IsJudgedBy (S.holds shelf.old) telling problem.now
+        (IsJudgedBy (S.state shelf.old).holds telling problem.now
         (option_map (λ name. name.now) fixings.entry) solution.now) }
     ensures no { IfErr result
-        (StopsJudging (S.holds shelf.old) (S.reading_faults shelf.old) (S.reading_faults shelf.new)
+        (StopsJudging (S.state shelf.old).holds (S.state shelf.old).reading
+        (S.state shelf.new).reading
         problem.now (option_map (λ name. name.now) fixings.entry) solution.now) }
     ensures status { IfOk result (λ answer. IsAnswerStatus answer.status) }
     ensures reads { ReadsNames
         (IsOneOfTwo (option_map (λ name. name.now) fixings.entry) solution.now)
-        (S.reading_faults shelf.old) (S.reading_faults shelf.new) (S.putting_faults shelf.old)
-        (S.putting_faults shelf.new) (S.holds shelf.old) (S.holds shelf.new)
+        (S.state shelf.old) (S.state shelf.new)
         (IsErrAnd result IsReadingFault) }
-    ensures feeds { S.open_feeds shelf.new ≡ S.open_feeds shelf.old }
+    ensures feeds { (S.state shelf.new).open_feeds ≡ (S.state shelf.old).open_feeds }
 {
     match fixings {
         Some(name) => judge_with(alloc, shelf, problem, name, solution, telling),
@@ -180,17 +178,17 @@ fn run_judge<S: Shelf>(
     task: &JudgeTask,
     telling: Telling,
 ) -> Result<Answer, Cause>
-    ensures ok { IfOk result (AnswersJudge (S.holds shelf.old) telling task.now) }
+    ensures ok { IfOk result (AnswersJudge (S.state shelf.old).holds telling task.now) }
     ensures no { IfErr result
-        (StopsVerify (S.holds shelf.old) (S.reading_faults shelf.old) (S.reading_faults shelf.new)
+        (StopsVerify (S.state shelf.old).holds (S.state shelf.old).reading
+        (S.state shelf.new).reading
         task.now.problem task.now.fixings task.now.solution) }
     ensures status { IfOk result (λ answer. IsAnswerStatus answer.status) }
     ensures reads { ReadsNames
         (IsOneOfThree task.now.problem task.now.fixings task.now.solution)
-        (S.reading_faults shelf.old) (S.reading_faults shelf.new) (S.putting_faults shelf.old)
-        (S.putting_faults shelf.new) (S.holds shelf.old) (S.holds shelf.new)
+        (S.state shelf.old) (S.state shelf.new)
         (IsErrAnd result IsReadingFault) }
-    ensures feeds { S.open_feeds shelf.new ≡ S.open_feeds shelf.old }
+    ensures feeds { (S.state shelf.new).open_feeds ≡ (S.state shelf.old).open_feeds }
 {
     match problem_file(alloc, shelf, task.problem.as_str()) {
         Ok(problem) => {
@@ -217,21 +215,22 @@ fn run_task<R: Threads + Wait + Sync, S: Shelf, G: Gate>(
     gate: &G,
 ) -> Result<Answer, Cause>
     requires { IsNoRoll (Ok task.now) }
-    ensures ok { IfOk result (AnswersTask (S.holds shelf.old) task.now) }
+    ensures ok { IfOk result (AnswersTask (S.state shelf.old).holds task.now) }
     ensures no { IfErr result
-        (StopsTask (S.holds shelf.old) (S.reading_faults shelf.old) (S.reading_faults shelf.new)
+        (StopsTask (S.state shelf.old).holds (S.state shelf.old).reading (S.state shelf.new).reading
         task.now) }
     ensures status { IfOk result (λ answer. IsAnswerStatus answer.status) }
 
     ensures counts { (name : List ℕ)
-        → CountsTask task.now (S.reading_faults shelf.old) (S.reading_faults shelf.new) name }
-    ensures one { FailsOfOne (S.reading_faults shelf.old) (S.reading_faults shelf.new) }
-    ensures failed { (name : List ℕ) → S.reading_faults shelf.old name
-        < S.reading_faults shelf.new name → IsErrAnd result IsReadingFault }
-    ensures puttings { (name : List ℕ) → S.putting_faults shelf.new name
-        ≡ S.putting_faults shelf.old name }
-    ensures held { (name : List ℕ) → S.holds shelf.new name ≡ S.holds shelf.old name }
-    ensures feeds { S.open_feeds shelf.new ≡ S.open_feeds shelf.old }
+        → CountsTask task.now (S.state shelf.old).reading (S.state shelf.new).reading name }
+    ensures one { FailsOfOne (S.state shelf.old).reading (S.state shelf.new).reading }
+    ensures failed { (name : List ℕ) → (S.state shelf.old).reading name
+        < (S.state shelf.new).reading name → IsErrAnd result IsReadingFault }
+    ensures puttings { (name : List ℕ) → (S.state shelf.new).putting name
+        ≡ (S.state shelf.old).putting name }
+    ensures held { (name : List ℕ) → (S.state shelf.new).holds name
+        ≡ (S.state shelf.old).holds name }
+    ensures feeds { (S.state shelf.new).open_feeds ≡ (S.state shelf.old).open_feeds }
 {
     match task {
         Task::Solve(task) => run_solve(rt, alloc, shelf, task, gate),
@@ -258,21 +257,22 @@ pub(crate) fn run<R: Threads + Wait + Sync, S: Shelf, G: Gate>(
 ) -> Result<Answer, Cause>
     requires { IsNoRoll read }
     ensures ok { IfOk result (λ answer. (words : List (List ℕ)) → IsRead words read
-        → IsAnswer words (S.holds shelf.old) answer) }
+        → IsAnswer words (S.state shelf.old).holds answer) }
     ensures no { IfErr result (λ cause. (words : List (List ℕ)) → IsRead words read
-        → StopsRun words (S.holds shelf.old) (S.reading_faults shelf.old)
-        (S.reading_faults shelf.new) cause) }
+        → StopsRun words (S.state shelf.old).holds (S.state shelf.old).reading
+        (S.state shelf.new).reading cause) }
     ensures status { IfOk result (λ answer. IsAnswerStatus answer.status) }
 
     ensures counts { (words : List (List ℕ)) (name : List ℕ) → IsRead words read
-        → CountsReading words (S.reading_faults shelf.old) (S.reading_faults shelf.new) name }
-    ensures one { FailsOfOne (S.reading_faults shelf.old) (S.reading_faults shelf.new) }
-    ensures failed { (name : List ℕ) → S.reading_faults shelf.old name
-        < S.reading_faults shelf.new name → IsErrAnd result IsReadingFault }
-    ensures puttings { (name : List ℕ) → S.putting_faults shelf.new name
-        ≡ S.putting_faults shelf.old name }
-    ensures held { (name : List ℕ) → S.holds shelf.new name ≡ S.holds shelf.old name }
-    ensures feeds { S.open_feeds shelf.new ≡ S.open_feeds shelf.old }
+        → CountsReading words (S.state shelf.old).reading (S.state shelf.new).reading name }
+    ensures one { FailsOfOne (S.state shelf.old).reading (S.state shelf.new).reading }
+    ensures failed { (name : List ℕ) → (S.state shelf.old).reading name
+        < (S.state shelf.new).reading name → IsErrAnd result IsReadingFault }
+    ensures puttings { (name : List ℕ) → (S.state shelf.new).putting name
+        ≡ (S.state shelf.old).putting name }
+    ensures held { (name : List ℕ) → (S.state shelf.new).holds name
+        ≡ (S.state shelf.old).holds name }
+    ensures feeds { (S.state shelf.new).open_feeds ≡ (S.state shelf.old).open_feeds }
 {
     match task_of(read) {
         Ok(task) => run_task(rt, alloc, shelf, &task, gate),

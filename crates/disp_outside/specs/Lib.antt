@@ -6,3 +6,4 @@ pub mod Lines
 pub mod Reading
 pub mod Sink
 pub mod StandardOutput
+pub mod States

@@ -108,13 +108,12 @@ where
 
     ghost knows = { λ shelf name. KnowsName shelf name };
 
-    ghost holds = { λ _ _. None };
-
-    ghost reading_faults = { λ shelf name. fault_count_of shelf name };
-
-    ghost putting_faults = { λ shelf name. put_fault_count_of shelf name };
-
-    ghost open_feeds = { λ shelf. open_count shelf };
+    ghost state = { λ shelf. record {
+      holds = λ _. None;
+      reading = fault_count_of shelf;
+      putting = put_fault_count_of shelf;
+      open_feeds = open_count shelf;
+    } };
 
     // Room for a fault is made first, so that each fault is counted.
     fn fetch(&mut self, alloc: Global, name: &str, limit: u64) -> Result<Vec<u8>, FetchNo> {

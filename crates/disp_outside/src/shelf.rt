@@ -1,6 +1,7 @@
 // Files by name, as the program sees them.
 ghost use Rattle.std.specs.Prelude.{◌≡◌, ◌≢◌, ◌<◌, ◌≤◌, ◌↔◌, ◌+◌, ◌-◌, false, List, ℕ, length, Option, Some, IfOk, IfSome, IsOk, OnOk, OnErr, IsErrOf, IsSomeAnd, ◌⊎◌};
 ghost use Rattle.disp_outside.specs.Lines.{HasLinesOf};
+ghost use Rattle.disp_outside.specs.States.{ShelfState};
 ghost use Rattle.disp_outside.specs.declared.shelf.FetchNo.TheVariants.{Memory};
 ghost use Rattle.disp_outside.specs.declared.shelf.PutNo.TheVariants.{Memory as PutMemory};
 
@@ -54,17 +55,10 @@ pub trait Shelf: Send {
     /// The names that the shelf knows.
     ghost knows: { Self → List ℕ → Type 0 };
 
-    /// What a name holds: nothing is told, or there is no file, or there is a file of these bytes.
-    ghost holds: { Self → List ℕ → Option (Option (List ℕ)) };
-
-    /// How often a reading of a name has failed.
-    ghost reading_faults: { Self → List ℕ → ℕ };
-
-    /// How often a putting under a name has failed.
-    ghost putting_faults: { Self → List ℕ → ℕ };
-
-    /// How many of its feeds are open: those that it gave, but for those that were closed.
-    ghost open_feeds: { Self → ℕ };
+    /// What names hold, where it is told: nothing is told, or there is no file, or there is a file
+    /// of these bytes; how often readings and puttings of a name have failed; and how many feeds
+    /// are open: those that it gave, but for those that were closed.
+    ghost state: { Self → ShelfState };
 
     /// The bytes of a file of at most `limit` bytes.
     ///
@@ -74,27 +68,28 @@ pub trait Shelf: Send {
     /// and `Memory`, with which all is as before.
     fn fetch(&mut self, alloc: Global, name: &str, limit: u64) -> Result<Vec<u8>, FetchNo>
         ensures bytes { IfOk result
-            (λ bytes. IfSome (holds self.old name.now) (λ file. file ≡ Some bytes.items)) }
+            (λ bytes. IfSome ((state self.old).holds name.now) (λ file. file ≡ Some bytes.items)) }
         ensures within { IfOk result (λ bytes. length bytes.items ≤ limit) }
         ensures too_long { IsErrOf result FetchNo.TooLong →
-            IfSome (holds self.old name.now)
+            IfSome ((state self.old).holds name.now)
             (λ file. IsSomeAnd file (λ bytes. limit < length bytes)) }
 
         // A fault is told exactly where it is counted, and no other count changes.
         ensures failed { IsErrOf result FetchNo.Failed
-            ↔ (reading_faults self.old name.now < reading_faults self.new name.now) }
-        ensures counted { reading_faults self.old name.now ≤ reading_faults self.new name.now }
-        ensures other_counts { (other : List ℕ) → other ≢ name.now → reading_faults self.new other
-            ≡ reading_faults self.old other }
-        ensures putting_counts { (other : List ℕ) → putting_faults self.new other
-            ≡ putting_faults self.old other }
+            ↔ ((state self.old).reading name.now < (state self.new).reading name.now) }
+        ensures counted { (state self.old).reading name.now ≤ (state self.new).reading name.now }
+        ensures other_counts { (other : List ℕ) → other ≢ name.now → (state self.new).reading other
+            ≡ (state self.old).reading other }
+        ensures putting_counts { (other : List ℕ) → (state self.new).putting other
+            ≡ (state self.old).putting other }
 
-        ensures held { (other : List ℕ) → holds self.new other ≡ holds self.old other }
+        ensures held { (other : List ℕ) → (state self.new).holds other
+            ≡ (state self.old).holds other }
         ensures known { IsErrOf result FetchNo.Memory ⊎ knows self.new name.now }
         ensures still_known { (other : List ℕ) → knows self.old other → knows self.new other }
         ensures memory { IsErrOf result FetchNo.Memory → (other : List ℕ) → knows self.new other
             → knows self.old other }
-        ensures feeds { open_feeds self.new ≡ open_feeds self.old };
+        ensures feeds { (state self.new).open_feeds ≡ (state self.old).open_feeds };
 
     /// Makes these the bytes of the name's file.
     ///
@@ -104,26 +99,26 @@ pub trait Shelf: Send {
     /// with which all is as before.
     fn put(&mut self, alloc: Global, name: &str, bytes: &[u8]) -> Result<(), PutNo>
         ensures bytes { IsOk result
-            → IfSome (holds self.new name.now) (λ file. file ≡ Some bytes.now) }
+            → IfSome ((state self.new).holds name.now) (λ file. file ≡ Some bytes.now) }
 
         // A fault is told exactly where it is counted, and no other count changes.
         ensures failed { IsErrOf result PutNo.Failed
-            ↔ (putting_faults self.old name.now < putting_faults self.new name.now) }
-        ensures counted { putting_faults self.old name.now ≤ putting_faults self.new name.now }
-        ensures other_counts { (other : List ℕ) → other ≢ name.now → putting_faults self.new other
-            ≡ putting_faults self.old other }
-        ensures reading_counts { (other : List ℕ) → reading_faults self.new other
-            ≡ reading_faults self.old other }
+            ↔ ((state self.old).putting name.now < (state self.new).putting name.now) }
+        ensures counted { (state self.old).putting name.now ≤ (state self.new).putting name.now }
+        ensures other_counts { (other : List ℕ) → other ≢ name.now → (state self.new).putting other
+            ≡ (state self.old).putting other }
+        ensures reading_counts { (other : List ℕ) → (state self.new).reading other
+            ≡ (state self.old).reading other }
 
-        ensures held { (other : List ℕ) → other ≢ name.now → holds self.new other
-            ≡ holds self.old other }
+        ensures held { (other : List ℕ) → other ≢ name.now → (state self.new).holds other
+            ≡ (state self.old).holds other }
         ensures known { IsErrOf result PutNo.Memory ⊎ knows self.new name.now }
         ensures still_known { (other : List ℕ) → knows self.old other → knows self.new other }
         ensures memory { IsErrOf result PutNo.Memory → (other : List ℕ) → knows self.new other
             → knows self.old other }
-        ensures memory_held { IsErrOf result PutNo.Memory → holds self.new name.now
-            ≡ holds self.old name.now }
-        ensures feeds { open_feeds self.new ≡ open_feeds self.old };
+        ensures memory_held { IsErrOf result PutNo.Memory → (state self.new).holds name.now
+            ≡ (state self.old).holds name.now }
+        ensures feeds { (state self.new).open_feeds ≡ (state self.old).open_feeds };
 
     /// A feed of the lines that the name holds.
     ///
@@ -134,28 +129,29 @@ pub trait Shelf: Send {
     fn feed(&mut self, alloc: Global, name: &str) -> Result<Self::Feed, FeedNo>
         ensures name { IfOk result (λ feed. Self.Feed.name feed ≡ name.now) }
         ensures lines { IfOk result
-            (λ feed. HasLinesOf (holds self.old name.now) (Self.Feed.lines feed)) }
+            (λ feed. HasLinesOf ((state self.old).holds name.now) (Self.Feed.lines feed)) }
         ensures open { IfOk result (λ feed. Self.Feed.has_ended feed ≡ false) }
         ensures unbroken { IfOk result (λ feed. Self.Feed.faults feed ≡ 0) }
 
         // A fault is told exactly where it is counted, and no other count changes.
         ensures failed { IsErrOf result FeedNo.Failed
-            ↔ (reading_faults self.old name.now < reading_faults self.new name.now) }
-        ensures counted { reading_faults self.old name.now ≤ reading_faults self.new name.now }
-        ensures other_counts { (other : List ℕ) → other ≢ name.now → reading_faults self.new other
-            ≡ reading_faults self.old other }
-        ensures putting_counts { (other : List ℕ) → putting_faults self.new other
-            ≡ putting_faults self.old other }
+            ↔ ((state self.old).reading name.now < (state self.new).reading name.now) }
+        ensures counted { (state self.old).reading name.now ≤ (state self.new).reading name.now }
+        ensures other_counts { (other : List ℕ) → other ≢ name.now → (state self.new).reading other
+            ≡ (state self.old).reading other }
+        ensures putting_counts { (other : List ℕ) → (state self.new).putting other
+            ≡ (state self.old).putting other }
 
-        ensures held { (other : List ℕ) → holds self.new other ≡ holds self.old other }
+        ensures held { (other : List ℕ) → (state self.new).holds other
+            ≡ (state self.old).holds other }
         ensures known { IsErrOf result FeedNo.Memory ⊎ knows self.new name.now }
         ensures still_known { (other : List ℕ) → knows self.old other → knows self.new other }
         ensures memory { IsErrOf result FeedNo.Memory → (other : List ℕ) → knows self.new other
             → knows self.old other }
 
         // One more is open where a feed is given, and no more where none is.
-        ensures opened { OnOk result (open_feeds self.new ≡ open_feeds self.old + 1) }
-        ensures unopened { OnErr result (open_feeds self.new ≡ open_feeds self.old) };
+        ensures opened { OnOk result ((state self.new).open_feeds ≡ (state self.old).open_feeds + 1) }
+        ensures unopened { OnErr result ((state self.new).open_feeds ≡ (state self.old).open_feeds) };
 
     /// Ends a feed. What failed in it counts as one fault of reading its name.
     fn close(&mut self, feed: Self::Feed)
@@ -163,18 +159,19 @@ pub trait Shelf: Send {
 
         // The count rises exactly where a call of the feed has failed, and no other count changes.
         ensures failed { (0 < Self.Feed.faults feed)
-            ↔ (reading_faults self.old (Self.Feed.name feed)
-            < reading_faults self.new (Self.Feed.name feed)) }
-        ensures counted { reading_faults self.old (Self.Feed.name feed)
-            ≤ reading_faults self.new (Self.Feed.name feed) }
+            ↔ ((state self.old).reading (Self.Feed.name feed)
+            < (state self.new).reading (Self.Feed.name feed)) }
+        ensures counted { (state self.old).reading (Self.Feed.name feed)
+            ≤ (state self.new).reading (Self.Feed.name feed) }
         ensures other_counts { (other : List ℕ) → other ≢ Self.Feed.name feed
-            → reading_faults self.new other ≡ reading_faults self.old other }
-        ensures putting_counts { (other : List ℕ) → putting_faults self.new other
-            ≡ putting_faults self.old other }
+            → (state self.new).reading other ≡ (state self.old).reading other }
+        ensures putting_counts { (other : List ℕ) → (state self.new).putting other
+            ≡ (state self.old).putting other }
 
-        ensures held { (other : List ℕ) → holds self.new other ≡ holds self.old other }
+        ensures held { (other : List ℕ) → (state self.new).holds other
+            ≡ (state self.old).holds other }
         ensures known { (other : List ℕ) → knows self.new other ↔ knows self.old other }
 
         // One less is open.
-        ensures closed { open_feeds self.new ≡ open_feeds self.old - 1 };
+        ensures closed { (state self.new).open_feeds ≡ (state self.old).open_feeds - 1 };
 }

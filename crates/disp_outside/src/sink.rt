@@ -3,6 +3,7 @@ ghost use Rattle.std.specs.Prelude.{◌≡◌, ◌<◌, ◌≤◌, ◌↔◌, Li
 ghost use Rattle.disp_outside.specs.declared.sink.WriteNo.TheVariants.{Memory};
 ghost use Rattle.std.specs.Io.KnownBytes.{append_known};
 ghost use Rattle.disp_outside.specs.Sink.{WritesPart};
+ghost use Rattle.disp_outside.specs.States.{SinkState};
 
 use std::alloc::AllocError;
 
@@ -25,11 +26,8 @@ impl From<AllocError> for WriteNo {
 
 /// Takes bytes, one piece behind the other. A sink may tell what was written.
 pub trait Sink: Send {
-    /// The bytes written so far, where they are told.
-    ghost written: { Self → Option (List ℕ) };
-
-    /// How often a write has failed.
-    ghost faults: { Self → ℕ };
+    /// The bytes written so far, where they are told, and how often a write has failed.
+    ghost state: { Self → SinkState };
 
     /// Writes all of the piece.
     ///
@@ -38,12 +36,15 @@ pub trait Sink: Send {
     /// `Failed` where the device failed, after some of the piece or none, and `Memory`, with which
     /// all is as before.
     fn write(&mut self, bytes: &[u8]) -> Result<(), WriteNo>
-        ensures ok { OnOk result (written self.new ≡ append_known (written self.old) bytes.now) }
+        ensures ok { OnOk result ((state self.new).written
+            ≡ append_known ((state self.old).written) bytes.now) }
         ensures part { IsErrOf result WriteNo.Failed
-            → WritesPart (written self.old) (written self.new) bytes.now }
-        ensures memory { IsErrOf result WriteNo.Memory → written self.new ≡ written self.old }
+            → WritesPart ((state self.old).written) ((state self.new).written) bytes.now }
+        ensures memory { IsErrOf result WriteNo.Memory → (state self.new).written
+            ≡ (state self.old).written }
 
         // A fault is told exactly where it is counted.
-        ensures failed { IsErrOf result WriteNo.Failed ↔ (faults self.old < faults self.new) }
-        ensures counted { faults self.old ≤ faults self.new };
+        ensures failed { IsErrOf result WriteNo.Failed
+            ↔ ((state self.old).faults < (state self.new).faults) }
+        ensures counted { (state self.old).faults ≤ (state self.new).faults };
 }

@@ -36,9 +36,7 @@ impl<W: Write> StandardOutput<W> {
 impl<W: Write + Send> Sink for StandardOutput<W> {
     ghost use Rattle.disp_outside.specs.StandardOutput.{fault_count, writer_of, told_bytes};
 
-    ghost written = { λ sink. told_bytes sink };
-
-    ghost faults = { λ sink. fault_count sink };
+    ghost state = { λ sink. record { written = told_bytes sink; faults = fault_count sink } };
 
     // A count at its last value has no room for another fault, so nothing is tried that may add
     // one.

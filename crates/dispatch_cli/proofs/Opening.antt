@@ -3,7 +3,7 @@ use Rattle.std.proofs.Common.{◌≡◌, ◌≢◌, ◌∙◌, ◌+◌, ◌<◌,
 use Rattle.std.proofs.lemmas.List.{map-append}
 use Rattle.std.proofs.lemmas.List.Elements.{All-append}
 use Rattle.disp_outside.specs.Lines.{HasLinesOf}
-use Rattle.text_puts.specs.Outside.{Holdings, Counts}
+use Rattle.disp_outside.specs.States.{Holdings, Counts}
 use Rattle.text_puts.proofs.Counting.{one_more, same_all}
 use Rattle.rolling_driver.specs.Opened.{AreNew}
 use Rattle.dispatch_cli.specs.declared.roll_no.RollNo.{RollNo}

@@ -14,7 +14,8 @@ use Rattle.disp_model.specs.declared.settings.Settings.{Settings}
 use Rattle.command_words.specs.declared.task.RollTask.{RollTask}
 use Rattle.command_words.specs.Settings.{roll_settings_of}
 use Rattle.solved_problems.proofs.Marks.{marks_say}
-use Rattle.text_puts.specs.Outside.{Outside, Holdings, Counts}
+use Rattle.disp_outside.specs.States.{Holdings, Counts}
+use Rattle.text_puts.specs.Outside.{Outside, shelf_of}
 use Rattle.text_puts.proofs.Counting.{stays, same_all, never_falls}
 use Rattle.answered_tasks.specs.Files.{IsProblemFile}
 use Rattle.answered_tasks.specs.Outside.{ReadsOne}
@@ -84,7 +85,7 @@ only_one one name old new others up = go (bytes_eq name one) (bytes_eq-Decides n
 
 -- the reading of the problem's file stopped the roll
 pub stopped_at_problem : (task : RollTask) (old new : Outside) (why : RollNo) → StopsRoll task old.holds old.reading new.reading why
-    → ReadsOne task.problem old.reading new.reading old.putting new.putting old.holds new.holds (IsFault why) → new.faults ≡ old.faults → new.written ≡ old.written
+    → ReadsOne task.problem (shelf_of old) (shelf_of new) (IsFault why) → new.faults ≡ old.faults → new.written ≡ old.written
     → HasNotBegun task old new why
 stopped_at_problem task old new why stops reads faults written = record {
   stops = stops;
@@ -101,7 +102,7 @@ stopped_at_problem task old new why stops reads faults written = record {
 }
 
 -- where the problem was read, no count has risen
-quiet_reading : (task : RollTask) (old mid : Outside) → ReadsOne task.problem old.reading mid.reading old.putting mid.putting old.holds mid.holds ⊥ → (name : List ℕ) → mid.reading name ≡ old.reading name
+quiet_reading : (task : RollTask) (old mid : Outside) → ReadsOne task.problem (shelf_of old) (shelf_of mid) ⊥ → (name : List ℕ) → mid.reading name ≡ old.reading name
 quiet_reading task old mid reads = same_all task.problem old.reading mid.reading (stays _ _ reads.counted reads.fault) reads.others
 
 stops_at_feeds : (task : RollTask) (problem : Problem) (holds : Holdings) (old mid new : Counts) (why : RollNo) → HasFewFeeds task → IsProblemFile holds task.problem problem
@@ -123,7 +124,7 @@ stops_at_feeds task problem holds old mid new Memory few file quiet stops = tt
 
 -- the opening of the feeds stopped the roll, or want of memory behind it
 pub stopped_at_feeds : (task : RollTask) (problem : Problem) (old mid new : Outside) (why : RollNo) → HasFewFeeds task → IsProblemFile old.holds task.problem problem
-    → ReadsOne task.problem old.reading mid.reading old.putting mid.putting old.holds mid.holds ⊥ → StopsFeeds task.feeds mid.reading new.reading why
+    → ReadsOne task.problem (shelf_of old) (shelf_of mid) ⊥ → StopsFeeds task.feeds mid.reading new.reading why
     → ((name : List ℕ) → new.putting name ≡ mid.putting name) → ((name : List ℕ) → new.holds name ≡ mid.holds name) → new.faults ≡ old.faults → new.written ≡ old.written
     → HasNotBegun task old new why
 stopped_at_feeds task problem old mid new why few file reads stops puttings held faults written = record {
@@ -155,7 +156,7 @@ stopped_at_feeds task problem old mid new why few file reads stops puttings held
 
 -- so it is where the running of the feeds was refused
 pub not_begun : {X : Type 0} (task : RollTask) (problem : Problem) (old mid new : Outside) (r : Result X RollNo) → HasFewFeeds task → IsProblemFile old.holds task.problem problem
-    → ReadsOne task.problem old.reading mid.reading old.putting mid.putting old.holds mid.holds ⊥ → IfErr r (StopsFeeds task.feeds mid.reading new.reading)
+    → ReadsOne task.problem (shelf_of old) (shelf_of mid) ⊥ → IfErr r (StopsFeeds task.feeds mid.reading new.reading)
     → OnErr r ((name : List ℕ) → new.putting name ≡ mid.putting name) → OnErr r ((name : List ℕ) → new.holds name ≡ mid.holds name)
     → OnErr r (new.faults ≡ old.faults) → OnErr r (new.written ≡ old.written) → IfErr r (HasNotBegun task old new)
 not_begun task problem old mid new (Ok x) few file reads stops puttings held faults written = tt
@@ -164,7 +165,7 @@ not_begun task problem old mid new (Err why) few file reads stops puttings held 
 
 -- the problem was read, and the feeds ran behind it
 pub run_of : (task : RollTask) (problem : Problem) (old mid new : Outside) (status : ℕ) (journal : List Entry) → IsProblemFile old.holds task.problem problem
-    → ReadsOne task.problem old.reading mid.reading old.putting mid.putting old.holds mid.holds ⊥ → mid.faults ≡ old.faults → mid.written ≡ old.written
+    → ReadsOne task.problem (shelf_of old) (shelf_of mid) ⊥ → mid.faults ≡ old.faults → mid.written ≡ old.written
     → RunsFeeds task problem mid new status journal → EndsRun task old new status journal
 run_of task problem old mid new status journal file reads faults written runs = record {
   problem = problem;
@@ -191,12 +192,12 @@ run_of task problem old mid new status journal file reads faults written runs = 
 
 -- the roll did not begin, and its cause was told
 pub stopped_of : (task : RollTask) (old mid new : Outside) (why : RollNo) (status : ℕ) (journal : List Entry) → HasNotBegun task old mid why
-    → StopsWith mid.faults new.faults mid.written new.written why status → new.holds ≡ mid.holds → new.reading ≡ mid.reading → new.putting ≡ mid.putting → journal ≡ []
+    → StopsWith mid.faults new.faults mid.written new.written why status → new.holds ≡ mid.holds → new.reading ≡ mid.reading → new.putting ≡ mid.putting → new.open_feeds ≡ mid.open_feeds → journal ≡ []
     → EndsStopped task old new status journal
-stopped_of task old mid new why status journal before told holds reading putting none = record {
+stopped_of task old mid new why status journal before told holds reading putting feeds none = record {
   why = why;
   stops = rw (reading) before.stops;
-  reads = rw (reading, putting, holds) before.reads;
+  reads = rw (reading, putting, holds, feeds) before.reads;
   told = rw (← before.faults, ← before.written) told;
   journal_is = none;
 }

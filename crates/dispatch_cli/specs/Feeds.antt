@@ -1,7 +1,7 @@
 -- The feeds of a roll.
 use Rattle.std.specs.Prelude.{◌≡◌, ◌≢◌, ℕ, ◌<◌, Bool, false, List, ◌∷◌, [], ◌++◌, All, Option, map, slice_get, Some}
 use Rattle.disp_outside.specs.Lines.{HasLinesOf}
-use Rattle.text_puts.specs.Outside.{Holdings, Counts}
+use Rattle.disp_outside.specs.States.{Holdings, Counts}
 use Rattle.rolling_driver.specs.Opened.{AreNew}
 use Rattle.rolling_driver.specs.Rolled.{Fed}
 use Rattle.dispatch_cli.specs.declared.roll_no.RollNo.{RollNo}

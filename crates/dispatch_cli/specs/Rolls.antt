@@ -9,7 +9,8 @@ use Rattle.command_words.specs.declared.task.RollTask.{RollTask}
 use Rattle.command_words.specs.declared.task.Task.TheVariants.{Roll}
 use Rattle.command_words.specs.Settings.{roll_settings_of}
 use Rattle.command_words.specs.Task.{IsTask}
-use Rattle.text_puts.specs.Outside.{Outside, Holdings, Counts}
+use Rattle.disp_outside.specs.States.{Holdings, Counts}
+use Rattle.text_puts.specs.Outside.{Outside, shelf_of}
 use Rattle.solved_problems.specs.Promised.{Promises}
 use Rattle.answered_tasks.specs.Causes.{StopsProblem}
 use Rattle.answered_tasks.specs.Endings.{Ends}
@@ -49,8 +50,8 @@ StopsRoll task holds old new roll_no.Memory = Unit {0}
 -- only names of the task were read, a count rose only where that is the cause, and of one name
 -- alone; nothing is put, and every name holds what it held
 abbrev pub ReadsInputs : RollTask → Outside → Outside → RollNo → Type 0
-ReadsInputs task old new why = ReadsNames (IsInput task) old.reading new.reading old.putting
-    new.putting old.holds new.holds (IsFault why)
+ReadsInputs task old new why = ReadsNames (IsInput task) (shelf_of old) (shelf_of new)
+    (IsFault why)
 
 -- it did not begin: the cause is told, and the journal is empty
 pub record EndsStopped (task : RollTask) (old new : Outside) (status : ℕ) (journal : List Entry)

@@ -17,22 +17,25 @@ fn open_next<S: Shelf>(
     feeds: &mut Vec<S::Feed>,
 ) -> Result<(), RollNo>
     ensures ok { OnOk result
-        (OpensOne S.Feed.name S.Feed.lines S.Feed.has_ended S.Feed.faults (S.holds shelf.old)
+        (OpensOne S.Feed.name S.Feed.lines S.Feed.has_ended S.Feed.faults (S.state shelf.old).holds
         name.now feeds.old.items feeds.new.items) }
     ensures known { OnOk result (S.knows shelf.new name.now) }
     ensures quiet { OnOk result
-        (S.reading_faults shelf.new name.now ≡ S.reading_faults shelf.old name.now) }
+        ((S.state shelf.new).reading name.now ≡ (S.state shelf.old).reading name.now) }
     ensures same { OnErr result (feeds.new.items ≡ feeds.old.items) }
-    ensures no { IfErr result (StopsFeed name.now number (S.reading_faults shelf.old)
-        (S.reading_faults shelf.new)) }
+    ensures no { IfErr result (StopsFeed name.now number (S.state shelf.old).reading
+        (S.state shelf.new).reading) }
     ensures others { (other : List ℕ) → other ≢ name.now
-        → S.reading_faults shelf.new other ≡ S.reading_faults shelf.old other }
+        → (S.state shelf.new).reading other ≡ (S.state shelf.old).reading other }
     ensures still { (other : List ℕ) → S.knows shelf.old other → S.knows shelf.new other }
-    ensures puttings { (other : List ℕ) → S.putting_faults shelf.new other
-        ≡ S.putting_faults shelf.old other }
-    ensures held { (other : List ℕ) → S.holds shelf.new other ≡ S.holds shelf.old other }
-    ensures opened { OnOk result (S.open_feeds shelf.new ≡ S.open_feeds shelf.old + 1) }
-    ensures unopened { OnErr result (S.open_feeds shelf.new ≡ S.open_feeds shelf.old) }
+    ensures puttings { (other : List ℕ) → (S.state shelf.new).putting other
+        ≡ (S.state shelf.old).putting other }
+    ensures held { (other : List ℕ) → (S.state shelf.new).holds other
+        ≡ (S.state shelf.old).holds other }
+    ensures opened { OnOk result ((S.state shelf.new).open_feeds
+        ≡ (S.state shelf.old).open_feeds + 1) }
+    ensures unopened { OnErr result ((S.state shelf.new).open_feeds
+        ≡ (S.state shelf.old).open_feeds) }
 {
     feeds.reserve(1)?;
     match shelf.feed(alloc, name) {
@@ -54,19 +57,20 @@ fn open_each<S: Shelf>(
 ) -> Result<(), RollNo>
     requires none { feeds.old.items ≡ [] }
     ensures ok { OnOk result
-        (AreOpened S.Feed.name S.Feed.lines S.Feed.has_ended S.Feed.faults (S.holds shelf.old)
+        (AreOpened S.Feed.name S.Feed.lines S.Feed.has_ended S.Feed.faults (S.state shelf.old).holds
         names.now feeds.new.items) }
     ensures known { All (λ feed. S.knows shelf.new (S.Feed.name feed)) feeds.new.items }
     ensures are_new { AreNew S.Feed.has_ended S.Feed.faults feeds.new.items }
-    ensures quiet { OnOk result ((name : List ℕ) → S.reading_faults shelf.new name
-        ≡ S.reading_faults shelf.old name) }
-    ensures no { IfErr result (StopsFeeds names.now (S.reading_faults shelf.old)
-        (S.reading_faults shelf.new)) }
-    ensures puttings { (name : List ℕ) → S.putting_faults shelf.new name
-        ≡ S.putting_faults shelf.old name }
-    ensures held { (name : List ℕ) → S.holds shelf.new name ≡ S.holds shelf.old name }
-    ensures opened { S.open_feeds shelf.new
-        ≡ S.open_feeds shelf.old + length feeds.new.items }
+    ensures quiet { OnOk result ((name : List ℕ) → (S.state shelf.new).reading name
+        ≡ (S.state shelf.old).reading name) }
+    ensures no { IfErr result (StopsFeeds names.now (S.state shelf.old).reading
+        (S.state shelf.new).reading) }
+    ensures puttings { (name : List ℕ) → (S.state shelf.new).putting name
+        ≡ (S.state shelf.old).putting name }
+    ensures held { (name : List ℕ) → (S.state shelf.new).holds name
+        ≡ (S.state shelf.old).holds name }
+    ensures opened { (S.state shelf.new).open_feeds
+        ≡ (S.state shelf.old).open_feeds + length feeds.new.items }
 {
     let mut number = 0;
     for name in names {
@@ -89,20 +93,22 @@ pub(crate) fn open_feeds<S: Shelf>(
     names: &[Text],
 ) -> Result<Vec<S::Feed>, RollNo>
     ensures ok { IfOk result (λ feeds.
-        AreOpened S.Feed.name S.Feed.lines S.Feed.has_ended S.Feed.faults (S.holds shelf.old)
+        AreOpened S.Feed.name S.Feed.lines S.Feed.has_ended S.Feed.faults (S.state shelf.old).holds
         names.now feeds.items) }
     ensures known { IfOk result
         (λ feeds. All (λ feed. S.knows shelf.new (S.Feed.name feed)) feeds.items) }
-    ensures quiet { OnOk result ((name : List ℕ) → S.reading_faults shelf.new name
-        ≡ S.reading_faults shelf.old name) }
-    ensures no { IfErr result (StopsFeeds names.now (S.reading_faults shelf.old)
-        (S.reading_faults shelf.new)) }
-    ensures puttings { (name : List ℕ) → S.putting_faults shelf.new name
-        ≡ S.putting_faults shelf.old name }
-    ensures held { (name : List ℕ) → S.holds shelf.new name ≡ S.holds shelf.old name }
-    ensures opened { IfOk result (λ feeds. S.open_feeds shelf.new
-        ≡ S.open_feeds shelf.old + length feeds.items) }
-    ensures unopened { OnErr result (S.open_feeds shelf.new ≡ S.open_feeds shelf.old) }
+    ensures quiet { OnOk result ((name : List ℕ) → (S.state shelf.new).reading name
+        ≡ (S.state shelf.old).reading name) }
+    ensures no { IfErr result (StopsFeeds names.now (S.state shelf.old).reading
+        (S.state shelf.new).reading) }
+    ensures puttings { (name : List ℕ) → (S.state shelf.new).putting name
+        ≡ (S.state shelf.old).putting name }
+    ensures held { (name : List ℕ) → (S.state shelf.new).holds name
+        ≡ (S.state shelf.old).holds name }
+    ensures opened { IfOk result (λ feeds. (S.state shelf.new).open_feeds
+        ≡ (S.state shelf.old).open_feeds + length feeds.items) }
+    ensures unopened { OnErr result ((S.state shelf.new).open_feeds
+        ≡ (S.state shelf.old).open_feeds) }
 {
     let mut feeds = Vec::new(alloc);
     match open_each(alloc, shelf, names, &mut feeds) {

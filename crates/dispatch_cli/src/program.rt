@@ -43,11 +43,9 @@ pub fn dispatch<R: Threads + Wait + Sync, S: Shelf, O: Sink, G: Gate>(
     gate: &G,
 ) -> Done
     ensures ends { EndsAs (map (λ word. string_bytes word) words.now)
-        (outside (S.holds shelf.old) (S.reading_faults shelf.old) (S.putting_faults shelf.old)
-        (O.faults out.old) (O.written out.old))
-        (outside (S.holds shelf.new) (S.reading_faults shelf.new) (S.putting_faults shelf.new)
-        (O.faults out.new) (O.written out.new)) result.status result.journal.items }
-    ensures feeds { S.open_feeds shelf.new ≡ S.open_feeds shelf.old }
+        (outside (S.state shelf.old) (O.state out.old))
+        (outside (S.state shelf.new) (O.state out.new)) result.status result.journal.items }
+    ensures feeds { (S.state shelf.new).open_feeds ≡ (S.state shelf.old).open_feeds }
 {
     match read_words(alloc, words) {
         Ok(Task::Roll(task)) => run_roll(rt, alloc, &task, shelf, out, gate),

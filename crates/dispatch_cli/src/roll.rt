@@ -20,14 +20,13 @@ use std::thread::Threads;
 
 /// The problem of a task's file, where it names no more feeds than there may be.
 fn problem_of<S: Shelf>(alloc: Global, shelf: &mut S, task: &RollTask) -> Result<Problem, RollNo>
-    ensures ok { IfOk result (IsProblemFile (S.holds shelf.old) task.now.problem) }
+    ensures ok { IfOk result (IsProblemFile (S.state shelf.old).holds task.now.problem) }
     ensures few { IfOk result (λ _. length task.now.feeds ≤ most) }
-    ensures no { IfErr result (StopsRoll task.now (S.holds shelf.old)
-        (S.reading_faults shelf.old) (S.reading_faults shelf.new)) }
-    ensures reads { ReadsOne task.now.problem (S.reading_faults shelf.old)
-        (S.reading_faults shelf.new) (S.putting_faults shelf.old) (S.putting_faults shelf.new)
-        (S.holds shelf.old) (S.holds shelf.new) (IsErrAnd result IsFault) }
-    ensures feeds { S.open_feeds shelf.new ≡ S.open_feeds shelf.old }
+    ensures no { IfErr result (StopsRoll task.now (S.state shelf.old).holds
+        (S.state shelf.old).reading (S.state shelf.new).reading) }
+    ensures reads { ReadsOne task.now.problem (S.state shelf.old) (S.state shelf.new)
+        (IsErrAnd result IsFault) }
+    ensures feeds { (S.state shelf.new).open_feeds ≡ (S.state shelf.old).open_feeds }
 {
     let count = task.feeds.len();
     if count > MOST_CALLERS as usize {
@@ -51,19 +50,17 @@ fn roll_feeds<R: Threads + Wait + Sync, S: Shelf, O: Sink, G: Gate>(
 ) -> Result<Rolled, RollNo>
     requires few { length task.now.feeds ≤ most }
     ensures ok { IfOk result (λ rolled. RunsFeeds task.now problem.now
-        (outside (S.holds shelf.old) (S.reading_faults shelf.old) (S.putting_faults shelf.old)
-        (O.faults out.old) (O.written out.old))
-        (outside (S.holds shelf.new) (S.reading_faults shelf.new) (S.putting_faults shelf.new)
-        (O.faults out.new) (O.written out.new)) rolled.status rolled.journal.items) }
-    ensures no { IfErr result (StopsFeeds task.now.feeds (S.reading_faults shelf.old)
-        (S.reading_faults shelf.new)) }
-    ensures puttings { OnErr result ((name : List ℕ) → S.putting_faults shelf.new name
-        ≡ S.putting_faults shelf.old name) }
-    ensures held { OnErr result ((name : List ℕ) → S.holds shelf.new name
-        ≡ S.holds shelf.old name) }
-    ensures faults { OnErr result (O.faults out.new ≡ O.faults out.old) }
-    ensures written { OnErr result (O.written out.new ≡ O.written out.old) }
-    ensures feeds { S.open_feeds shelf.new ≡ S.open_feeds shelf.old }
+        (outside (S.state shelf.old) (O.state out.old))
+        (outside (S.state shelf.new) (O.state out.new)) rolled.status rolled.journal.items) }
+    ensures no { IfErr result (StopsFeeds task.now.feeds (S.state shelf.old).reading
+        (S.state shelf.new).reading) }
+    ensures puttings { OnErr result ((name : List ℕ) → (S.state shelf.new).putting name
+        ≡ (S.state shelf.old).putting name) }
+    ensures held { OnErr result ((name : List ℕ) → (S.state shelf.new).holds name
+        ≡ (S.state shelf.old).holds name) }
+    ensures faults { OnErr result ((O.state out.new).faults ≡ (O.state out.old).faults) }
+    ensures written { OnErr result ((O.state out.new).written ≡ (O.state out.old).written) }
+    ensures feeds { (S.state shelf.new).open_feeds ≡ (S.state shelf.old).open_feeds }
 {
     let feeds = match open_feeds(alloc, shelf, task.feeds.as_slice()) {
         Ok(feeds) => feeds,
@@ -98,16 +95,12 @@ fn rolled_of<R: Threads + Wait + Sync, S: Shelf, O: Sink, G: Gate>(
     gate: &G,
 ) -> Result<Rolled, RollNo>
     ensures ok { IfOk result (λ rolled. EndsRun task.now
-        (outside (S.holds shelf.old) (S.reading_faults shelf.old) (S.putting_faults shelf.old)
-        (O.faults out.old) (O.written out.old))
-        (outside (S.holds shelf.new) (S.reading_faults shelf.new) (S.putting_faults shelf.new)
-        (O.faults out.new) (O.written out.new)) rolled.status rolled.journal.items) }
+        (outside (S.state shelf.old) (O.state out.old))
+        (outside (S.state shelf.new) (O.state out.new)) rolled.status rolled.journal.items) }
     ensures no { IfErr result (HasNotBegun task.now
-        (outside (S.holds shelf.old) (S.reading_faults shelf.old) (S.putting_faults shelf.old)
-        (O.faults out.old) (O.written out.old))
-        (outside (S.holds shelf.new) (S.reading_faults shelf.new) (S.putting_faults shelf.new)
-        (O.faults out.new) (O.written out.new))) }
-    ensures feeds { S.open_feeds shelf.new ≡ S.open_feeds shelf.old }
+        (outside (S.state shelf.old) (O.state out.old))
+        (outside (S.state shelf.new) (O.state out.new))) }
+    ensures feeds { (S.state shelf.new).open_feeds ≡ (S.state shelf.old).open_feeds }
 {
     match problem_of(alloc, shelf, task) {
         Ok(problem) => roll_feeds(rt, alloc, &problem, task, shelf, out, gate),
@@ -125,11 +118,9 @@ pub(crate) fn run_roll<R: Threads + Wait + Sync, S: Shelf, O: Sink, G: Gate>(
     gate: &G,
 ) -> Done
     ensures ends { EndsRoll task.now
-        (outside (S.holds shelf.old) (S.reading_faults shelf.old) (S.putting_faults shelf.old)
-        (O.faults out.old) (O.written out.old))
-        (outside (S.holds shelf.new) (S.reading_faults shelf.new) (S.putting_faults shelf.new)
-        (O.faults out.new) (O.written out.new)) result.status result.journal.items }
-    ensures feeds { S.open_feeds shelf.new ≡ S.open_feeds shelf.old }
+        (outside (S.state shelf.old) (O.state out.old))
+        (outside (S.state shelf.new) (O.state out.new)) result.status result.journal.items }
+    ensures feeds { (S.state shelf.new).open_feeds ≡ (S.state shelf.old).open_feeds }
 {
     match rolled_of(rt, alloc, task, shelf, out, gate) {
         Ok(rolled) => Done {

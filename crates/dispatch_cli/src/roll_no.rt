@@ -49,7 +49,8 @@ fn failed_line(alloc: Global, number: u64) -> Result<String, Memory>
 fn tell<O: Sink>(out: &mut O, line: Result<String, Memory>, status: u8) -> u8
     requires { status ≢ 5 }
     ensures { (text : List ℕ) → IfOk line (λ line. string_bytes line ≡ text)
-        → Tells (O.faults out.old) (O.faults out.new) (O.written out.old) (O.written out.new)
+        → Tells (O.state out.old).faults (O.state out.new).faults (O.state out.old).written
+        (O.state out.new).written
         text text status result }
 {
     let Ok(line) = line else {
@@ -63,8 +64,8 @@ fn tell<O: Sink>(out: &mut O, line: Result<String, Memory>, status: u8) -> u8
 
 /// Tells what stopped a `roll`, and gives the status.
 pub(crate) fn stop_roll<O: Sink>(alloc: Global, out: &mut O, no: &RollNo) -> u8
-    ensures { StopsWith (O.faults out.old) (O.faults out.new) (O.written out.old)
-        (O.written out.new) no.now result }
+    ensures { StopsWith (O.state out.old).faults (O.state out.new).faults (O.state out.old).written
+        (O.state out.new).written no.now result }
 {
     match no {
         RollNo::TooManyFeeds(count) => tell(out, many_line(alloc, *count), 2),

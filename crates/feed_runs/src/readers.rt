@@ -64,11 +64,13 @@ pub fn join_readers<S: Shelf>(
     ensures first { (known first.new).first ≡ true }
     ensures joins { Joins first.old (map (λ r. r.pass) readers.items) first.new }
     ensures counts { CountsFeeds S.Feed.name S.Feed.faults (map (λ r. r.feed) readers.items)
-        (S.reading_faults shelf.old) (S.reading_faults shelf.new) }
-    ensures puttings { (name : List ℕ) → S.putting_faults shelf.new name
-        ≡ S.putting_faults shelf.old name }
-    ensures held { (name : List ℕ) → S.holds shelf.new name ≡ S.holds shelf.old name }
-    ensures closed { S.open_feeds shelf.new ≡ S.open_feeds shelf.old - length readers.items }
+        (S.state shelf.old).reading (S.state shelf.new).reading }
+    ensures puttings { (name : List ℕ) → (S.state shelf.new).putting name
+        ≡ (S.state shelf.old).putting name }
+    ensures held { (name : List ℕ) → (S.state shelf.new).holds name
+        ≡ (S.state shelf.old).holds name }
+    ensures closed { (S.state shelf.new).open_feeds
+        ≡ (S.state shelf.old).open_feeds - length readers.items }
 {
     for reader in readers {
         let Reader { pass, feed, .. } = reader;

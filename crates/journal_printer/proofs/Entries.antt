@@ -40,7 +40,8 @@ use Rattle.disp_outside.specs.declared.sink.WriteNo.{WriteNo}
 use Rattle.disp_outside.specs.declared.sink.WriteNo.TheVariants as write
 use Rattle.fixing_lines.specs.Entries.{entry_text}
 use Rattle.text_puts.specs.declared.put.Put.{Put}
-use Rattle.text_puts.specs.Outside.{Outside, Holdings, Writes}
+use Rattle.disp_outside.specs.States.{Holdings}
+use Rattle.text_puts.specs.Outside.{Outside, Writes}
 use Rattle.text_puts.specs.Puts.{StandsAfter, PutsSome, PutMisses, PutsOnly}
 use Rattle.text_puts.proofs.Counting.{stays}
 use Rattle.text_puts.proofs.Puttings.{stands_none, stands_same, only_all}

@@ -32,7 +32,8 @@ use Rattle.std.proofs.lemmas.Grind.{flat_map-append}
 use Rattle.std.proofs.lemmas.Result.{IfErr-weaker, on_ok_weaker}
 use Rattle.disp_model.specs.declared.entry.Entry.{Entry}
 use Rattle.fixing_lines.specs.Entries.{entry_text}
-use Rattle.text_puts.specs.Outside.{Outside, Holdings, Writes}
+use Rattle.disp_outside.specs.States.{Holdings}
+use Rattle.text_puts.specs.Outside.{Outside, Writes}
 use Rattle.text_puts.specs.Puts.{StandsAfter}
 use Rattle.text_puts.proofs.Counting.{one_more, parts_at}
 use Rattle.text_puts.proofs.Puttings.{

@@ -18,7 +18,8 @@ use Rattle.std.specs.Prelude.{
 use Rattle.disp_model.specs.declared.entry.Entry.{Entry}
 use Rattle.disp_outside.specs.Sink.{WritesPart}
 use Rattle.fixing_lines.specs.Entries.{entry_text}
-use Rattle.text_puts.specs.Outside.{Outside, Holdings, Writes}
+use Rattle.disp_outside.specs.States.{Holdings}
+use Rattle.text_puts.specs.Outside.{Outside, Writes}
 use Rattle.text_puts.specs.Puts.{StandsAfter, PutMisses, PutsOnly}
 use Rattle.journal_printer.specs.declared.no.PrintNo.{PrintNo}
 use Rattle.journal_printer.specs.declared.no.PrintNo.TheVariants.{Unput, Unwritten, Memory}

@@ -23,23 +23,23 @@ fn put_tree<S: Shelf>(
 ) -> Result<(), PutNo>
     ensures ok { OnOk result
         (StandsAfter (entry_puts (option_map (λ prefix. prefix.now) trees.entry) entry.now)
-        (S.holds shelf.old) (S.holds shelf.new)) }
+        (S.state shelf.old).holds (S.state shelf.new).holds) }
     ensures failed { IsErrOf result PutNo.Failed
         → PutMisses (entry_puts (option_map (λ prefix. prefix.now) trees.entry) entry.now)
-        (S.holds shelf.old) (S.holds shelf.new)
-        (S.putting_faults shelf.old) (S.putting_faults shelf.new) }
+        (S.state shelf.old).holds (S.state shelf.new).holds
+        (S.state shelf.old).putting (S.state shelf.new).putting }
     ensures memory { IsErrOf result PutNo.Memory
-        → (name : List ℕ) → S.holds shelf.new name ≡ S.holds shelf.old name }
-    ensures risen { (name : List ℕ) → S.putting_faults shelf.old name
-        < S.putting_faults shelf.new name → IsErrOf result PutNo.Failed }
+        → (name : List ℕ) → (S.state shelf.new).holds name ≡ (S.state shelf.old).holds name }
+    ensures risen { (name : List ℕ) → (S.state shelf.old).putting name
+        < (S.state shelf.new).putting name → IsErrOf result PutNo.Failed }
     ensures others { (name : List ℕ)
         → PutsOnly (entry_puts (option_map (λ prefix. prefix.now) trees.entry) entry.now)
-        (S.holds shelf.old) (S.holds shelf.new)
-        (S.putting_faults shelf.old) (S.putting_faults shelf.new) name }
-    ensures readings { (name : List ℕ) → S.reading_faults shelf.new name
-        ≡ S.reading_faults shelf.old name }
+        (S.state shelf.old).holds (S.state shelf.new).holds
+        (S.state shelf.old).putting (S.state shelf.new).putting name }
+    ensures readings { (name : List ℕ) → (S.state shelf.new).reading name
+        ≡ (S.state shelf.old).reading name }
     ensures known { (name : List ℕ) → S.knows shelf.old name → S.knows shelf.new name }
-    ensures feeds { S.open_feeds shelf.new ≡ S.open_feeds shelf.old }
+    ensures feeds { (S.state shelf.new).open_feeds ≡ (S.state shelf.old).open_feeds }
 {
     let Ok(puts) = entry_puts(alloc, trees, entry) else {
         return Err(PutNo::Memory);
@@ -50,12 +50,14 @@ fn put_tree<S: Shelf>(
 /// Writes the line of an entry, at once, where it has one.
 fn write_line<O: Sink>(alloc: Global, out: &mut O, entry: &Entry) -> Result<(), WriteNo>
     ensures ok { OnOk result
-        (Writes (O.written out.old) (O.written out.new) (entry_text entry.now)) }
+        (Writes (O.state out.old).written (O.state out.new).written (entry_text entry.now)) }
     ensures part { IsErrOf result WriteNo.Failed
-        → WritesPart (O.written out.old) (O.written out.new) (entry_text entry.now) }
-    ensures memory { IsErrOf result WriteNo.Memory → O.written out.new ≡ O.written out.old }
-    ensures failed { IsErrOf result WriteNo.Failed ↔ (O.faults out.old < O.faults out.new) }
-    ensures counted { O.faults out.old ≤ O.faults out.new }
+        → WritesPart (O.state out.old).written (O.state out.new).written (entry_text entry.now) }
+    ensures memory { IsErrOf result WriteNo.Memory → (O.state out.new).written
+        ≡ (O.state out.old).written }
+    ensures failed { IsErrOf result WriteNo.Failed
+        ↔ ((O.state out.old).faults < (O.state out.new).faults) }
+    ensures counted { (O.state out.old).faults ≤ (O.state out.new).faults }
 {
     let Ok(line) = write_entry(alloc, entry) else {
         return Err(WriteNo::Memory);
@@ -75,12 +77,10 @@ fn print_entry<S: Shelf, O: Sink>(
     entry: &Entry,
 ) -> Result<(), PrintNo>
     ensures printed { Prints (option_map (λ prefix. prefix.now) trees.entry) (entry.now ∷ [])
-        (outside (S.holds shelf.old) (S.reading_faults shelf.old) (S.putting_faults shelf.old)
-        (O.faults out.old) (O.written out.old))
-        (outside (S.holds shelf.new) (S.reading_faults shelf.new) (S.putting_faults shelf.new)
-        (O.faults out.new) (O.written out.new)) result }
+        (outside (S.state shelf.old) (O.state out.old))
+        (outside (S.state shelf.new) (O.state out.new)) result }
     ensures known { (name : List ℕ) → S.knows shelf.old name → S.knows shelf.new name }
-    ensures feeds { S.open_feeds shelf.new ≡ S.open_feeds shelf.old }
+    ensures feeds { (S.state shelf.new).open_feeds ≡ (S.state shelf.old).open_feeds }
 {
     put_tree(alloc, shelf, trees, entry)?;
     write_line(alloc, out, entry)?;
@@ -107,12 +107,10 @@ pub fn print_entries<S: Shelf, O: Sink>(
     entries: &[Entry],
 ) -> Result<(), PrintNo>
     ensures printed { Prints (option_map (λ prefix. prefix.now) trees.entry) entries.now
-        (outside (S.holds shelf.old) (S.reading_faults shelf.old) (S.putting_faults shelf.old)
-        (O.faults out.old) (O.written out.old))
-        (outside (S.holds shelf.new) (S.reading_faults shelf.new) (S.putting_faults shelf.new)
-        (O.faults out.new) (O.written out.new)) result }
+        (outside (S.state shelf.old) (O.state out.old))
+        (outside (S.state shelf.new) (O.state out.new)) result }
     ensures known { (name : List ℕ) → S.knows shelf.old name → S.knows shelf.new name }
-    ensures feeds { S.open_feeds shelf.new ≡ S.open_feeds shelf.old }
+    ensures feeds { (S.state shelf.new).open_feeds ≡ (S.state shelf.old).open_feeds }
 {
     for entry in entries {
         print_entry(alloc, shelf, out, trees, entry)?;

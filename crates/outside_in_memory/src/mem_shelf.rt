@@ -166,13 +166,12 @@ impl Shelf for MemShelf {
 
     ghost knows = { λ shelf name. KnowsName shelf name };
 
-    ghost holds = { λ shelf name. Some (held_file shelf name) };
-
-    ghost reading_faults = { λ shelf name. reading_faults shelf name };
-
-    ghost putting_faults = { λ shelf name. putting_faults shelf name };
-
-    ghost open_feeds = { λ shelf. open_count shelf };
+    ghost state = { λ shelf. record {
+      holds = λ name. Some (held_file shelf name);
+      reading = reading_faults shelf;
+      putting = putting_faults shelf;
+      open_feeds = open_count shelf;
+    } };
 
     #[tactic(auto, using(std::proofs::lemmas::Map::Text::text_keys))]
     fn fetch(&mut self, alloc: Global, name: &str, limit: u64) -> Result<Vec<u8>, FetchNo>

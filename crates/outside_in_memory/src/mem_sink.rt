@@ -54,9 +54,10 @@ impl MemSink {
 impl Sink for MemSink {
     ghost use Rattle.outside_in_memory.specs.MemSink.{written_bytes, sink_fault_count, call_count, broken_writes, next_break};
 
-    ghost written = { λ sink. Some (written_bytes sink) };
-
-    ghost faults = { λ sink. sink_fault_count sink };
+    ghost state = { λ sink. record {
+      written = Some (written_bytes sink);
+      faults = sink_fault_count sink;
+    } };
 
     fn write(&mut self, bytes: &[u8]) -> Result<(), WriteNo>
         ensures ok { OnOk result

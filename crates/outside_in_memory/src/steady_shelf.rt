@@ -72,13 +72,12 @@ impl Shelf for SteadyShelf {
 
     ghost knows = { λ _ _. Unit {0} };
 
-    ghost holds = { λ shelf name. Some (Some (held_bytes shelf name)) };
-
-    ghost reading_faults = { λ _ _. 0 };
-
-    ghost putting_faults = { λ _ _. 0 };
-
-    ghost open_feeds = { λ shelf. steady_open_count shelf };
+    ghost state = { λ shelf. record {
+      holds = λ name. Some (Some (held_bytes shelf name));
+      reading = λ _. 0;
+      putting = λ _. 0;
+      open_feeds = steady_open_count shelf;
+    } };
 
     fn fetch(&mut self, alloc: Global, name: &str, limit: u64) -> Result<Vec<u8>, FetchNo> {
         copy_within(alloc, self.file(name), limit)

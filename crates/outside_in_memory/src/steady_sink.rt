@@ -32,9 +32,7 @@ impl SteadySink {
 impl Sink for SteadySink {
     ghost use Rattle.outside_in_memory.specs.SteadySink.{written_bytes};
 
-    ghost written = { λ sink. Some (written_bytes sink) };
-
-    ghost faults = { λ _. 0 };
+    ghost state = { λ sink. record { written = Some (written_bytes sink); faults = 0 } };
 
     fn write(&mut self, bytes: &[u8]) -> Result<(), WriteNo> {
         self.written.extend_from_slice(bytes)?;

@@ -3,7 +3,8 @@ use Rattle.std.proofs.Common.{◌≡◌, ◌∙◌, ℕ, inl, inr, List, Option,
 use Rattle.std.specs.Prelude.{OnOk}
 use Rattle.std.proofs.lemmas.Result.{IfErr-weaker, on_ok_weaker}
 use Rattle.disp_model.specs.declared.entry.Entry.{Entry}
-use Rattle.text_puts.specs.Outside.{Counts, Outside}
+use Rattle.disp_outside.specs.States.{Counts}
+use Rattle.text_puts.specs.Outside.{Outside}
 use Rattle.journal_printer.specs.declared.no.PrintNo.{PrintNo}
 use Rattle.journal_printer.specs.declared.no.PrintNo.TheVariants.{Unput, Unwritten, Memory}
 use Rattle.journal_printer.specs.Printing.{PrintsAll, StopsPrinting, Prints}

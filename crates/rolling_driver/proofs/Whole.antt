@@ -9,7 +9,8 @@ use Rattle.disp_model.specs.declared.settings.Settings.{Settings}
 use Rattle.disp_model.specs.History.{newest, mark_of}
 use Rattle.disp_model.specs.Legal.{IsLegal}
 use Rattle.dispatch_core.specs.States.{Core}
-use Rattle.text_puts.specs.Outside.{Counts, Outside}
+use Rattle.disp_outside.specs.States.{Counts}
+use Rattle.text_puts.specs.Outside.{Outside}
 use Rattle.turn_lock.specs.Known.{Known}
 use Rattle.shared_board.specs.declared.pass.Pass.{Pass}
 use Rattle.shared_board.specs.declared.terms.Terms.{Terms}

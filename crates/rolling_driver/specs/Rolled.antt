@@ -5,7 +5,8 @@ use Rattle.disp_model.specs.declared.problem.Problem.{Problem}
 use Rattle.disp_model.specs.declared.settings.Settings.{Settings}
 use Rattle.disp_model.specs.History.{newest, mark_of}
 use Rattle.disp_model.specs.Legal.{IsLegal}
-use Rattle.text_puts.specs.Outside.{Counts, Outside}
+use Rattle.disp_outside.specs.States.{Counts}
+use Rattle.text_puts.specs.Outside.{Outside}
 use Rattle.feed_reader.specs.Answered.{AnswersAs}
 use Rattle.feed_reader.specs.declared.read.Reading.{Reading}
 use Rattle.feed_reader.specs.declared.read.Reading.TheVariants.{Failed}

@@ -8,12 +8,14 @@ use feed_runs::Reader;
 pub fn close_feeds<S: Shelf>(shelf: &mut S, feeds: Vec<S::Feed>)
     requires feeds { AreNew S.Feed.has_ended S.Feed.faults feeds.items }
     requires known { All (λ feed. S.knows shelf.old (S.Feed.name feed)) feeds.items }
-    ensures counts { (name : List ℕ) → S.reading_faults shelf.new name
-        ≡ S.reading_faults shelf.old name }
-    ensures puttings { (name : List ℕ) → S.putting_faults shelf.new name
-        ≡ S.putting_faults shelf.old name }
-    ensures held { (name : List ℕ) → S.holds shelf.new name ≡ S.holds shelf.old name }
-    ensures closed { S.open_feeds shelf.new ≡ S.open_feeds shelf.old - length feeds.items }
+    ensures counts { (name : List ℕ) → (S.state shelf.new).reading name
+        ≡ (S.state shelf.old).reading name }
+    ensures puttings { (name : List ℕ) → (S.state shelf.new).putting name
+        ≡ (S.state shelf.old).putting name }
+    ensures held { (name : List ℕ) → (S.state shelf.new).holds name
+        ≡ (S.state shelf.old).holds name }
+    ensures closed { (S.state shelf.new).open_feeds
+        ≡ (S.state shelf.old).open_feeds - length feeds.items }
 {
     for feed in feeds {
         shelf.close(feed);
@@ -25,12 +27,14 @@ pub(crate) fn close_readers<S: Shelf>(shelf: &mut S, readers: Vec<Reader<S::Feed
     requires feeds { All (λ r. (S.Feed.has_ended r.feed ≡ false) × (S.Feed.faults r.feed ≡ 0))
         readers.items }
     requires known { All (λ r. S.knows shelf.old (S.Feed.name r.feed)) readers.items }
-    ensures counts { (name : List ℕ) → S.reading_faults shelf.new name
-        ≡ S.reading_faults shelf.old name }
-    ensures puttings { (name : List ℕ) → S.putting_faults shelf.new name
-        ≡ S.putting_faults shelf.old name }
-    ensures held { (name : List ℕ) → S.holds shelf.new name ≡ S.holds shelf.old name }
-    ensures closed { S.open_feeds shelf.new ≡ S.open_feeds shelf.old - length readers.items }
+    ensures counts { (name : List ℕ) → (S.state shelf.new).reading name
+        ≡ (S.state shelf.old).reading name }
+    ensures puttings { (name : List ℕ) → (S.state shelf.new).putting name
+        ≡ (S.state shelf.old).putting name }
+    ensures held { (name : List ℕ) → (S.state shelf.new).holds name
+        ≡ (S.state shelf.old).holds name }
+    ensures closed { (S.state shelf.new).open_feeds
+        ≡ (S.state shelf.old).open_feeds - length readers.items }
 {
     for reader in readers {
         let Reader { feed, .. } = reader;

@@ -31,13 +31,11 @@ fn print_rest<W: Wait, S: Shelf, O: Sink>(
     ensures watches { Watches first.old first.new }
     ensures printed { PrintsBehind (option_map (λ prefix. prefix.now) trees.entry)
         (drop (fetched first.old) (known first.new).seen)
-        (outside (S.holds shelf.old) (S.reading_faults shelf.old) (S.putting_faults shelf.old)
-        (O.faults out.old) (O.written out.old))
-        (outside (S.holds shelf.new) (S.reading_faults shelf.new) (S.putting_faults shelf.new)
-        (O.faults out.new) (O.written out.new)) printed result }
-    ensures readings { (name : List ℕ) → S.reading_faults shelf.new name
-        ≡ S.reading_faults shelf.old name }
-    ensures feeds { S.open_feeds shelf.new ≡ S.open_feeds shelf.old }
+        (outside (S.state shelf.old) (O.state out.old))
+        (outside (S.state shelf.new) (O.state out.new)) printed result }
+    ensures readings { (name : List ℕ) → (S.state shelf.new).reading name
+        ≡ (S.state shelf.old).reading name }
+    ensures feeds { (S.state shelf.new).open_feeds ≡ (S.state shelf.old).open_feeds }
 {
     match printed {
         Ok(()) => print_news(rt, alloc, board, first, shelf, out, trees),
@@ -64,11 +62,10 @@ pub(crate) fn end_run<W: Wait, S: Shelf, O: Sink>(
     requires known { All (λ r. S.knows shelf.old (S.Feed.name r.feed)) readers.items }
     ensures ended { IsEnded S.Feed.name S.Feed.faults
         (option_map (λ prefix. prefix.now) trees.entry) first readers.items searchers.items printed
-        (outside (S.holds shelf.old) (S.reading_faults shelf.old) (S.putting_faults shelf.old)
-        (O.faults out.old) (O.written out.old))
-        (outside (S.holds shelf.new) (S.reading_faults shelf.new) (S.putting_faults shelf.new)
-        (O.faults out.new) (O.written out.new)) result.0 result.1 }
-    ensures closed { S.open_feeds shelf.new ≡ S.open_feeds shelf.old - length readers.items }
+        (outside (S.state shelf.old) (O.state out.old))
+        (outside (S.state shelf.new) (O.state out.new)) result.0 result.1 }
+    ensures closed { (S.state shelf.new).open_feeds
+        ≡ (S.state shelf.old).open_feeds - length readers.items }
 {
     let mut first = first;
     join_readers(&board, &mut first, shelf, readers);

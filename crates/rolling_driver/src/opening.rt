@@ -34,12 +34,14 @@ enum Left<F> {
 fn close_left<S: Shelf>(shelf: &mut S, left: Left<S::Feed>)
     requires feeds { AreNew S.Feed.has_ended S.Feed.faults (feeds_of left) }
     requires known { All (λ feed. S.knows shelf.old (S.Feed.name feed)) (feeds_of left) }
-    ensures counts { (name : List ℕ) → S.reading_faults shelf.new name
-        ≡ S.reading_faults shelf.old name }
-    ensures puttings { (name : List ℕ) → S.putting_faults shelf.new name
-        ≡ S.putting_faults shelf.old name }
-    ensures held { (name : List ℕ) → S.holds shelf.new name ≡ S.holds shelf.old name }
-    ensures closed { S.open_feeds shelf.new ≡ S.open_feeds shelf.old - length (feeds_of left) }
+    ensures counts { (name : List ℕ) → (S.state shelf.new).reading name
+        ≡ (S.state shelf.old).reading name }
+    ensures puttings { (name : List ℕ) → (S.state shelf.new).putting name
+        ≡ (S.state shelf.old).putting name }
+    ensures held { (name : List ℕ) → (S.state shelf.new).holds name
+        ≡ (S.state shelf.old).holds name }
+    ensures closed { (S.state shelf.new).open_feeds
+        ≡ (S.state shelf.old).open_feeds - length (feeds_of left) }
 {
     match left {
         Left::Feeds(feeds) => close_feeds(shelf, feeds),
@@ -104,13 +106,13 @@ pub(crate) fn open_run<S: Shelf>(
         (IsOpened S.Feed.has_ended S.Feed.faults problem.now settings workers feeds.items) }
     ensures same { OnOk result (shelf.new ≡ shelf.old) }
     ensures closed { OnErr result
-        (S.open_feeds shelf.new ≡ S.open_feeds shelf.old - length feeds.items) }
-    ensures counts { OnErr result ((name : List ℕ) → S.reading_faults shelf.new name
-        ≡ S.reading_faults shelf.old name) }
-    ensures puttings { OnErr result ((name : List ℕ) → S.putting_faults shelf.new name
-        ≡ S.putting_faults shelf.old name) }
-    ensures held { OnErr result ((name : List ℕ) → S.holds shelf.new name
-        ≡ S.holds shelf.old name) }
+        ((S.state shelf.new).open_feeds ≡ (S.state shelf.old).open_feeds - length feeds.items) }
+    ensures counts { OnErr result ((name : List ℕ) → (S.state shelf.new).reading name
+        ≡ (S.state shelf.old).reading name) }
+    ensures puttings { OnErr result ((name : List ℕ) → (S.state shelf.new).putting name
+        ≡ (S.state shelf.old).putting name) }
+    ensures held { OnErr result ((name : List ℕ) → (S.state shelf.new).holds name
+        ≡ (S.state shelf.old).holds name) }
 {
     match seat_run(alloc, problem, settings, workers, feeds) {
         Ok(run) => Ok(run),

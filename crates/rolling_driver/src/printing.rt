@@ -32,13 +32,11 @@ fn print_new<W: Wait, S: Shelf, O: Sink>(
     ensures watches { Watches pass.old pass.new }
     ensures printed { PrintsJournal (option_map (λ prefix. prefix.now) trees.entry)
         (drop (fetched pass.old) (known pass.new).seen)
-        (outside (S.holds shelf.old) (S.reading_faults shelf.old) (S.putting_faults shelf.old)
-        (O.faults out.old) (O.written out.old))
-        (outside (S.holds shelf.new) (S.reading_faults shelf.new) (S.putting_faults shelf.new)
-        (O.faults out.new) (O.written out.new)) result }
+        (outside (S.state shelf.old) (O.state out.old))
+        (outside (S.state shelf.new) (O.state out.new)) result }
     ensures fetched { OnOk result (fetched pass.new ≡ length (known pass.new).seen) }
     ensures known { (name : List ℕ) → S.knows shelf.old name → S.knows shelf.new name }
-    ensures feeds { S.open_feeds shelf.new ≡ S.open_feeds shelf.old }
+    ensures feeds { (S.state shelf.new).open_feeds ≡ (S.state shelf.old).open_feeds }
 {
     let moves = board.moves();
     let Ok(news) = board.news(rt, alloc, pass) else {
@@ -63,13 +61,11 @@ pub(crate) fn print_news<W: Wait, S: Shelf, O: Sink>(
     ensures watches { Watches pass.old pass.new }
     ensures printed { PrintsJournal (option_map (λ prefix. prefix.now) trees.entry)
         (drop (fetched pass.old) (known pass.new).seen)
-        (outside (S.holds shelf.old) (S.reading_faults shelf.old) (S.putting_faults shelf.old)
-        (O.faults out.old) (O.written out.old))
-        (outside (S.holds shelf.new) (S.reading_faults shelf.new) (S.putting_faults shelf.new)
-        (O.faults out.new) (O.written out.new)) result }
+        (outside (S.state shelf.old) (O.state out.old))
+        (outside (S.state shelf.new) (O.state out.new)) result }
     ensures fetched { OnOk result (fetched pass.new ≡ length (known pass.new).seen) }
     ensures known { (name : List ℕ) → S.knows shelf.old name → S.knows shelf.new name }
-    ensures feeds { S.open_feeds shelf.new ≡ S.open_feeds shelf.old }
+    ensures feeds { (S.state shelf.new).open_feeds ≡ (S.state shelf.old).open_feeds }
 {
     let mut over = false;
     for _ in rt.forever() {

@@ -48,16 +48,13 @@ pub fn roll<R: Threads + Wait + Sync, S: Shelf, O: Sink, G: Gate>(
     ensures rolled { IfOk result (λ rolled.
         IsRolled problem.now settings (option_map (λ prefix. prefix.now) trees.entry)
         (fed S.Feed.name S.Feed.lines feeds.items)
-        (outside (S.holds shelf.old) (S.reading_faults shelf.old) (S.putting_faults shelf.old)
-        (O.faults out.old) (O.written out.old))
-        (outside (S.holds shelf.new) (S.reading_faults shelf.new) (S.putting_faults shelf.new)
-        (O.faults out.new) (O.written out.new)) rolled.journal.items rolled.status) }
+        (outside (S.state shelf.old) (O.state out.old))
+        (outside (S.state shelf.new) (O.state out.new)) rolled.journal.items rolled.status) }
     ensures refused { OnErr result (
-        outside (S.holds shelf.new) (S.reading_faults shelf.new) (S.putting_faults shelf.new)
-        (O.faults out.new) (O.written out.new)
-        ≡ outside (S.holds shelf.old) (S.reading_faults shelf.old) (S.putting_faults shelf.old)
-        (O.faults out.old) (O.written out.old)) }
-    ensures closed { S.open_feeds shelf.new ≡ S.open_feeds shelf.old - length feeds.items }
+        outside (S.state shelf.new) (O.state out.new)
+        ≡ outside (S.state shelf.old) (O.state out.old)) }
+    ensures closed { (S.state shelf.new).open_feeds
+        ≡ (S.state shelf.old).open_feeds - length feeds.items }
 {
     let Run {
         board,

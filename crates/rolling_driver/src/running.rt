@@ -69,29 +69,25 @@ pub(crate) fn run_all<R: Threads + Wait + Sync, S: Shelf, O: Sink, G: Gate>(
     ensures watches { Watches first.old first.new }
     ensures printed { PrintsJournal (option_map (λ prefix. prefix.now) trees.entry)
         (drop (fetched first.old) (known first.new).seen)
-        (outside (S.holds shelf.old) (S.reading_faults shelf.old) (S.putting_faults shelf.old)
-        (O.faults out.old) (O.written out.old))
-        (outside (S.holds shelf.new) (S.reading_faults shelf.new) (S.putting_faults shelf.new)
-        (O.faults out.new) (O.written out.new)) result }
+        (outside (S.state shelf.old) (O.state out.old))
+        (outside (S.state shelf.new) (O.state out.new)) result }
     ensures fetched { OnOk result (fetched first.new ≡ length (known first.new).seen) }
     ensures known { (name : List ℕ) → S.knows shelf.old name → S.knows shelf.new name }
-    ensures feeds { S.open_feeds shelf.new ≡ S.open_feeds shelf.old }
+    ensures feeds { (S.state shelf.new).open_feeds ≡ (S.state shelf.old).open_feeds }
 {
     let mut print = || -> Result<(), PrintNo>
         requires { own_board first.now ≡ board_of board.now }
         ensures watches { Watches first.entry.now first.exit.now }
         ensures printed { PrintsJournal (option_map (λ prefix. prefix.now) trees.entry)
             (drop (fetched first.entry.now) (known first.exit.now).seen)
-            (outside (S.holds shelf.entry.now) (S.reading_faults shelf.entry.now)
-            (S.putting_faults shelf.entry.now) (O.faults out.entry.now) (O.written out.entry.now))
-            (outside (S.holds shelf.exit.now) (S.reading_faults shelf.exit.now)
-            (S.putting_faults shelf.exit.now) (O.faults out.exit.now) (O.written out.exit.now))
+            (outside (S.state shelf.entry.now) (O.state out.entry.now))
+            (outside (S.state shelf.exit.now) (O.state out.exit.now))
             result }
         ensures fetched { OnOk result
             (fetched first.exit.now ≡ length (known first.exit.now).seen) }
         ensures known { (name : List ℕ) → S.knows shelf.entry.now name
             → S.knows shelf.exit.now name }
-        ensures feeds { S.open_feeds shelf.exit.now ≡ S.open_feeds shelf.entry.now }
+        ensures feeds { (S.state shelf.exit.now).open_feeds ≡ (S.state shelf.entry.now).open_feeds }
     { print_news(rt, alloc, board, first, shelf, out, trees) };
     let mut work = ||
         requires { IsSync R.row × AreReady S.Feed.has_ended board.now readers.now

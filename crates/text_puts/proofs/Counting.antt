@@ -29,7 +29,7 @@ use Rattle.std.specs.Bool.{Decides}
 use Rattle.std.specs.Str.{bytes_eq}
 use Rattle.std.proofs.Math.Seq.{take-suc}
 use Rattle.std.proofs.lemmas.Slice.Eq.{bytes_eq-Decides}
-use Rattle.text_puts.specs.Outside.{Counts}
+use Rattle.disp_outside.specs.States.{Counts}
 
 -- a count that did not rise, and does not fall, stays
 pub stays : (old new : ℕ) → old ≤ new → (old < new → ⊥) → new ≡ old

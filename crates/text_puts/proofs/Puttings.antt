@@ -29,7 +29,8 @@ use Rattle.std.specs.Prelude.{IfSome}
 use Rattle.disp_outside.specs.declared.shelf.PutNo.{PutNo}
 use Rattle.disp_outside.specs.declared.shelf.PutNo.TheVariants.{Failed, Memory}
 use Rattle.text_puts.specs.declared.put.Put.{Put}
-use Rattle.text_puts.specs.Outside.{Holdings, HoldsBytes, Counts}
+use Rattle.disp_outside.specs.States.{Holdings, Counts}
+use Rattle.text_puts.specs.Outside.{HoldsBytes}
 use Rattle.text_puts.specs.Puts.{PutsUnder, HoldTexts, StandsAfter, PutsSome, PutMisses, PutsOnly}
 use Rattle.text_puts.proofs.Counting.{never_falls, same_all, parts_at}
 

@@ -1,33 +1,37 @@
 -- The outside as a program sees it at one moment.
 use Rattle.std.specs.Prelude.{◌≡◌, ℕ, List, Option, Some, IfSome}
 use Rattle.std.specs.Io.KnownBytes.{append_known}
+use Rattle.disp_outside.specs.States.{Holdings, Counts, ShelfState, SinkState}
 
--- what a name holds, where that is told: no file, or a file of these bytes
-abbrev pub Holdings : Type 0
-Holdings = List ℕ → Option (Option (List ℕ))
-
--- how often something has failed for a name
-abbrev pub Counts : Type 0
-Counts = List ℕ → ℕ
-
--- what names hold, how often readings and puttings of them have failed, how often writes have
--- failed, and what was written, where that is told
+-- what names hold, how often readings and puttings of them have failed, how many feeds are open,
+-- how often writes have failed, and what was written, where that is told
 pub record Outside : Type 0 where
   pub holds : Holdings
   pub reading : Counts
   pub putting : Counts
+  pub open_feeds : ℕ
   pub faults : ℕ
   pub written : Option (List ℕ)
 
-abbrev pub outside : Holdings → Counts → Counts → ℕ → Option (List ℕ) → Outside
-outside holds reading putting faults written =
-    record {
-      holds = holds;
-      reading = reading;
-      putting = putting;
-      faults = faults;
-      written = written;
-    }
+-- of the states of a shelf and a sink
+abbrev pub outside : ShelfState → SinkState → Outside
+outside shelf sink = record {
+  holds = shelf.holds;
+  reading = shelf.reading;
+  putting = shelf.putting;
+  open_feeds = shelf.open_feeds;
+  faults = sink.faults;
+  written = sink.written;
+}
+
+-- the shelf's part
+abbrev pub shelf_of : Outside → ShelfState
+shelf_of at = record {
+  holds = at.holds;
+  reading = at.reading;
+  putting = at.putting;
+  open_feeds = at.open_feeds;
+}
 
 -- the name holds these bytes, as far as is told
 abbrev pub HoldsBytes : Holdings → List ℕ → List ℕ → Type 0

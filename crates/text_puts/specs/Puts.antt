@@ -1,7 +1,8 @@
 -- Texts that are put one after the other.
 use Rattle.std.specs.Prelude.{◌≡◌, ◌≢◌, ◌⊎◌, ℕ, ◌<◌, ◌≤◌, List, [], ◌∷◌, ◌++◌}
 use Rattle.text_puts.specs.declared.put.Put.{Put}
-use Rattle.text_puts.specs.Outside.{Holdings, HoldsBytes, Counts}
+use Rattle.disp_outside.specs.States.{Holdings, Counts}
+use Rattle.text_puts.specs.Outside.{HoldsBytes}
 
 -- one of these puts is under the name
 abbrev pub PutsUnder : List ℕ → List Put → Type 0

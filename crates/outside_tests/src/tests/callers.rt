@@ -26,14 +26,14 @@ fn print_file<S: Shelf, O: Sink>(
     name: &str,
 ) -> Result<(), PrintNo>
     ensures printed { OnOk result
-        (IfSome (S.holds shelf.old name.now) (λ file. IfSome file (λ bytes.
-        O.written out.new ≡ append_known (O.written out.old) bytes))) }
+        (IfSome ((S.state shelf.old).holds name.now) (λ file. IfSome file (λ bytes.
+        (O.state out.new).written ≡ append_known (O.state out.old).written bytes))) }
     ensures fetch { IsErrOf result (PrintNo.Fetch FetchNo.Failed)
-        ↔ (S.reading_faults shelf.old name.now < S.reading_faults shelf.new name.now) }
+        ↔ ((S.state shelf.old).reading name.now < (S.state shelf.new).reading name.now) }
     ensures write { IsErrOf result (PrintNo.Write WriteNo.Failed)
-        ↔ (O.faults out.old < O.faults out.new) }
-    ensures others { (other : List ℕ) → other ≢ name.now → S.reading_faults shelf.new other
-        ≡ S.reading_faults shelf.old other }
+        ↔ ((O.state out.old).faults < (O.state out.new).faults) }
+    ensures others { (other : List ℕ) → other ≢ name.now → (S.state shelf.new).reading other
+        ≡ (S.state shelf.old).reading other }
 {
     let bytes = match shelf.fetch(alloc, name, 9) {
         Ok(bytes) => bytes,
@@ -65,13 +65,14 @@ fn begin<S: Shelf>(
     into: &mut LineBuf,
 ) -> Result<FeedLine, FeedNo>
     ensures failed { ((result ≡ Err FeedNo.Failed) ⊎ (result ≡ Ok FeedLine.Failed))
-        ↔ (S.reading_faults shelf.old name.now < S.reading_faults shelf.new name.now) }
+        ↔ ((S.state shelf.old).reading name.now < (S.state shelf.new).reading name.now) }
     ensures end { result ≡ Ok FeedLine.End
-        → IfSome (S.holds shelf.old name.now)
+        → IfSome ((S.state shelf.old).holds name.now)
         (λ file. IfSome file (λ bytes. feed_lines bytes ≡ [])) }
-    ensures others { (other : List ℕ) → other ≢ name.now → S.reading_faults shelf.new other
-        ≡ S.reading_faults shelf.old other }
-    ensures held { (other : List ℕ) → S.holds shelf.new other ≡ S.holds shelf.old other }
+    ensures others { (other : List ℕ) → other ≢ name.now → (S.state shelf.new).reading other
+        ≡ (S.state shelf.old).reading other }
+    ensures held { (other : List ℕ) → (S.state shelf.new).holds other
+        ≡ (S.state shelf.old).holds other }
 {
     let mut feed = shelf.feed(alloc, name)?;
     let answer = feed.line(into);

@@ -35,13 +35,12 @@ impl Shelf for ClosedShelf {
 
     ghost knows = { λ _ _. ⊤ };
 
-    ghost holds = { λ _ _. None };
-
-    ghost reading_faults = { λ _ _. 0 };
-
-    ghost putting_faults = { λ _ _. 0 };
-
-    ghost open_feeds = { λ _. 0 };
+    ghost state = { λ _. record {
+      holds = λ _. None;
+      reading = λ _. 0;
+      putting = λ _. 0;
+      open_feeds = 0;
+    } };
 
     fn fetch(&mut self, _alloc: Global, _name: &str, _limit: u64) -> Result<Vec<u8>, FetchNo> {
         if self.all_too_long {

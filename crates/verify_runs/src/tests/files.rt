@@ -64,13 +64,12 @@ impl Shelf for LongShelf {
 
     ghost knows = { λ _ _. ⊤ };
 
-    ghost holds = { λ _ _. None };
-
-    ghost reading_faults = { λ _ _. 0 };
-
-    ghost putting_faults = { λ _ _. 0 };
-
-    ghost open_feeds = { λ _. 0 };
+    ghost state = { λ _. record {
+      holds = λ _. None;
+      reading = λ _. 0;
+      putting = λ _. 0;
+      open_feeds = 0;
+    } };
 
     fn fetch(&mut self, alloc: Global, name: &str, limit: u64) -> Result<Vec<u8>, FetchNo> {
         let text = if name == "t" { TREE } else { TWO };

@@ -10,8 +10,8 @@ use Rattle.answered_tasks.proofs.check.check_files.Goals as goal
 
 pub returns-in-Ok-clause-ok : goal.returns-in-Ok-clause-ok
 returns-in-Ok-clause-ok g c =
-    let holds = g.S.Shelf.holds c.args.shelf.now in
-    let mid = g.S.Shelf.holds c.editions_of.new.shelf in
+    let holds = (g.S.Shelf.state c.args.shelf.now).holds in
+    let mid = (g.S.Shelf.state c.editions_of.new.shelf).holds in
     let plan = option_map (λ name. name.now) c.args.plan in
     let changes = c.in-Ok.editions.changes in
     IfOk-weaker c.check_tree.result _ _ (λ answer h. record {
@@ -23,15 +23,15 @@ returns-in-Ok-clause-ok g c =
 
 pub returns-in-Ok-clause-no : goal.returns-in-Ok-clause-no
 returns-in-Ok-clause-no g c =
-    let holds = g.S.Shelf.holds c.args.shelf.now in
-    let old = g.S.Shelf.reading_faults c.args.shelf.now in
-    let mid_holds = g.S.Shelf.holds c.editions_of.new.shelf in
-    let mid = g.S.Shelf.reading_faults c.editions_of.new.shelf in
+    let holds = (g.S.Shelf.state c.args.shelf.now).holds in
+    let old = (g.S.Shelf.state c.args.shelf.now).reading in
+    let mid_holds = (g.S.Shelf.state c.editions_of.new.shelf).holds in
+    let mid = (g.S.Shelf.state c.editions_of.new.shelf).reading in
     let fixings = option_map (λ name. name.now) c.args.fixings in
     let changes = c.in-Ok.editions.changes in
     let fixed : AreOfEdition holds c.args.problem.now fixings c.fixings.result.now c.edition_of-edition.result =
     rw (c.fixings.ensures.all, c.edition_of-edition.ensures) (edition_of_changes holds c.args.problem.now fixings c.in-Ok.editions.problem changes c.in-Ok.ensures.ok c.fixings.ensures.edition) in
-    let read = behind_names _ holds mid_holds old mid _ _ _ c.in-Ok.ensures.reads in
+    let read = behind_names _ _ _ _ c.in-Ok.ensures.reads in
     IfErr-weaker c.check_tree.result _ _ (λ cause h before first problem_name behind problem. h before first problem_name fixings (behind_both before holds mid_holds first old mid behind read) problem
     (edition_before before holds c.args.problem.now fixings c.fixings.result.now c.edition_of-edition.result behind.held fixed)) c.check_tree.ensures.no
 
@@ -39,13 +39,13 @@ pub returns-in-Ok-clause-reads : goal.returns-in-Ok-clause-reads
 returns-in-Ok-clause-reads g c =
     let fixings = option_map (λ name. name.now) c.args.fixings in
     let plan = option_map (λ name. name.now) c.args.plan in
-    reads_then (IsGiven fixings) (IsTreeOrPlan c.args.tree.now plan) _ _ _ _ _ _ _ _ _ _ _ (λ e. e) c.in-Ok.ensures.reads c.check_tree.ensures.reads
+    reads_then (IsGiven fixings) (IsTreeOrPlan c.args.tree.now plan) _ _ _ _ _ (λ e. e) c.in-Ok.ensures.reads c.check_tree.ensures.reads
 
 pub returns-in-Err-clause-no : goal.returns-in-Err-clause-no
 returns-in-Err-clause-no g c before first problem_name behind file =
-    let holds = g.S.Shelf.holds c.args.shelf.now in
-    let old = g.S.Shelf.reading_faults c.args.shelf.now in
-    let new = g.S.Shelf.reading_faults c.editions_of.new.shelf in
+    let holds = (g.S.Shelf.state c.args.shelf.now).holds in
+    let old = (g.S.Shelf.state c.args.shelf.now).reading in
+    let new = (g.S.Shelf.state c.editions_of.new.shelf).reading in
     let fixings = option_map (λ name. name.now) c.args.fixings in
     let task = Check problem_name c.args.tree.now fixings (option_map (λ name. name.now) c.args.plan) in
     stops_at_fixings before holds first old new task c.args.problem.now fixings c.in-Err.cause refl
@@ -54,4 +54,4 @@ returns-in-Err-clause-no g c before first problem_name behind file =
 pub returns-in-Err-clause-reads : goal.returns-in-Err-clause-reads
 returns-in-Err-clause-reads g c =
     let fixings = option_map (λ name. name.now) c.args.fixings in
-    reads_among (IsGiven fixings) (IsBehindProblem fixings c.args.tree.now (option_map (λ name. name.now) c.args.plan)) _ _ _ _ _ _ _ (λ n e. inl e) c.in-Err.ensures.reads
+    reads_among (IsGiven fixings) (IsBehindProblem fixings c.args.tree.now (option_map (λ name. name.now) c.args.plan)) _ _ _ (λ n e. inl e) c.in-Err.ensures.reads

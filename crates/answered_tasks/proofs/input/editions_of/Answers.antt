@@ -2,10 +2,10 @@ use Rattle.answered_tasks.proofs.Checking.{reads_nothing, reads_given}
 use Rattle.answered_tasks.proofs.input.editions_of.Goals as goal
 
 pub returns-in-Some-clause-reads : goal.returns-in-Some-clause-reads
-returns-in-Some-clause-reads g c = rw c.in-Some.is (reads_given c.in-Some.name.now _ _ _ _ _ _ _ (rw c.as_str.ensures at c.fixings_file.ensures.reads))
+returns-in-Some-clause-reads g c = rw c.in-Some.is (reads_given c.in-Some.name.now _ _ _ (rw c.as_str.ensures at c.fixings_file.ensures.reads))
 
 pub returns-in_ok-new-in-None-clause-reads : goal.returns-in_ok-new-in-None-clause-reads
-returns-in_ok-new-in-None-clause-reads g c = reads_nothing _ _ _ _ _
+returns-in_ok-new-in-None-clause-reads g c = reads_nothing _ _ _
 
 pub returns-in_err-new-in-None-clause-reads : goal.returns-in_err-new-in-None-clause-reads
-returns-in_err-new-in-None-clause-reads g c = reads_nothing _ _ _ _ _
+returns-in_err-new-in-None-clause-reads g c = reads_nothing _ _ _

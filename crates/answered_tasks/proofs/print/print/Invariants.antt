@@ -6,6 +6,6 @@ use Rattle.answered_tasks.proofs.print.print.Given as goal
 
 abbrev pub invariant-loop-line : goal.invariant-loop-line
 invariant-loop-line g l = record {
-  written : Writes (g.O.Sink.written l.fn.out) (g.O.Sink.written l.out) (concat (take l.line-index l.lines));
-  faults : g.O.Sink.faults l.out ≡ g.O.Sink.faults l.fn.out;
+  written : Writes (g.O.Sink.state l.fn.out).written (g.O.Sink.state l.out).written (concat (take l.line-index l.lines));
+  faults : (g.O.Sink.state l.out).faults ≡ (g.O.Sink.state l.fn.out).faults;
 }

@@ -5,16 +5,9 @@ use Rattle.answered_tasks.proofs.program.answer.Goals as goal
 
 pub returns-in-Ok : goal.returns-in-Ok
 returns-in-Ok g c =
-    let old = outside (g.S.Shelf.holds c.args.shelf.now) (g.S.Shelf.reading_faults c.args.shelf.now)
-    (g.S.Shelf.putting_faults c.args.shelf.now) (g.O.Sink.faults c.args.out.now)
-    (g.O.Sink.written c.args.out.now) in
-    let mid = outside (g.S.Shelf.holds c.run.new.shelf) (g.S.Shelf.reading_faults c.run.new.shelf)
-    (g.S.Shelf.putting_faults c.run.new.shelf) (g.O.Sink.faults c.args.out.now)
-    (g.O.Sink.written c.args.out.now) in
-    let new = outside (g.S.Shelf.holds c.publish-status.new.shelf)
-    (g.S.Shelf.reading_faults c.publish-status.new.shelf)
-    (g.S.Shelf.putting_faults c.publish-status.new.shelf) (g.O.Sink.faults c.publish-status.new.out)
-    (g.O.Sink.written c.publish-status.new.out) in
+    let old = outside (g.S.Shelf.state c.args.shelf.now) (g.O.Sink.state c.args.out.now) in
+    let mid = outside (g.S.Shelf.state c.run.new.shelf) (g.O.Sink.state c.args.out.now) in
+    let new = outside (g.S.Shelf.state c.publish-status.new.shelf) (g.O.Sink.state c.publish-status.new.out) in
     record {
       ends = λ words read. ends_of_answer words old mid new c.in-Ok.answer c.publish-status.result _
           (c.in-Ok.ensures.ok words read) c.in-Ok.ensures.status c.into_vec.ensures
@@ -27,12 +20,8 @@ returns-in-Ok g c =
 
 pub returns-in-Err : goal.returns-in-Err
 returns-in-Err g c =
-    let old = outside (g.S.Shelf.holds c.args.shelf.now) (g.S.Shelf.reading_faults c.args.shelf.now)
-    (g.S.Shelf.putting_faults c.args.shelf.now) (g.O.Sink.faults c.args.out.now)
-    (g.O.Sink.written c.args.out.now) in
-    let new = outside (g.S.Shelf.holds c.run.new.shelf) (g.S.Shelf.reading_faults c.run.new.shelf)
-    (g.S.Shelf.putting_faults c.run.new.shelf) (g.O.Sink.faults c.stop.new.out)
-    (g.O.Sink.written c.stop.new.out) in
+    let old = outside (g.S.Shelf.state c.args.shelf.now) (g.O.Sink.state c.args.out.now) in
+    let new = outside (g.S.Shelf.state c.run.new.shelf) (g.O.Sink.state c.stop.new.out) in
     record {
       ends = λ words read. ends_of_stop words old new c.in-Err.cause c.stop.result _ (c.in-Err.ensures.no words read)
           c.stop.ensures (record { held = c.in-Err.ensures.held; counts = c.in-Err.ensures.puttings })

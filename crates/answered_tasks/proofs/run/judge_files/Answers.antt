@@ -9,9 +9,9 @@ returns-in-None-clause-ok g c = rw c.in-None.is (IfOk-weaker c.judge_file.result
 
 pub returns-in-None-clause-no : goal.returns-in-None-clause-no
 returns-in-None-clause-no g c =
-    let holds = g.S.Shelf.holds c.args.shelf.now in
-    let old = g.S.Shelf.reading_faults c.args.shelf.now in
-    rw c.in-None.is (IfErr-weaker c.judge_file.result _ _ (λ cause h. stops_solution holds holds old old (g.S.Shelf.reading_faults c.judge_file.new.shelf) c.args.problem.now None c.args.solution.now cause ([], refl) (λ other. refl) (λ other. omega arith) h) c.judge_file.ensures.no)
+    let holds = (g.S.Shelf.state c.args.shelf.now).holds in
+    let old = (g.S.Shelf.state c.args.shelf.now).reading in
+    rw c.in-None.is (IfErr-weaker c.judge_file.result _ _ (λ cause h. stops_solution holds holds old old (g.S.Shelf.state c.judge_file.new.shelf).reading c.args.problem.now None c.args.solution.now cause ([], refl) (λ other. refl) (λ other. omega arith) h) c.judge_file.ensures.no)
 
 pub returns-in-None-clause-reads : goal.returns-in-None-clause-reads
-returns-in-None-clause-reads g c = rw c.in-None.is (reads_among (IsName c.args.solution.now) (IsOneOfTwo None c.args.solution.now) _ _ _ _ _ _ _ (λ n e. inr e) (reads_of_one c.args.solution.now _ _ _ _ _ _ _ c.judge_file.ensures.reads))
+returns-in-None-clause-reads g c = rw c.in-None.is (reads_among (IsName c.args.solution.now) (IsOneOfTwo None c.args.solution.now) _ _ _ (λ n e. inr e) (reads_of_one c.args.solution.now _ _ _ c.judge_file.ensures.reads))

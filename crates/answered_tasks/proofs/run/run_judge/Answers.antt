@@ -8,8 +8,8 @@ use Rattle.answered_tasks.proofs.run.run_judge.Goals as goal
 
 pub returns-in-Ok-clause-ok : goal.returns-in-Ok-clause-ok
 returns-in-Ok-clause-ok g c =
-    let holds = g.S.Shelf.holds c.args.shelf.now in
-    let mid = g.S.Shelf.holds c.problem_file.new.shelf in
+    let holds = (g.S.Shelf.state c.args.shelf.now).holds in
+    let mid = (g.S.Shelf.state c.problem_file.new.shelf).holds in
     let task = c.args.task.now in
     IfOk-weaker c.judge_files.result _ _ (λ answer h.
     let judged = judged_file_before holds mid c.args.telling c.in-Ok.problem h.fixings task.solution
@@ -28,11 +28,11 @@ returns-in-Ok-clause-ok g c =
 
 pub returns-in-Ok-clause-no : goal.returns-in-Ok-clause-no
 returns-in-Ok-clause-no g c =
-    let holds = g.S.Shelf.holds c.args.shelf.now in
-    let mid_holds = g.S.Shelf.holds c.problem_file.new.shelf in
-    let old = g.S.Shelf.reading_faults c.args.shelf.now in
-    let mid = g.S.Shelf.reading_faults c.problem_file.new.shelf in
-    let new = g.S.Shelf.reading_faults c.judge_files.new.shelf in
+    let holds = (g.S.Shelf.state c.args.shelf.now).holds in
+    let mid_holds = (g.S.Shelf.state c.problem_file.new.shelf).holds in
+    let old = (g.S.Shelf.state c.args.shelf.now).reading in
+    let mid = (g.S.Shelf.state c.problem_file.new.shelf).reading in
+    let new = (g.S.Shelf.state c.judge_files.new.shelf).reading in
     let task = c.args.task.now in
     let file : IsProblemFile holds task.problem c.in-Ok.problem =
     rw (← c.as_str.ensures) c.in-Ok.ensures.ok in
@@ -48,12 +48,12 @@ returns-in-Ok-clause-no g c =
 pub returns-in-Ok-clause-reads : goal.returns-in-Ok-clause-reads
 returns-in-Ok-clause-reads g c =
     let task = c.args.task.now in
-    let first = reads_of_one task.problem _ _ _ _ _ _ _
+    let first = reads_of_one task.problem _ _ _
     (rw c.as_str.ensures at c.in-Ok.ensures.reads) in
     let second = rw (c.as_ref-fixings.ensures.value, c.as_str-in-Ok.ensures)
     at c.judge_files.ensures.reads in
     reads_then (IsName task.problem) (IsOneOfTwo task.fixings task.solution)
-    _ _ _ _ _ _ _ _ _ _ _ (λ e. e) first second
+    _ _ _ _ _ (λ e. e) first second
 
 pub returns-in-Err-clause-no : goal.returns-in-Err-clause-no
 returns-in-Err-clause-no g c = inl (rw (← c.as_str.ensures) c.in-Err.ensures.no)
@@ -62,5 +62,5 @@ pub returns-in-Err-clause-reads : goal.returns-in-Err-clause-reads
 returns-in-Err-clause-reads g c =
     let task = c.args.task.now in
     reads_among (IsName task.problem) (IsOneOfThree task.problem task.fixings task.solution)
-    _ _ _ _ _ _ _ (λ n e. inl e)
-    (reads_of_one task.problem _ _ _ _ _ _ _ (rw c.as_str.ensures at c.in-Err.ensures.reads))
+    _ _ _ (λ n e. inl e)
+    (reads_of_one task.problem _ _ _ (rw c.as_str.ensures at c.in-Err.ensures.reads))

@@ -8,8 +8,8 @@ use Rattle.answered_tasks.proofs.run.run_solve.Goals as goal
 
 pub returns-in-Ok-clause-ok : goal.returns-in-Ok-clause-ok
 returns-in-Ok-clause-ok g c =
-    let holds = g.S.Shelf.holds c.args.shelf.now in
-    let mid = g.S.Shelf.holds c.problem_file.new.shelf in
+    let holds = (g.S.Shelf.state c.args.shelf.now).holds in
+    let mid = (g.S.Shelf.state c.problem_file.new.shelf).holds in
     let fixings = c.args.task.now.fixings in
     IfOk-weaker c.solve_with.result _ _ (λ answer h. record {
       problem = c.in-Ok.problem;
@@ -22,11 +22,11 @@ returns-in-Ok-clause-ok g c =
 
 pub returns-in-Ok-clause-no : goal.returns-in-Ok-clause-no
 returns-in-Ok-clause-no g c =
-    let holds = g.S.Shelf.holds c.args.shelf.now in
-    let mid_holds = g.S.Shelf.holds c.problem_file.new.shelf in
-    let old = g.S.Shelf.reading_faults c.args.shelf.now in
-    let mid = g.S.Shelf.reading_faults c.problem_file.new.shelf in
-    let new = g.S.Shelf.reading_faults c.solve_with.new.shelf in
+    let holds = (g.S.Shelf.state c.args.shelf.now).holds in
+    let mid_holds = (g.S.Shelf.state c.problem_file.new.shelf).holds in
+    let old = (g.S.Shelf.state c.args.shelf.now).reading in
+    let mid = (g.S.Shelf.state c.problem_file.new.shelf).reading in
+    let new = (g.S.Shelf.state c.solve_with.new.shelf).reading in
     let fixings = c.args.task.now.fixings in
     let file : IsProblemFile holds c.args.task.now.problem c.in-Ok.problem =
     rw (← c.as_str.ensures) c.in-Ok.ensures.ok in
@@ -41,9 +41,9 @@ returns-in-Ok-clause-no g c =
 pub returns-in-Ok-clause-reads : goal.returns-in-Ok-clause-reads
 returns-in-Ok-clause-reads g c =
     let fixings = c.args.task.now.fixings in
-    let first = reads_of_one c.args.task.now.problem _ _ _ _ _ _ _
+    let first = reads_of_one c.args.task.now.problem _ _ _
     (rw c.as_str.ensures at c.in-Ok.ensures.reads) in
-    reads_then (IsName c.args.task.now.problem) (IsGiven fixings) _ _ _ _ _ _ _ _ _ _ _ (λ e. e) first
+    reads_then (IsName c.args.task.now.problem) (IsGiven fixings) _ _ _ _ _ (λ e. e) first
     c.solve_with.ensures.reads
 
 pub returns-in-Err-clause-no : goal.returns-in-Err-clause-no
@@ -53,5 +53,5 @@ pub returns-in-Err-clause-reads : goal.returns-in-Err-clause-reads
 returns-in-Err-clause-reads g c =
     let fixings = c.args.task.now.fixings in
     reads_among (IsName c.args.task.now.problem) (IsProblemOrFixings c.args.task.now.problem fixings)
-    _ _ _ _ _ _ _ (λ n e. inl e)
-    (reads_of_one c.args.task.now.problem _ _ _ _ _ _ _ (rw c.as_str.ensures at c.in-Err.ensures.reads))
+    _ _ _ (λ n e. inl e)
+    (reads_of_one c.args.task.now.problem _ _ _ (rw c.as_str.ensures at c.in-Err.ensures.reads))

@@ -13,9 +13,9 @@ returns-in-Verify-clause-counts g c name =
 
 pub returns-in-Verify-clause-no : goal.returns-in-Verify-clause-no
 returns-in-Verify-clause-no g c =
-    let holds = g.S.Shelf.holds c.args.shelf.now in
-    let old = g.S.Shelf.reading_faults c.args.shelf.now in
-    let new = g.S.Shelf.reading_faults c.run_judge.new.shelf in
+    let holds = (g.S.Shelf.state c.args.shelf.now).holds in
+    let old = (g.S.Shelf.state c.args.shelf.now).reading in
+    let new = (g.S.Shelf.state c.run_judge.new.shelf).reading in
     let task = c.in-Verify.task in
     rw c.in-Verify.is (IfErr-weaker c.run_judge.result _ _
     (stops_judge holds old new (Verify task) task (λ which. refl)) c.run_judge.ensures.no)
@@ -28,9 +28,9 @@ returns-in-Report-clause-counts g c name =
 
 pub returns-in-Report-clause-no : goal.returns-in-Report-clause-no
 returns-in-Report-clause-no g c =
-    let holds = g.S.Shelf.holds c.args.shelf.now in
-    let old = g.S.Shelf.reading_faults c.args.shelf.now in
-    let new = g.S.Shelf.reading_faults c.run_judge-in-Report.new.shelf in
+    let holds = (g.S.Shelf.state c.args.shelf.now).holds in
+    let old = (g.S.Shelf.state c.args.shelf.now).reading in
+    let new = (g.S.Shelf.state c.run_judge-in-Report.new.shelf).reading in
     let task = c.in-Report.task in
     rw c.in-Report.is (IfErr-weaker c.run_judge-in-Report.result _ _
     (stops_judge holds old new (Report task) task (λ which. refl)) c.run_judge-in-Report.ensures.no)
@@ -51,8 +51,8 @@ returns-in-Solve-clause-counts g c name = rw c.in-Solve.is (counts_of_two c.in-S
 
 pub returns-in-Solve-clause-no : goal.returns-in-Solve-clause-no
 returns-in-Solve-clause-no g c =
-    let holds = g.S.Shelf.holds c.args.shelf.now in
-    let old = g.S.Shelf.reading_faults c.args.shelf.now in
-    let new = g.S.Shelf.reading_faults c.run_solve.new.shelf in
+    let holds = (g.S.Shelf.state c.args.shelf.now).holds in
+    let old = (g.S.Shelf.state c.args.shelf.now).reading in
+    let new = (g.S.Shelf.state c.run_solve.new.shelf).reading in
     rw c.in-Solve.is (IfErr-weaker c.run_solve.result _ _
     (λ cause h. stops_solve holds old new c.in-Solve.task cause h) c.run_solve.ensures.no)

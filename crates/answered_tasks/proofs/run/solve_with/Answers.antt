@@ -6,7 +6,7 @@ use Rattle.answered_tasks.proofs.run.solve_with.Goals as goal
 
 pub solve-requires : goal.solve-requires
 solve-requires g c =
-    let holds = g.S.Shelf.holds c.args.shelf.now in
+    let holds = (g.S.Shelf.state c.args.shelf.now).holds in
     let fixings = c.args.task.now.fixings in
     let asked = c.in-Ok.asked.items in (
       record { shared = c.type_bounds.sync-R.shared },
@@ -31,7 +31,7 @@ returns-in-Ok-clause-no g c = IfErr-weaker c.solve.result _ _
 
 pub returns-in-Ok-clause-reads : goal.returns-in-Ok-clause-reads
 returns-in-Ok-clause-reads g c =
-    reads_well _ _ _ _ _ _ _ _ _ (λ e. e) (rw c.as_ref.ensures.value at c.in-Ok.ensures.reads)
+    reads_well _ _ _ _ _ (λ e. e) (rw c.as_ref.ensures.value at c.in-Ok.ensures.reads)
 
 pub returns-in-Err-clause-no : goal.returns-in-Err-clause-no
 returns-in-Err-clause-no g c = rw c.as_ref.ensures.value at c.in-Err.ensures.no

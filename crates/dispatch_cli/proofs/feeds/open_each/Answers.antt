@@ -19,10 +19,10 @@ loop-name-preserved g c =
     let is = read_at names c.loop-name.name-index c.name-item.result one c.name-item.is c.as_str.ensures in
     record {
       number = ap (λ (n : ℕ). n + 1) inv.number;
-      opened = opened_more g.S.Feed.Feed.name g.S.Feed.Feed.lines g.S.Feed.Feed.has_ended g.S.Feed.Feed.faults (g.S.Shelf.holds c.args.shelf.now)
-          (g.S.Shelf.holds c.loop-name.shelf) names c.loop-name.name-index one _ _ c.loop-name-test.true is inv.held inv.opened c.in-Ok.ensures.ok;
+      opened = opened_more g.S.Feed.Feed.name g.S.Feed.Feed.lines g.S.Feed.Feed.has_ended g.S.Feed.Feed.faults (g.S.Shelf.state c.args.shelf.now).holds
+          (g.S.Shelf.state c.loop-name.shelf).holds names c.loop-name.name-index one _ _ c.loop-name-test.true is inv.held inv.opened c.in-Ok.ensures.ok;
       known = known_more g.S.Feed.Feed.name g.S.Feed.Feed.lines g.S.Feed.Feed.has_ended g.S.Feed.Feed.faults (g.S.Shelf.knows c.loop-name.shelf)
-          (g.S.Shelf.knows c.open_next.new.shelf) (g.S.Shelf.holds c.loop-name.shelf) one _ _ c.open_next.ensures.still c.in-Ok.ensures.known inv.known c.in-Ok.ensures.ok;
+          (g.S.Shelf.knows c.open_next.new.shelf) (g.S.Shelf.state c.loop-name.shelf).holds one _ _ c.open_next.ensures.still c.in-Ok.ensures.known inv.known c.in-Ok.ensures.ok;
       quiet = λ name. same_all one _ _ c.in-Ok.ensures.quiet c.open_next.ensures.others name ∙ inv.quiet name;
       puttings = λ name. c.open_next.ensures.puttings name ∙ inv.puttings name;
       are_open =
@@ -35,5 +35,5 @@ loop-name-preserved g c =
 
 pub returns-in-Err-clause-opened : goal.returns-in-Err-clause-opened
 returns-in-Err-clause-opened g c =
-    subst (λ l. g.S.Shelf.open_feeds c.open_next.new.shelf ≡ g.S.Shelf.open_feeds c.args.shelf.now + length l) (sym c.in-Err.ensures.same)
+    subst (λ l. (g.S.Shelf.state c.open_next.new.shelf).open_feeds ≡ (g.S.Shelf.state c.args.shelf.now).open_feeds + length l) (sym c.in-Err.ensures.same)
     (c.in-Err.ensures.unopened ∙ c.loop-name.invariant.are_open)

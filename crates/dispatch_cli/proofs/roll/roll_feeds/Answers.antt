@@ -6,11 +6,11 @@ use Rattle.dispatch_cli.proofs.roll.roll_feeds.Goals as goal
 pub returns-in-Ok-roll-clause-ok : goal.returns-in-Ok-roll-clause-ok
 returns-in-Ok-roll-clause-ok g c =
     runs_of c.args.task.now c.args.problem.now
-    (outside (g.S.Shelf.holds c.args.shelf.now) (g.S.Shelf.reading_faults c.args.shelf.now) (g.S.Shelf.putting_faults c.args.shelf.now) (g.O.Sink.faults c.args.out.now) (g.O.Sink.written c.args.out.now))
-    (outside (g.S.Shelf.holds c.open_feeds.new.shelf) (g.S.Shelf.reading_faults c.open_feeds.new.shelf) (g.S.Shelf.putting_faults c.open_feeds.new.shelf) (g.O.Sink.faults c.args.out.now) (g.O.Sink.written c.args.out.now))
-    (outside (g.S.Shelf.holds c.roll.new.shelf) (g.S.Shelf.reading_faults c.roll.new.shelf) (g.S.Shelf.putting_faults c.roll.new.shelf) (g.O.Sink.faults c.roll.new.out) (g.O.Sink.written c.roll.new.out))
+    (outside (g.S.Shelf.state c.args.shelf.now) (g.O.Sink.state c.args.out.now))
+    (outside (g.S.Shelf.state c.open_feeds.new.shelf) (g.O.Sink.state c.args.out.now))
+    (outside (g.S.Shelf.state c.roll.new.shelf) (g.O.Sink.state c.roll.new.out))
     _ _ _ _ _ _ c.requires.few c.settings-settings.ensures c.as_ref-trees.ensures.value c.as_slice.ensures
-    (fed_of_opened g.S.Feed.Feed.name g.S.Feed.Feed.lines g.S.Feed.Feed.has_ended g.S.Feed.Feed.faults (g.S.Shelf.holds c.args.shelf.now) c.as_slice.result.now c.in-Ok.feeds.items c.in-Ok.ensures.ok)
+    (fed_of_opened g.S.Feed.Feed.name g.S.Feed.Feed.lines g.S.Feed.Feed.has_ended g.S.Feed.Feed.faults (g.S.Shelf.state c.args.shelf.now).holds c.as_slice.result.now c.in-Ok.feeds.items c.in-Ok.ensures.ok)
     (record {
       holds = c.open_feeds.ensures.held;
       reading = c.in-Ok.ensures.quiet;

@@ -8,23 +8,23 @@ pub returns-in-Ok-clause-ok : goal.returns-in-Ok-clause-ok
 returns-in-Ok-clause-ok g c =
     IfOk-weaker c.roll_feeds.result _ _ (λ rolled runs.
     run_of c.args.task.now c.in-Ok.problem
-    (outside (g.S.Shelf.holds c.args.shelf.now) (g.S.Shelf.reading_faults c.args.shelf.now) (g.S.Shelf.putting_faults c.args.shelf.now) (g.O.Sink.faults c.args.out.now) (g.O.Sink.written c.args.out.now))
-    (outside (g.S.Shelf.holds c.problem_of.new.shelf) (g.S.Shelf.reading_faults c.problem_of.new.shelf) (g.S.Shelf.putting_faults c.problem_of.new.shelf) (g.O.Sink.faults c.args.out.now) (g.O.Sink.written c.args.out.now))
-    (outside (g.S.Shelf.holds c.roll_feeds.new.shelf) (g.S.Shelf.reading_faults c.roll_feeds.new.shelf) (g.S.Shelf.putting_faults c.roll_feeds.new.shelf) (g.O.Sink.faults c.roll_feeds.new.out) (g.O.Sink.written c.roll_feeds.new.out))
+    (outside (g.S.Shelf.state c.args.shelf.now) (g.O.Sink.state c.args.out.now))
+    (outside (g.S.Shelf.state c.problem_of.new.shelf) (g.O.Sink.state c.args.out.now))
+    (outside (g.S.Shelf.state c.roll_feeds.new.shelf) (g.O.Sink.state c.roll_feeds.new.out))
     _ _ c.in-Ok.ensures.ok c.in-Ok.ensures.reads refl refl runs) c.roll_feeds.ensures.ok
 
 pub returns-in-Ok-clause-no : goal.returns-in-Ok-clause-no
 returns-in-Ok-clause-no g c =
     not_begun c.args.task.now c.in-Ok.problem
-    (outside (g.S.Shelf.holds c.args.shelf.now) (g.S.Shelf.reading_faults c.args.shelf.now) (g.S.Shelf.putting_faults c.args.shelf.now) (g.O.Sink.faults c.args.out.now) (g.O.Sink.written c.args.out.now))
-    (outside (g.S.Shelf.holds c.problem_of.new.shelf) (g.S.Shelf.reading_faults c.problem_of.new.shelf) (g.S.Shelf.putting_faults c.problem_of.new.shelf) (g.O.Sink.faults c.args.out.now) (g.O.Sink.written c.args.out.now))
-    (outside (g.S.Shelf.holds c.roll_feeds.new.shelf) (g.S.Shelf.reading_faults c.roll_feeds.new.shelf) (g.S.Shelf.putting_faults c.roll_feeds.new.shelf) (g.O.Sink.faults c.roll_feeds.new.out) (g.O.Sink.written c.roll_feeds.new.out))
+    (outside (g.S.Shelf.state c.args.shelf.now) (g.O.Sink.state c.args.out.now))
+    (outside (g.S.Shelf.state c.problem_of.new.shelf) (g.O.Sink.state c.args.out.now))
+    (outside (g.S.Shelf.state c.roll_feeds.new.shelf) (g.O.Sink.state c.roll_feeds.new.out))
     c.roll_feeds.result c.in-Ok.ensures.few c.in-Ok.ensures.ok c.in-Ok.ensures.reads c.roll_feeds.ensures.no c.roll_feeds.ensures.puttings c.roll_feeds.ensures.held
     c.roll_feeds.ensures.faults c.roll_feeds.ensures.written
 
 pub returns-in-Err-clause-no : goal.returns-in-Err-clause-no
 returns-in-Err-clause-no g c =
     stopped_at_problem c.args.task.now
-    (outside (g.S.Shelf.holds c.args.shelf.now) (g.S.Shelf.reading_faults c.args.shelf.now) (g.S.Shelf.putting_faults c.args.shelf.now) (g.O.Sink.faults c.args.out.now) (g.O.Sink.written c.args.out.now))
-    (outside (g.S.Shelf.holds c.problem_of.new.shelf) (g.S.Shelf.reading_faults c.problem_of.new.shelf) (g.S.Shelf.putting_faults c.problem_of.new.shelf) (g.O.Sink.faults c.args.out.now) (g.O.Sink.written c.args.out.now))
+    (outside (g.S.Shelf.state c.args.shelf.now) (g.O.Sink.state c.args.out.now))
+    (outside (g.S.Shelf.state c.problem_of.new.shelf) (g.O.Sink.state c.args.out.now))
     c.in-Err.no c.in-Err.ensures.no c.in-Err.ensures.reads refl refl

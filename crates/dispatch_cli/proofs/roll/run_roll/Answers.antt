@@ -7,9 +7,9 @@ pub returns-in-Err : goal.returns-in-Err
 returns-in-Err g c =
     record {
       ends = inl (stopped_of c.args.task.now
-          (outside (g.S.Shelf.holds c.args.shelf.now) (g.S.Shelf.reading_faults c.args.shelf.now) (g.S.Shelf.putting_faults c.args.shelf.now) (g.O.Sink.faults c.args.out.now) (g.O.Sink.written c.args.out.now))
-          (outside (g.S.Shelf.holds c.rolled_of.new.shelf) (g.S.Shelf.reading_faults c.rolled_of.new.shelf) (g.S.Shelf.putting_faults c.rolled_of.new.shelf) (g.O.Sink.faults c.rolled_of.new.out) (g.O.Sink.written c.rolled_of.new.out))
-          (outside (g.S.Shelf.holds c.rolled_of.new.shelf) (g.S.Shelf.reading_faults c.rolled_of.new.shelf) (g.S.Shelf.putting_faults c.rolled_of.new.shelf) (g.O.Sink.faults c.stop_roll.new.out) (g.O.Sink.written c.stop_roll.new.out))
-          c.in-Err.no _ _ c.in-Err.ensures.no c.stop_roll.ensures refl refl refl c.new.ensures.items);
+          (outside (g.S.Shelf.state c.args.shelf.now) (g.O.Sink.state c.args.out.now))
+          (outside (g.S.Shelf.state c.rolled_of.new.shelf) (g.O.Sink.state c.rolled_of.new.out))
+          (outside (g.S.Shelf.state c.rolled_of.new.shelf) (g.O.Sink.state c.stop_roll.new.out))
+          c.in-Err.no _ _ c.in-Err.ensures.no c.stop_roll.ensures refl refl refl refl c.new.ensures.items);
       feeds = c.in-Err.ensures.feeds;
     }

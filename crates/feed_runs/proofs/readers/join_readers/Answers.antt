@@ -16,7 +16,7 @@ loop-reader-preserved g c = let inv = c.loop-reader.invariant in record {
   joins = subst (λ (l : List Pass). Joins c.args.first.now l c.join_next.new.first) (sym (map-append (λ r. r.pass) c.loop-reader.yielded _))
       (c.join_next.ensures.joins c.args.first.now _ inv.joins);
   knows = λ name. ((λ here. (inv.knows name).0 ((c.close.ensures.known name).0 here)), (λ there. (c.close.ensures.known name).1 ((inv.knows name).1 there)));
-  counts = subst (λ l. CountsFeeds g.S.Feed.Feed.name g.S.Feed.Feed.faults l (g.S.Shelf.reading_faults c.args.shelf.now) (g.S.Shelf.reading_faults c.close.new.self))
+  counts = subst (λ l. CountsFeeds g.S.Feed.Feed.name g.S.Feed.Feed.faults l (g.S.Shelf.state c.args.shelf.now).reading (g.S.Shelf.state c.close.new.self).reading)
       (sym (map-append (λ r. r.feed) c.loop-reader.yielded _))
       (one_closed g.S.Feed.Feed.name g.S.Feed.Feed.faults (map (λ r. r.feed) c.loop-reader.yielded) c.in-Some.reader.feed _ _ _ inv.counts (record {
         exactly = c.close.ensures.failed;
@@ -40,11 +40,11 @@ pub returns-clause-counts : goal.returns-clause-counts
 returns-clause-counts g c =
     let gives = c.into_iter-reader-iterator.ensures.into_iter_gives in
     let seen = YieldsList-end (YieldsList-from_vec c.args.readers.items gives.0 (search rules)) c.loop-reader.yielded c.loop-reader.reader-iterator c.loop-reader.yielded_by c.next.result c.next.new.self c.in-None.is c.next.ensures.steps in
-    subst (λ readers. CountsFeeds g.S.Feed.Feed.name g.S.Feed.Feed.faults (map (λ r. r.feed) readers) (g.S.Shelf.reading_faults c.args.shelf.now) (g.S.Shelf.reading_faults c.loop-reader.shelf))
+    subst (λ readers. CountsFeeds g.S.Feed.Feed.name g.S.Feed.Feed.faults (map (λ r. r.feed) readers) (g.S.Shelf.state c.args.shelf.now).reading (g.S.Shelf.state c.loop-reader.shelf).reading)
     (sym (map-id c.loop-reader.yielded) ∙ seen.0) c.loop-reader.invariant.counts
 
 pub returns-clause-closed : goal.returns-clause-closed
 returns-clause-closed g c =
     let gives = c.into_iter-reader-iterator.ensures.into_iter_gives in
     let seen = YieldsList-end (YieldsList-from_vec c.args.readers.items gives.0 (search rules)) c.loop-reader.yielded c.loop-reader.reader-iterator c.loop-reader.yielded_by c.next.result c.next.new.self c.in-None.is c.next.ensures.steps in
-    subst (λ readers. g.S.Shelf.open_feeds c.loop-reader.shelf ≡ g.S.Shelf.open_feeds c.args.shelf.now - length readers) (sym (map-id c.loop-reader.yielded) ∙ seen.0) c.loop-reader.invariant.closed
+    subst (λ readers. (g.S.Shelf.state c.loop-reader.shelf).open_feeds ≡ (g.S.Shelf.state c.args.shelf.now).open_feeds - length readers) (sym (map-id c.loop-reader.yielded) ∙ seen.0) c.loop-reader.invariant.closed

@@ -10,16 +10,9 @@ returns-in_err-print_entry-clause-printed g c =
     rw (p.1, p.2)
     (stopped_at (option_map (λ prefix. prefix.now) c.args.trees) c.args.entries.now
     c.loop-entry.entry-index c.entry-item.result
-    (outside (g.S.Shelf.holds c.args.shelf.now) (g.S.Shelf.reading_faults c.args.shelf.now)
-    (g.S.Shelf.putting_faults c.args.shelf.now) (g.O.Sink.faults c.args.out.now)
-    (g.O.Sink.written c.args.out.now))
-    (outside (g.S.Shelf.holds c.loop-entry.shelf) (g.S.Shelf.reading_faults c.loop-entry.shelf)
-    (g.S.Shelf.putting_faults c.loop-entry.shelf) (g.O.Sink.faults c.loop-entry.out)
-    (g.O.Sink.written c.loop-entry.out))
-    (outside (g.S.Shelf.holds c.print_entry.new.shelf)
-    (g.S.Shelf.reading_faults c.print_entry.new.shelf)
-    (g.S.Shelf.putting_faults c.print_entry.new.shelf) (g.O.Sink.faults c.print_entry.new.out)
-    (g.O.Sink.written c.print_entry.new.out))
+    (outside (g.S.Shelf.state c.args.shelf.now) (g.O.Sink.state c.args.out.now))
+    (outside (g.S.Shelf.state c.loop-entry.shelf) (g.O.Sink.state c.loop-entry.out))
+    (outside (g.S.Shelf.state c.print_entry.new.shelf) (g.O.Sink.state c.print_entry.new.out))
     c.in_err-print_entry.field-0.0 c.loop-entry-test.true c.entry-item.is
     c.loop-entry.invariant.printed
     c.in_err-print_entry.ensures.printed)
@@ -28,16 +21,9 @@ pub loop-entry-preserved : goal.loop-entry-preserved
 loop-entry-preserved g c = record {
   printed = all_at (option_map (λ prefix. prefix.now) c.args.trees) c.args.entries.now
       c.loop-entry.entry-index c.entry-item.result
-      (outside (g.S.Shelf.holds c.args.shelf.now) (g.S.Shelf.reading_faults c.args.shelf.now)
-      (g.S.Shelf.putting_faults c.args.shelf.now) (g.O.Sink.faults c.args.out.now)
-      (g.O.Sink.written c.args.out.now))
-      (outside (g.S.Shelf.holds c.loop-entry.shelf) (g.S.Shelf.reading_faults c.loop-entry.shelf)
-      (g.S.Shelf.putting_faults c.loop-entry.shelf) (g.O.Sink.faults c.loop-entry.out)
-      (g.O.Sink.written c.loop-entry.out))
-      (outside (g.S.Shelf.holds c.print_entry.new.shelf)
-      (g.S.Shelf.reading_faults c.print_entry.new.shelf)
-      (g.S.Shelf.putting_faults c.print_entry.new.shelf) (g.O.Sink.faults c.print_entry.new.out)
-      (g.O.Sink.written c.print_entry.new.out))
+      (outside (g.S.Shelf.state c.args.shelf.now) (g.O.Sink.state c.args.out.now))
+      (outside (g.S.Shelf.state c.loop-entry.shelf) (g.O.Sink.state c.loop-entry.out))
+      (outside (g.S.Shelf.state c.print_entry.new.shelf) (g.O.Sink.state c.print_entry.new.out))
       c.loop-entry-test.true c.entry-item.is c.loop-entry.invariant.printed
       c.in_ok-print_entry.ensures.printed.all;
   known = λ name known. c.print_entry.ensures.known name (c.loop-entry.invariant.known name known);

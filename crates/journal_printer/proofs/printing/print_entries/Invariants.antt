@@ -8,12 +8,8 @@ abbrev pub invariant-loop-entry : goal.invariant-loop-entry
 invariant-loop-entry g l = record {
   printed : PrintsAll (option_map (λ prefix. prefix.now) l.trees)
       (take l.entry-index l.entries)
-      (outside (g.S.Shelf.holds l.fn.shelf) (g.S.Shelf.reading_faults l.fn.shelf)
-      (g.S.Shelf.putting_faults l.fn.shelf)
-      (g.O.Sink.faults l.fn.out) (g.O.Sink.written l.fn.out))
-      (outside (g.S.Shelf.holds l.shelf) (g.S.Shelf.reading_faults l.shelf)
-      (g.S.Shelf.putting_faults l.shelf)
-      (g.O.Sink.faults l.out) (g.O.Sink.written l.out));
+      (outside (g.S.Shelf.state l.fn.shelf) (g.O.Sink.state l.fn.out))
+      (outside (g.S.Shelf.state l.shelf) (g.O.Sink.state l.out));
   known : (name : List ℕ) → g.S.Shelf.knows l.fn.shelf name → g.S.Shelf.knows l.shelf name;
-  feeds : g.S.Shelf.open_feeds l.shelf ≡ g.S.Shelf.open_feeds l.fn.shelf;
+  feeds : (g.S.Shelf.state l.shelf).open_feeds ≡ (g.S.Shelf.state l.fn.shelf).open_feeds;
 }

@@ -10,12 +10,8 @@ returns-in_err-put_tree-clause-printed g c =
     let p = err_from_is_err_and c.from_residual.result c.from_residual.ensures.1 in
     rw (p.1, p.2)
     (one_unput (option_map (λ prefix. prefix.now) c.args.trees) c.args.entry.now
-    (outside (g.S.Shelf.holds c.args.shelf.now) (g.S.Shelf.reading_faults c.args.shelf.now)
-    (g.S.Shelf.putting_faults c.args.shelf.now) (g.O.Sink.faults c.args.out.now)
-    (g.O.Sink.written c.args.out.now))
-    (outside (g.S.Shelf.holds c.put_tree.new.shelf) (g.S.Shelf.reading_faults c.put_tree.new.shelf)
-    (g.S.Shelf.putting_faults c.put_tree.new.shelf) (g.O.Sink.faults c.args.out.now)
-    (g.O.Sink.written c.args.out.now))
+    (outside (g.S.Shelf.state c.args.shelf.now) (g.O.Sink.state c.args.out.now))
+    (outside (g.S.Shelf.state c.put_tree.new.shelf) (g.O.Sink.state c.args.out.now))
     c.in_err-put_tree.field-0.0
     (λ h. c.in_err-put_tree.ensures.failed (ap Err h))
     (λ h. c.in_err-put_tree.ensures.memory (ap Err h))
@@ -28,12 +24,8 @@ returns-in_err-write_line-clause-printed g c =
     c.from_residual-in_err-write_line.ensures.1 in
     rw (p.1, p.2)
     (one_unwritten (option_map (λ prefix. prefix.now) c.args.trees) c.args.entry.now
-    (outside (g.S.Shelf.holds c.args.shelf.now) (g.S.Shelf.reading_faults c.args.shelf.now)
-    (g.S.Shelf.putting_faults c.args.shelf.now) (g.O.Sink.faults c.args.out.now)
-    (g.O.Sink.written c.args.out.now))
-    (outside (g.S.Shelf.holds c.put_tree.new.shelf) (g.S.Shelf.reading_faults c.put_tree.new.shelf)
-    (g.S.Shelf.putting_faults c.put_tree.new.shelf) (g.O.Sink.faults c.write_line.new.out)
-    (g.O.Sink.written c.write_line.new.out))
+    (outside (g.S.Shelf.state c.args.shelf.now) (g.O.Sink.state c.args.out.now))
+    (outside (g.S.Shelf.state c.put_tree.new.shelf) (g.O.Sink.state c.write_line.new.out))
     c.in_err-write_line.field-0.0
     c.in_ok-put_tree.ensures.ok
     (λ name. stays _ _ (c.in_ok-put_tree.ensures.others name).never_falls

@@ -15,7 +15,7 @@ loop-reader-preserved g c =
     let before = inv.closed in let one = c.close.ensures.closed in
     record {
       knows = λ name. ((λ here. (inv.knows name).0 ((c.close.ensures.known name).0 here)), (λ there. (c.close.ensures.known name).1 ((inv.knows name).1 there)));
-      counts = λ name. same_all (g.S.Feed.Feed.name reader.feed) (g.S.Shelf.reading_faults c.loop-reader.shelf) (g.S.Shelf.reading_faults c.close.new.self)
+      counts = λ name. same_all (g.S.Feed.Feed.name reader.feed) (g.S.Shelf.state c.loop-reader.shelf).reading (g.S.Shelf.state c.close.new.self).reading
           (stays _ _ c.close.ensures.counted (λ rises. let broken = c.close.ensures.failed.1 rises in absurd (omega (arith, broken, none)))) c.close.ensures.other_counts name ∙ inv.counts name;
       puttings = λ name. c.close.ensures.putting_counts name ∙ inv.puttings name;
       held = λ name. c.close.ensures.held name ∙ inv.held name;
@@ -26,4 +26,4 @@ pub returns-clause-closed : goal.returns-clause-closed
 returns-clause-closed g c =
     let gives = c.into_iter-reader-iterator.ensures.into_iter_gives in
     let seen = YieldsList-end (YieldsList-from_vec c.args.readers.items gives.0 (search rules)) c.loop-reader.yielded c.loop-reader.reader-iterator c.loop-reader.yielded_by c.next.result c.next.new.self c.in-None.is c.next.ensures.steps in
-    subst (λ readers. g.S.Shelf.open_feeds c.loop-reader.shelf ≡ g.S.Shelf.open_feeds c.args.shelf.now - length readers) (sym (map-id c.loop-reader.yielded) ∙ seen.0) c.loop-reader.invariant.closed
+    subst (λ readers. (g.S.Shelf.state c.loop-reader.shelf).open_feeds ≡ (g.S.Shelf.state c.args.shelf.now).open_feeds - length readers) (sym (map-id c.loop-reader.yielded) ∙ seen.0) c.loop-reader.invariant.closed

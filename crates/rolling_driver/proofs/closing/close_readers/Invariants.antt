@@ -5,8 +5,8 @@ use Rattle.rolling_driver.proofs.closing.close_readers.Given as goal
 abbrev pub invariant-loop-reader : goal.invariant-loop-reader
 invariant-loop-reader g l = record {
   knows : (name : List ℕ) → g.S.Shelf.knows l.shelf name ↔ g.S.Shelf.knows l.fn.shelf name;
-  counts : (name : List ℕ) → g.S.Shelf.reading_faults l.shelf name ≡ g.S.Shelf.reading_faults l.fn.shelf name;
-  puttings : (name : List ℕ) → g.S.Shelf.putting_faults l.shelf name ≡ g.S.Shelf.putting_faults l.fn.shelf name;
-  held : (name : List ℕ) → g.S.Shelf.holds l.shelf name ≡ g.S.Shelf.holds l.fn.shelf name;
-  closed : g.S.Shelf.open_feeds l.shelf ≡ g.S.Shelf.open_feeds l.fn.shelf - length l.yielded;
+  counts : (name : List ℕ) → (g.S.Shelf.state l.shelf).reading name ≡ (g.S.Shelf.state l.fn.shelf).reading name;
+  puttings : (name : List ℕ) → (g.S.Shelf.state l.shelf).putting name ≡ (g.S.Shelf.state l.fn.shelf).putting name;
+  held : (name : List ℕ) → (g.S.Shelf.state l.shelf).holds name ≡ (g.S.Shelf.state l.fn.shelf).holds name;
+  closed : (g.S.Shelf.state l.shelf).open_feeds ≡ (g.S.Shelf.state l.fn.shelf).open_feeds - length l.yielded;
 }

@@ -1,6 +1,7 @@
 use Rattle.std.proofs.Common.{◌≡◌, ◌∙◌, ℕ, List, All, Contains, drop, length, map, option_map, sym, subst}
 use Rattle.disp_model.specs.declared.entry.Entry.{Entry}
-use Rattle.text_puts.specs.Outside.{Counts, outside}
+use Rattle.disp_outside.specs.States.{Counts}
+use Rattle.text_puts.specs.Outside.{outside}
 use Rattle.turn_lock.specs.Known.{StartsWith}
 use Rattle.shared_board.specs.declared.pass.Pass.{Pass}
 use Rattle.shared_board.specs.Board.{known, fetched}
@@ -26,11 +27,9 @@ returns g c =
     let readers = c.args.readers.items in let searchers = c.args.searchers.items in let may = c.requires.may in
     let one = c.join_readers.ensures.joins in let two = c.join_searchers.ensures in let watches = c.print_rest-printed.ensures.watches in let closed = c.close_run-closed.ensures in
     let trees = option_map (λ prefix. prefix.now) c.args.trees in
-    let old = outside (g.S.Shelf.holds c.args.shelf.now) (g.S.Shelf.reading_faults c.args.shelf.now) (g.S.Shelf.putting_faults c.args.shelf.now) (g.O.Sink.faults c.args.out.now) (g.O.Sink.written c.args.out.now) in
-    let mid = outside (g.S.Shelf.holds c.join_readers.new.shelf) (g.S.Shelf.reading_faults c.join_readers.new.shelf) (g.S.Shelf.putting_faults c.join_readers.new.shelf) (g.O.Sink.faults c.args.out.now)
-    (g.O.Sink.written c.args.out.now) in
-    let new = outside (g.S.Shelf.holds c.print_rest-printed.new.shelf) (g.S.Shelf.reading_faults c.print_rest-printed.new.shelf) (g.S.Shelf.putting_faults c.print_rest-printed.new.shelf)
-    (g.O.Sink.faults c.print_rest-printed.new.out) (g.O.Sink.written c.print_rest-printed.new.out) in
+    let old = outside (g.S.Shelf.state c.args.shelf.now) (g.O.Sink.state c.args.out.now) in
+    let mid = outside (g.S.Shelf.state c.join_readers.new.shelf) (g.O.Sink.state c.args.out.now) in
+    let new = outside (g.S.Shelf.state c.print_rest-printed.new.shelf) (g.O.Sink.state c.print_rest-printed.new.out) in
     let same : with_readings mid old.reading ≡ old = λ i. record old { holds = λ name. c.join_readers.ensures.held name i; putting = λ name. c.join_readers.ensures.puttings name i } in
     let fetched_is : fetched both ≡ fetched first = two.fetched_is ∙ one.fetched_is in
     let printed = subst (λ (n : ℕ). PrintsBehind trees (drop n (known last).seen) mid new c.args.printed c.print_rest-printed.result) fetched_is c.print_rest-printed.ensures.printed in

@@ -8,6 +8,4 @@ pub returns-in_default-clause-printed : goal.returns-in_default-clause-printed
 returns-in_default-clause-printed g c =
     journal_none (option_map (λ prefix. prefix.now) c.args.trees)
     (drop (fetched c.args.pass.now) (known c.news.new.pass).seen)
-    (outside (g.S.Shelf.holds c.args.shelf.now) (g.S.Shelf.reading_faults c.args.shelf.now)
-    (g.S.Shelf.putting_faults c.args.shelf.now) (g.O.Sink.faults c.args.out.now)
-    (g.O.Sink.written c.args.out.now))
+    (outside (g.S.Shelf.state c.args.shelf.now) (g.O.Sink.state c.args.out.now))

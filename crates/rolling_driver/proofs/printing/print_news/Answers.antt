@@ -10,16 +10,9 @@ returns-in_err-print_new-clause-printed g c =
     rw (p.1, p.2)
     (journal_on (option_map (λ prefix. prefix.now) c.args.trees) c.args.pass.now c.loop.pass
     c.print_new.new.pass
-    (outside (g.S.Shelf.holds c.args.shelf.now) (g.S.Shelf.reading_faults c.args.shelf.now)
-    (g.S.Shelf.putting_faults c.args.shelf.now) (g.O.Sink.faults c.args.out.now)
-    (g.O.Sink.written c.args.out.now))
-    (outside (g.S.Shelf.holds c.loop.shelf) (g.S.Shelf.reading_faults c.loop.shelf)
-    (g.S.Shelf.putting_faults c.loop.shelf) (g.O.Sink.faults c.loop.out)
-    (g.O.Sink.written c.loop.out))
-    (outside (g.S.Shelf.holds c.print_new.new.shelf)
-    (g.S.Shelf.reading_faults c.print_new.new.shelf)
-    (g.S.Shelf.putting_faults c.print_new.new.shelf) (g.O.Sink.faults c.print_new.new.out)
-    (g.O.Sink.written c.print_new.new.out))
+    (outside (g.S.Shelf.state c.args.shelf.now) (g.O.Sink.state c.args.out.now))
+    (outside (g.S.Shelf.state c.loop.shelf) (g.O.Sink.state c.loop.out))
+    (outside (g.S.Shelf.state c.print_new.new.shelf) (g.O.Sink.state c.print_new.new.out))
     c.loop.invariant.so_far c.in_err-print_new.ensures.watches (Err c.in_err-print_new.field-0.0)
     c.in_err-print_new.ensures.printed)
 
@@ -27,16 +20,9 @@ pub returns-then-over-clause-printed : goal.returns-then-over-clause-printed
 returns-then-over-clause-printed g c =
     journal_on (option_map (λ prefix. prefix.now) c.args.trees) c.args.pass.now c.loop.pass
     c.print_new.new.pass
-    (outside (g.S.Shelf.holds c.args.shelf.now) (g.S.Shelf.reading_faults c.args.shelf.now)
-    (g.S.Shelf.putting_faults c.args.shelf.now) (g.O.Sink.faults c.args.out.now)
-    (g.O.Sink.written c.args.out.now))
-    (outside (g.S.Shelf.holds c.loop.shelf) (g.S.Shelf.reading_faults c.loop.shelf)
-    (g.S.Shelf.putting_faults c.loop.shelf) (g.O.Sink.faults c.loop.out)
-    (g.O.Sink.written c.loop.out))
-    (outside (g.S.Shelf.holds c.print_new.new.shelf)
-    (g.S.Shelf.reading_faults c.print_new.new.shelf)
-    (g.S.Shelf.putting_faults c.print_new.new.shelf) (g.O.Sink.faults c.print_new.new.out)
-    (g.O.Sink.written c.print_new.new.out))
+    (outside (g.S.Shelf.state c.args.shelf.now) (g.O.Sink.state c.args.out.now))
+    (outside (g.S.Shelf.state c.loop.shelf) (g.O.Sink.state c.loop.out))
+    (outside (g.S.Shelf.state c.print_new.new.shelf) (g.O.Sink.state c.print_new.new.out))
     c.loop.invariant.so_far c.in_ok-print_new.ensures.watches (Ok tt)
     c.in_ok-print_new.ensures.printed
 
@@ -45,16 +31,9 @@ loop-preserved g c = record {
   board = c.in_ok-print_new.ensures.watches.board_is ∙ c.loop.invariant.board;
   so_far = printed_on (option_map (λ prefix. prefix.now) c.args.trees) c.args.pass.now c.loop.pass
       c.print_new.new.pass
-      (outside (g.S.Shelf.holds c.args.shelf.now) (g.S.Shelf.reading_faults c.args.shelf.now)
-      (g.S.Shelf.putting_faults c.args.shelf.now) (g.O.Sink.faults c.args.out.now)
-      (g.O.Sink.written c.args.out.now))
-      (outside (g.S.Shelf.holds c.loop.shelf) (g.S.Shelf.reading_faults c.loop.shelf)
-      (g.S.Shelf.putting_faults c.loop.shelf) (g.O.Sink.faults c.loop.out)
-      (g.O.Sink.written c.loop.out))
-      (outside (g.S.Shelf.holds c.print_new.new.shelf)
-      (g.S.Shelf.reading_faults c.print_new.new.shelf)
-      (g.S.Shelf.putting_faults c.print_new.new.shelf) (g.O.Sink.faults c.print_new.new.out)
-      (g.O.Sink.written c.print_new.new.out))
+      (outside (g.S.Shelf.state c.args.shelf.now) (g.O.Sink.state c.args.out.now))
+      (outside (g.S.Shelf.state c.loop.shelf) (g.O.Sink.state c.loop.out))
+      (outside (g.S.Shelf.state c.print_new.new.shelf) (g.O.Sink.state c.print_new.new.out))
       c.loop.invariant.so_far c.in_ok-print_new.ensures.watches c.in_ok-print_new.ensures.fetched
       c.in_ok-print_new.ensures.printed;
   known = λ name known. c.print_new.ensures.known name (c.loop.invariant.known name known);

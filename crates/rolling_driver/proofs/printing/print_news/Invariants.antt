@@ -9,12 +9,8 @@ abbrev pub invariant-loop : goal.invariant-loop
 invariant-loop g l = record {
   board : own_board l.pass ≡ board_of l.board;
   so_far : HasPrinted (option_map (λ prefix. prefix.now) l.trees) l.initial.pass l.pass
-      (outside (g.S.Shelf.holds l.initial.shelf) (g.S.Shelf.reading_faults l.initial.shelf)
-      (g.S.Shelf.putting_faults l.initial.shelf)
-      (g.O.Sink.faults l.initial.out) (g.O.Sink.written l.initial.out))
-      (outside (g.S.Shelf.holds l.shelf) (g.S.Shelf.reading_faults l.shelf)
-      (g.S.Shelf.putting_faults l.shelf)
-      (g.O.Sink.faults l.out) (g.O.Sink.written l.out));
+      (outside (g.S.Shelf.state l.initial.shelf) (g.O.Sink.state l.initial.out))
+      (outside (g.S.Shelf.state l.shelf) (g.O.Sink.state l.out));
   known : (name : List ℕ) → g.S.Shelf.knows l.initial.shelf name → g.S.Shelf.knows l.shelf name;
-  feeds : g.S.Shelf.open_feeds l.shelf ≡ g.S.Shelf.open_feeds l.initial.shelf;
+  feeds : (g.S.Shelf.state l.shelf).open_feeds ≡ (g.S.Shelf.state l.initial.shelf).open_feeds;
 }

@@ -48,11 +48,9 @@ returns g c =
     let readers_are = written run.readers.len run.readers.items after read.as_many (search rules) in
     let searchers_are = written run.searchers.len run.searchers.items hands ran.as_many (search rules) in
     let trees = option_map (λ prefix. prefix.now) c.args.trees in
-    let old = outside (g.S.Shelf.holds c.open_run.new.shelf) (g.S.Shelf.reading_faults c.open_run.new.shelf) (g.S.Shelf.putting_faults c.open_run.new.shelf) (g.O.Sink.faults c.args.out.now) (g.O.Sink.written c.args.out.now) in
-    let mid = outside (g.S.Shelf.holds c.run_all-printed.new.shelf) (g.S.Shelf.reading_faults c.run_all-printed.new.shelf) (g.S.Shelf.putting_faults c.run_all-printed.new.shelf)
-    (g.O.Sink.faults c.run_all-printed.new.out) (g.O.Sink.written c.run_all-printed.new.out) in
-    let new = outside (g.S.Shelf.holds c.end_run-core.new.shelf) (g.S.Shelf.reading_faults c.end_run-core.new.shelf) (g.S.Shelf.putting_faults c.end_run-core.new.shelf)
-    (g.O.Sink.faults c.end_run-core.new.out) (g.O.Sink.written c.end_run-core.new.out) in
+    let old = outside (g.S.Shelf.state c.open_run.new.shelf) (g.O.Sink.state c.args.out.now) in
+    let mid = outside (g.S.Shelf.state c.run_all-printed.new.shelf) (g.O.Sink.state c.run_all-printed.new.out) in
+    let new = outside (g.S.Shelf.state c.end_run-core.new.shelf) (g.O.Sink.state c.end_run-core.new.out) in
     let core = c.end_run-core.result.0 in let told = c.end_run-core.result.1 in let first = c.run_all-printed.new.first in
     let ended = subst (λ (l : List Searcher). IsEnded g.S.Feed.Feed.name g.S.Feed.Feed.faults trees first after l c.run_all-printed.result mid new core told) searchers_are
     (subst (λ l. IsEnded g.S.Feed.Feed.name g.S.Feed.Feed.faults trees first l (take run.searchers.len (hands ++ drop (length hands) run.searchers.items)) c.run_all-printed.result mid new core told) readers_are
@@ -65,7 +63,7 @@ returns g c =
     record {
       rolled =
           subst (λ s. IsRolled c.args.problem.now c.args.settings trees (fed g.S.Feed.Feed.name g.S.Feed.Feed.lines c.args.feeds.items)
-          (outside (g.S.Shelf.holds s) (g.S.Shelf.reading_faults s) (g.S.Shelf.putting_faults s) (g.O.Sink.faults c.args.out.now) (g.O.Sink.written c.args.out.now))
+          (outside (g.S.Shelf.state s) (g.O.Sink.state c.args.out.now))
           new c.into_history.result.items c.status_of.result) c.in_ok-board.ensures.same
           (subst (λ (journal : List Entry). IsRolled c.args.problem.now c.args.settings trees (fed g.S.Feed.Feed.name g.S.Feed.Feed.lines c.args.feeds.items) old new journal c.status_of.result)
           (sym c.into_history.ensures) all);
@@ -73,14 +71,14 @@ returns g c =
       closed =
           let long = ap (λ l. length l) readers_are ∙ (read.as_many ∙ (sym (length-map run.readers.items (λ r. r.feed)) ∙ ap (λ l. length l) c.in_ok-board.ensures.opened.feeds_are)) in
           c.end_run-core.ensures.closed
-          ∙ (ap (λ (n : ℕ). g.S.Shelf.open_feeds c.run_all-printed.new.shelf - n) long
-          ∙ (ap (λ (n : ℕ). n - length c.args.feeds.items) said.feeds ∙ ap (λ s. g.S.Shelf.open_feeds s - length c.args.feeds.items) c.in_ok-board.ensures.same));
+          ∙ (ap (λ (n : ℕ). (g.S.Shelf.state c.run_all-printed.new.shelf).open_feeds - n) long
+          ∙ (ap (λ (n : ℕ). n - length c.args.feeds.items) said.feeds ∙ ap (λ s. (g.S.Shelf.state s).open_feeds - length c.args.feeds.items) c.in_ok-board.ensures.same));
     }
 
 pub returns-in_err-board-clause-refused : goal.returns-in_err-board-clause-refused
 returns-in_err-board-clause-refused g c =
     let p = err_from_is_err_and c.from_residual.result c.from_residual.ensures.1 in
-    let new = outside (g.S.Shelf.holds c.open_run.new.shelf) (g.S.Shelf.reading_faults c.open_run.new.shelf) (g.S.Shelf.putting_faults c.open_run.new.shelf) (g.O.Sink.faults c.args.out.now) (g.O.Sink.written c.args.out.now) in
-    let old = outside (g.S.Shelf.holds c.args.shelf.now) (g.S.Shelf.reading_faults c.args.shelf.now) (g.S.Shelf.putting_faults c.args.shelf.now) (g.O.Sink.faults c.args.out.now) (g.O.Sink.written c.args.out.now) in
+    let new = outside (g.S.Shelf.state c.open_run.new.shelf) (g.O.Sink.state c.args.out.now) in
+    let old = outside (g.S.Shelf.state c.args.shelf.now) (g.O.Sink.state c.args.out.now) in
     let same : new ≡ old = λ i. record old { holds = λ name. c.in_err-board.ensures.held name i; reading = λ name. c.in_err-board.ensures.counts name i; putting = λ name. c.in_err-board.ensures.puttings name i } in
     rw p.1 same

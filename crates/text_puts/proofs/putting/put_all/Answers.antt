@@ -13,10 +13,10 @@ returns-in_err-put-clause-failed g c is =
     let failed : c.in_err-put.field-0.0 ≡ Failed = cc (p.1, p.2, is) in
     misses_at _ _ _ _ _ _ _ _ _ _ (next_fails c.args.puts.now c.loop-due.due-index c.due-item.result
     c.in_err-put.field-0.0
-    (g.S.Shelf.holds c.args.shelf.now) (g.S.Shelf.holds c.loop-due.shelf)
-    (g.S.Shelf.holds c.put.new.self)
-    (g.S.Shelf.putting_faults c.args.shelf.now) (g.S.Shelf.putting_faults c.loop-due.shelf)
-    (g.S.Shelf.putting_faults c.put.new.self) c.as_str.result.now c.as_str.ensures
+    (g.S.Shelf.state c.args.shelf.now).holds (g.S.Shelf.state c.loop-due.shelf).holds
+    (g.S.Shelf.state c.put.new.self).holds
+    (g.S.Shelf.state c.args.shelf.now).putting (g.S.Shelf.state c.loop-due.shelf).putting
+    (g.S.Shelf.state c.put.new.self).putting c.as_str.result.now c.as_str.ensures
     c.loop-due-test.true c.due-item.is c.loop-due.invariant.stands c.loop-due.invariant.counts
     c.in_err-put.ensures.held c.in_err-put.ensures.other_counts c.in_err-put.ensures.counted
     (λ h. c.in_err-put.ensures.failed.0 (ap Err h))
@@ -29,10 +29,10 @@ returns-in_err-put-clause-memory g c is =
     let memory : c.in_err-put.field-0.0 ≡ Memory = cc (p.1, p.2, is) in
     unput_at _ _ _ _ _ _ _ _ _ _ (next_fails c.args.puts.now c.loop-due.due-index c.due-item.result
     c.in_err-put.field-0.0
-    (g.S.Shelf.holds c.args.shelf.now) (g.S.Shelf.holds c.loop-due.shelf)
-    (g.S.Shelf.holds c.put.new.self)
-    (g.S.Shelf.putting_faults c.args.shelf.now) (g.S.Shelf.putting_faults c.loop-due.shelf)
-    (g.S.Shelf.putting_faults c.put.new.self) c.as_str.result.now c.as_str.ensures
+    (g.S.Shelf.state c.args.shelf.now).holds (g.S.Shelf.state c.loop-due.shelf).holds
+    (g.S.Shelf.state c.put.new.self).holds
+    (g.S.Shelf.state c.args.shelf.now).putting (g.S.Shelf.state c.loop-due.shelf).putting
+    (g.S.Shelf.state c.put.new.self).putting c.as_str.result.now c.as_str.ensures
     c.loop-due-test.true c.due-item.is c.loop-due.invariant.stands c.loop-due.invariant.counts
     c.in_err-put.ensures.held c.in_err-put.ensures.other_counts c.in_err-put.ensures.counted
     (λ h. c.in_err-put.ensures.failed.0 (ap Err h))
@@ -42,10 +42,10 @@ returns-in_err-put-clause-memory g c is =
 pub returns-in_err-put-clause-others : goal.returns-in_err-put-clause-others
 returns-in_err-put-clause-others g c name = only_at _ _ _ _ _ _ _ _ _ _
     (next_fails c.args.puts.now c.loop-due.due-index c.due-item.result c.in_err-put.field-0.0
-    (g.S.Shelf.holds c.args.shelf.now) (g.S.Shelf.holds c.loop-due.shelf)
-    (g.S.Shelf.holds c.put.new.self)
-    (g.S.Shelf.putting_faults c.args.shelf.now) (g.S.Shelf.putting_faults c.loop-due.shelf)
-    (g.S.Shelf.putting_faults c.put.new.self) c.as_str.result.now c.as_str.ensures
+    (g.S.Shelf.state c.args.shelf.now).holds (g.S.Shelf.state c.loop-due.shelf).holds
+    (g.S.Shelf.state c.put.new.self).holds
+    (g.S.Shelf.state c.args.shelf.now).putting (g.S.Shelf.state c.loop-due.shelf).putting
+    (g.S.Shelf.state c.put.new.self).putting c.as_str.result.now c.as_str.ensures
     c.loop-due-test.true c.due-item.is c.loop-due.invariant.stands c.loop-due.invariant.counts
     c.in_err-put.ensures.held c.in_err-put.ensures.other_counts c.in_err-put.ensures.counted
     (λ h. c.in_err-put.ensures.failed.0 (ap Err h))
@@ -56,14 +56,14 @@ pub loop-due-preserved : goal.loop-due-preserved
 loop-due-preserved g c =
     let puts = c.args.puts.now in
     let i = c.loop-due.due-index in
-    let old = g.S.Shelf.holds c.args.shelf.now in
-    let new = g.S.Shelf.holds c.put.new.self in
-    let before = g.S.Shelf.putting_faults c.loop-due.shelf in
-    let behind = g.S.Shelf.putting_faults c.put.new.self in
+    let old = (g.S.Shelf.state c.args.shelf.now).holds in
+    let new = (g.S.Shelf.state c.put.new.self).holds in
+    let before = (g.S.Shelf.state c.loop-due.shelf).putting in
+    let behind = (g.S.Shelf.state c.put.new.self).putting in
     record {
       stands = subst (λ (l : List Put). StandsAfter l old new)
           (sym (one_more puts i c.due-item.result c.loop-due-test.true c.due-item.is))
-          (stands_next (take i puts) c.due-item.result old (g.S.Shelf.holds c.loop-due.shelf) new
+          (stands_next (take i puts) c.due-item.result old (g.S.Shelf.state c.loop-due.shelf).holds new
           c.as_str.result.now c.as_slice.result.now c.as_str.ensures c.as_slice.ensures
           c.loop-due.invariant.stands (c.in_ok-put.ensures.bytes (refl {a = true}))
           c.in_ok-put.ensures.held);

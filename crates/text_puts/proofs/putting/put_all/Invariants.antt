@@ -5,12 +5,12 @@ use Rattle.text_puts.proofs.putting.put_all.Given as goal
 
 abbrev pub invariant-loop-due : goal.invariant-loop-due
 invariant-loop-due g l = record {
-  stands : StandsAfter (take l.due-index l.puts) (g.S.Shelf.holds l.fn.shelf)
-      (g.S.Shelf.holds l.shelf);
-  counts : (name : List ℕ) → g.S.Shelf.putting_faults l.shelf name
-      ≡ g.S.Shelf.putting_faults l.fn.shelf name;
-  readings : (name : List ℕ) → g.S.Shelf.reading_faults l.shelf name
-      ≡ g.S.Shelf.reading_faults l.fn.shelf name;
+  stands : StandsAfter (take l.due-index l.puts) (g.S.Shelf.state l.fn.shelf).holds
+      (g.S.Shelf.state l.shelf).holds;
+  counts : (name : List ℕ) → (g.S.Shelf.state l.shelf).putting name
+      ≡ (g.S.Shelf.state l.fn.shelf).putting name;
+  readings : (name : List ℕ) → (g.S.Shelf.state l.shelf).reading name
+      ≡ (g.S.Shelf.state l.fn.shelf).reading name;
   known : (name : List ℕ) → g.S.Shelf.knows l.fn.shelf name → g.S.Shelf.knows l.shelf name;
-  feeds : g.S.Shelf.open_feeds l.shelf ≡ g.S.Shelf.open_feeds l.fn.shelf;
+  feeds : (g.S.Shelf.state l.shelf).open_feeds ≡ (g.S.Shelf.state l.fn.shelf).open_feeds;
 }
