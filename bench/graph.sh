@@ -3,8 +3,9 @@
 # and for its bound with walks, on problems of 10, 40 and 160 trains of 40 operations each over 60 blocks, in one
 # run:
 #     bench/graph.sh [TRAINS]..
-# Half of the orders of operations that meet are decided before the others are measured. The problems are made from
-# a seed. The program is proved, and built as the shipped one is, in a scratch folder that goes away. The proofs
+# First along a dive as a search makes it, from the root until all orders of neighbours on a block are decided; then on a
+# graph that no search would make, in which half of all orders of operations that meet are decided. The problems are made
+# from a seed. The program is proved, and built as the shipped one is, in a scratch folder that goes away. The proofs
 # take a few minutes, and less where the crates have been checked.
 set -eu
 sizes=("$@")
@@ -14,6 +15,7 @@ crates=(plain_values disp_model disp_laws json_claims fault_counts disp_outside 
     train_graphs displib_reader problem_facts train_orders route_marks route_sets event_windows event_arcs event_graph cost_bound)
 open_scratch graph_bench "$(for crate in "${crates[@]}"; do grep "^$crate[: ]" "$(dirname "$0")/../crates.txt"; done)
 graph_bench: disp_model disp_outside displib_reader event_graph cost_bound" "${crates[@]}"
+add_libraries "${crates[@]}"
 python3 - "${sizes[@]}" <<'PYTHON'
 import json, random, sys
 
@@ -54,6 +56,7 @@ use std::rt::Clock;
 use std::time::{Duration, Instant};
 
 const ROUNDS: u32 = 1000;
+const OPERATIONS: u32 = 40;
 
 fn meet(one: &Operation, other: &Operation) -> bool {
     one.listings
@@ -96,6 +99,52 @@ fn add_orders_of(found: &mut Vec<Decision>, first: Op, s: u32, a: &Operation, ot
         q = q.saturating_add(1);
     }
     Ok(())
+}
+
+/// The operation that came last on a resource.
+struct Latest {
+    resource: u32,
+    op: Op,
+}
+
+/// The orders of operations that come one after the other on a resource, by the places in their
+/// trains and then by the trains.
+fn neighbours(alloc: Global, problem: &Problem) -> io::Result<Vec<Decision>> {
+    let mut found = Vec::new(alloc);
+    let mut latest = Vec::new(alloc);
+    for op in 0..OPERATIONS {
+        let mut train = 0u32;
+        for operations in problem.trains.as_slice() {
+            if let Some(operation) = operations.as_slice().get(op as usize) {
+                add_neighbours(&mut found, &mut latest, Op { train, op }, operation)?;
+            }
+            train = train.saturating_add(1);
+        }
+    }
+    Ok(found)
+}
+
+fn add_neighbours(found: &mut Vec<Decision>, latest: &mut Vec<Latest>, op: Op, operation: &Operation) -> io::Result<()> {
+    for listing in operation.listings.as_slice() {
+        match comes_next(latest, listing.resource, op) {
+            Some(before) if before.train != op.train => found.push(Decision::First { a: before, b: op })?,
+            Some(_) => {}
+            None => latest.push(Latest { resource: listing.resource, op })?,
+        }
+    }
+    Ok(())
+}
+
+/// The operation that was last on the resource, which this one now is.
+fn comes_next(latest: &mut Vec<Latest>, resource: u32, op: Op) -> Option<Op> {
+    for last in latest.iter_mut() {
+        if last.resource == resource {
+            let before = last.op;
+            last.op = op;
+            return Some(before);
+        }
+    }
+    None
 }
 
 /// Each fork with its first successor.
@@ -178,6 +227,32 @@ fn add_each(graph: &mut Graph, decisions: &[Decision]) -> u32
     added
 }
 
+/// Adds those that are not refused, each after it was added and taken back.
+fn try_and_add_each(graph: &mut Graph, decisions: &[Decision]) -> u32
+    ensures { graph.new.problem ≡ graph.old.problem }
+{
+    let mut added = 0u32;
+    for decision in decisions {
+        if try_one(graph, *decision) && graph.extend(*decision).is_ok() {
+            added = added.saturating_add(1);
+        }
+    }
+    added
+}
+
+fn dive_times(rt: &(impl Clock + Print + AllocGlobal), problem: &Problem, graph: &mut Graph, twice: &mut Graph) -> io::Result<()>
+    ensures { graph.new.problem ≡ graph.old.problem }
+{
+    let orders = neighbours(rt.alloc(), problem)?;
+    let start = Instant::now(rt)?;
+    let decided = add_each(graph, &orders);
+    let once = per(start.elapsed(rt)?, decided);
+    let start = Instant::now(rt)?;
+    let tried = try_and_add_each(twice, &orders);
+    let both = per(start.elapsed(rt)?, tried);
+    println!(rt; "    {decided} orders of neighbours: added in {once:.2} each; added, taken back and added in {both:.2}")
+}
+
 fn order_times(rt: &(impl Clock + Print + AllocGlobal), problem: &Problem, graph: &mut Graph) -> io::Result<()>
     ensures { graph.new.problem ≡ graph.old.problem }
 {
@@ -227,10 +302,19 @@ fn measure(rt: &(impl Clock + Print + AllocGlobal), trains: u32, bytes: &[u8]) -
     let Ok(problem) = read_problem(rt.alloc(), bytes) else {
         return println!(rt; "no problem");
     };
+    println!(rt; "{trains} trains, microseconds")?;
     let Some(mut graph) = root(rt.alloc(), &problem) else {
         return println!(rt; "no graph");
     };
-    println!(rt; "{trains} trains, microseconds")?;
+    let Some(mut twice) = root(rt.alloc(), &problem) else {
+        return println!(rt; "no graph");
+    };
+    dive_times(rt, &problem, &mut graph, &mut twice)?;
+    route_times(rt, &problem, &mut graph)?;
+    cost_times(rt, &problem, &graph)?;
+    let Some(mut graph) = root(rt.alloc(), &problem) else {
+        return println!(rt; "no graph");
+    };
     order_times(rt, &problem, &mut graph)?;
     route_times(rt, &problem, &mut graph)?;
     cost_times(rt, &problem, &graph)
@@ -251,7 +335,7 @@ for trains in "${sizes[@]}"; do
 done
 printf '    Ok(())\n}\n' >> src/main.rt
 mkdir -p proofs/{try_each,add_each,root}
-for call in try_each add_each; do
+for call in try_each add_each try_and_add_each; do
     cat > proofs/$call/Invariants.antt <<PROOF
 use Rattle.std.proofs.Common.{◌≡◌}
 use Rattle.graph_bench.proofs.$call.Given as goal
