@@ -1,4 +1,4 @@
-use Rattle.std.proofs.Common.{◌≡◌, ◌∙◌, ◌<◌, ℕ, List, length, subst, arith}
+use Rattle.std.proofs.Common.{◌≡◌, ◌∙◌, ◌<◌, ℕ, List, length, refl, subst, arith}
 use Rattle.std.specs.Prelude.{Some, slice_get, get_or}
 use Rattle.std.proofs.lemmas.Option.{slice_get-get_or}
 use Rattle.disp_model.specs.declared.decision.Decision.{Decision}
@@ -18,8 +18,8 @@ returns c =
       bound_is = subst (λ (k : ℕ). slice_get bounds k ≡ Some bound) is_length (slice_get-get_or bounds c.len.result 0 within);
       one = c.in_ok-leaf.leaf;
       less = c.in_ok-leaf.bound;
-      left = subst (λ (above : List Decision). IsLeafLeft (node_at c.args.problem.now c.args.fixings.now above) c.args.leaf.now bound c.in_ok-leaf.leaf c.in_ok-leaf.bound)
+      left = subst (λ (above : List Decision). IsLeafLeft (node_at c.args.problem.now c.args.fixings.now above) c.args.leaf bound c.in_ok-leaf.leaf c.in_ok-leaf.bound)
           c.as_slice.ensures c.in_ok-leaf.ensures;
-      nodes_are = c.in_ok-push.ensures.items;
+      nodes_are = rw (c.in_ok-push.ensures.items, c.pack.ensures) refl;
       least_are = c.in_ok-push-2.ensures.items;
     }

@@ -2,5 +2,5 @@
 use Rattle.dispatch_core.proofs.Leaving.{IsLeftFrom}
 use Rattle.dispatch_core.proofs.left.left_of.Given as goal
 
-abbrev pub invariant-loop-node : goal.invariant-loop-node
-invariant-loop-node l = IsLeftFrom l.problem l.fixings l.decisions l.nodes l.bounds l.node-index l.pending.items l.left.nodes.items l.left.bounds.items
+abbrev pub invariant-loop-packed : goal.invariant-loop-packed
+invariant-loop-packed l = IsLeftFrom l.problem l.fixings l.decisions l.nodes l.bounds l.packed-index l.pending.items l.left.nodes.items l.left.bounds.items
