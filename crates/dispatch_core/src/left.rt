@@ -70,7 +70,8 @@ fn leave_leaf(
 {
     let bound = bounds[left.bounds.len()];
     let (leaf, bound) = leaf_left(alloc, problem, fixings, above.as_slice(), leaf, bound)?;
-    left.nodes.push(PackedNode::pack(alloc, TreeNode::Leaf(leaf)))?;
+    left.nodes
+        .push(PackedNode::pack(alloc, TreeNode::Leaf(leaf)))?;
     left.bounds.push(bound)?;
     Ok(())
 }

@@ -83,21 +83,35 @@ fn children_at(
     Err(Memory)
 }
 
+/// A new place that is to be filled: the greatest number that there was before the fragment, the
+/// place's own, how many nodes are kept before the one that fills it, and what it is so far.
+#[derive(Clone, Copy)]
+struct Vacancy {
+    last: usize,
+    number: usize,
+    shows: usize,
+    place: Place,
+}
+
 /// Makes a new place a branch, with new leaves for its children, and gives the number of the first.
 fn branch_out(
     alloc: Global,
     problem: &Problem,
-    last: usize,
-    grown: &mut Vec<Place>,
-    number: usize,
-    place: Place,
-    shows: usize,
+    vacancy: Vacancy,
     choice: Choice,
+    grown: &mut Vec<Place>,
 ) -> Result<usize, Memory>
-    requires { number - last < length grown.old.items }
-    ensures { IfOk result (λ first. (first ≡ last + length grown.old.items) × (grown.new.items
-        ≡ branched problem.now last shows number place choice grown.old.items)) }
+    requires { vacancy.number - vacancy.last < length grown.old.items }
+    ensures { IfOk result (λ first. (first ≡ vacancy.last + length grown.old.items)
+        × (grown.new.items ≡ branched problem.now vacancy.last vacancy.shows vacancy.number
+        vacancy.place choice grown.old.items)) }
 {
+    let Vacancy {
+        last,
+        number,
+        shows,
+        place,
+    } = vacancy;
     let Some(first) = last.checked_add(grown.len()) else {
         return Err(Memory);
     };
@@ -136,65 +150,62 @@ struct Step<'a> {
     left: &'a [u64],
 }
 
-/// Fills the place of a number with a leaf of a kind.
-fn fill_leaf<'a>(
-    last: usize,
-    shows: usize,
-    number: usize,
-    place: Place,
-    kind: Kind,
-    left: &'a [u64],
-    grown: &mut Vec<Place>,
-) -> Step<'a>
-    requires { number - last < length grown.old.items }
-    ensures grown { grown.new.items ≡ slice_set grown.old.items (number - last)
-        (leaf_as place shows kind (first_or_zero left.now)) }
-    ensures at { result.at ≡ place.next }
+/// Makes a new place a leaf of a kind.
+fn fill_leaf<'a>(vacancy: Vacancy, kind: Kind, left: &'a [u64], grown: &mut Vec<Place>) -> Step<'a>
+    requires { vacancy.number - vacancy.last < length grown.old.items }
+    ensures grown { grown.new.items
+        ≡ slice_set grown.old.items (vacancy.number - vacancy.last)
+        (leaf_as vacancy.place vacancy.shows kind (first_or_zero left.now)) }
+    ensures at { result.at ≡ vacancy.place.next }
     ensures left { result.left.now ≡ behind_first left.now }
 {
-    grown[number.saturating_sub(last)] = leaf_as(place, shows, kind, first_or_zero(left));
+    let leaf = leaf_as(vacancy.place, vacancy.shows, kind, first_or_zero(left));
+    grown[vacancy.number.saturating_sub(vacancy.last)] = leaf;
     Step {
-        at: place.next,
+        at: vacancy.place.next,
         left: behind_first(left),
     }
 }
 
-/// Fills the place of a number with a node.
-fn fill_at<'a>(
+/// What a leaf becomes with the new places behind it, and the splits.
+#[derive(Drop)]
+pub struct Grafted {
+    pub grown: Vec<Place>,
+    pub splits: List<Split>,
+}
+
+/// Fills a new place with a node, of which it is known what it is.
+fn fill_as<'a>(
     alloc: Global,
     problem: &Problem,
-    last: usize,
-    shows: usize,
-    number: usize,
-    place: Place,
+    vacancy: Vacancy,
     node: Outline,
     left: &'a [u64],
-    grown: &mut Vec<Place>,
-    splits: &mut List<Split>,
+    made: &mut Grafted,
 ) -> Result<Step<'a>, Memory>
-    requires { number - last < length grown.old.items }
-    ensures { IfOk result (λ step. IsGraft (fills_as problem.now last shows number place node
-        (record {
-          grown = grown.old.items;
-          at = Some number;
+    requires { vacancy.number - vacancy.last < length made.old.grown.items }
+    ensures { IfOk result (λ step. IsGraft (fills_as problem.now vacancy.last vacancy.shows
+        vacancy.number vacancy.place node (record {
+          grown = made.old.grown.items;
+          at = Some vacancy.number;
           bounds = left.now;
-          splits = splits.old;
-        })) grown.new.items step.at step.left.now splits.new) }
+          splits = made.old.splits;
+        })) made.new.grown.items step.at step.left.now made.new.splits) }
 {
     match node {
         Outline::Branch(choice) => {
-            splits.push(Split {
-                node: number as u128,
+            made.splits.push(Split {
+                node: vacancy.number as u128,
                 choice,
             })?;
-            let first = branch_out(alloc, problem, last, grown, number, place, shows, choice)?;
+            let first = branch_out(alloc, problem, vacancy, choice, &mut made.grown)?;
             Ok(Step {
                 at: Some(first),
                 left,
             })
         }
-        Outline::Dead => Ok(fill_leaf(last, shows, number, place, Kind::Dead, left, grown)),
-        Outline::Open => Ok(fill_leaf(last, shows, number, place, Kind::Open, left, grown)),
+        Outline::Dead => Ok(fill_leaf(vacancy, Kind::Dead, left, &mut made.grown)),
+        Outline::Open => Ok(fill_leaf(vacancy, Kind::Open, left, &mut made.grown)),
     }
 }
 
@@ -211,45 +222,31 @@ fn fill<'a>(
     problem: &Problem,
     last: usize,
     shows: usize,
-    at: Option<usize>,
+    step: Step<'a>,
     node: &PackedNode,
-    left: &'a [u64],
-    grown: &mut Vec<Place>,
-    splits: &mut List<Split>,
+    made: &mut Grafted,
 ) -> Result<Step<'a>, Memory>
-    ensures { IfOk result (λ step. IsGraft (fills problem.now last shows at node.now (record {
-      grown = grown.old.items;
-      at = at;
-      bounds = left.now;
-      splits = splits.old;
+    ensures { IfOk result (λ next. IsGraft (fills problem.now last shows step.entry.at node.now (record {
+      grown = made.old.grown.items;
+      at = step.entry.at;
+      bounds = step.entry.left.now;
+      splits = made.old.splits;
     }))
-        grown.new.items step.at step.left.now splits.new) }
+        made.new.grown.items next.at next.left.now made.new.splits) }
 {
-    let Some(number) = at else {
-        return Ok(Step { at, left });
+    let Some(number) = step.at else {
+        return Ok(step);
     };
-    let Some(place) = place_at(grown, number.saturating_sub(last)) else {
-        return Ok(Step { at, left });
+    let Some(place) = place_at(&made.grown, number.saturating_sub(last)) else {
+        return Ok(step);
     };
-    fill_at(
-        alloc,
-        problem,
+    let vacancy = Vacancy {
         last,
-        shows,
         number,
+        shows,
         place,
-        node.outline(),
-        left,
-        grown,
-        splits,
-    )
-}
-
-/// What a leaf becomes with the new places behind it, and the splits.
-#[derive(Drop)]
-pub struct Grafted {
-    pub grown: Vec<Place>,
-    pub splits: List<Split>,
+    };
+    fill_as(alloc, problem, vacancy, node.outline(), step.left, made)
 }
 
 /// Grows the nodes of a fragment from a leaf of a number, in preorder. `last` is the greatest
@@ -268,28 +265,20 @@ pub fn graft(
     ensures { IfOk result (λ made. IsGrafted (grafted problem.now last shows subtree.now
         (ungrown place number bounds.now)) made.grown.items made.splits) }
 {
-    let mut at = Some(number);
-    let mut left = bounds;
-    let mut splits = List::new(alloc);
-    let mut grown = Vec::new(alloc);
-    grown.push(Place { out: None, ..place })?;
+    let mut made = Grafted {
+        grown: Vec::new(alloc),
+        splits: List::new(alloc),
+    };
+    made.grown.push(Place { out: None, ..place })?;
+    let mut step = Step {
+        at: Some(number),
+        left: bounds,
+    };
     for (k, node) in subtree.iter().enumerate() {
         let shown = shows + k;
-        let step = fill(
-            alloc,
-            problem,
-            last,
-            shown,
-            at,
-            node,
-            left,
-            &mut grown,
-            &mut splits,
-        )?;
-        at = step.at;
-        left = step.left;
+        step = fill(alloc, problem, last, shown, step, node, &mut made)?;
     }
-    Ok(Grafted { grown, splits })
+    Ok(made)
 }
 
 /// Puts what a leaf has become into the places, and the nodes that show it to those that are kept.

@@ -14,6 +14,9 @@ fn above_at(places: &[Place], number: usize) -> Option<Above>
     places.get(number)?.above
 }
 
+/// How many decisions there is room for at first: as many as most leaves have above them.
+const ROOM: usize = 256;
+
 /// The decisions up from a place to the root, past at most so many parents.
 fn gathered(
     alloc: Global,
@@ -24,7 +27,7 @@ fn gathered(
     ensures { IfOk result (λ up. reverse up.items ≡ decisions_to start most places.now) }
 {
     let mut at = start;
-    let mut up = Vec::new(alloc);
+    let mut up = Vec::with_capacity(alloc, most.min(ROOM))?;
     for _ in 0..most {
         let Some(above) = at else {
             return Ok(up);

@@ -3,5 +3,5 @@ use Rattle.open_nodes.specs.Grafts.{grafted, ungrown}
 use Rattle.open_nodes.proofs.graft.graft.Given as goal
 
 abbrev pub invariant-loop-k : goal.invariant-loop-k
-invariant-loop-k l = grafted l.problem l.last (l.shows + l.k) (drop l.k l.subtree) (record { grown = l.grown.items; at = l.at; bounds = l.left; splits = l.splits })
+invariant-loop-k l = grafted l.problem l.last (l.shows + l.k) (drop l.k l.subtree) (record { grown = l.made.grown.items; at = l.step.at; bounds = l.step.left.now; splits = l.made.splits })
     ≡ grafted l.fn.problem l.fn.last l.fn.shows l.fn.subtree (ungrown l.fn.place l.fn.number l.fn.bounds)
