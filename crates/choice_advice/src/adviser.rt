@@ -1,18 +1,15 @@
 ghost use Rattle.std.specs.Prelude.{◌≡◌};
 
 use crate::changes::Changes;
-use crate::clashes::{By, Clash, first_clash};
 use crate::course::Course;
 use crate::facts::Facts;
-use crate::forks::{Fork, Forks};
-use crate::holders::{Holder, Holders, Moved};
-use crate::layers::{Crossings, has_layers};
+use crate::found::{Found, by_time, by_toll};
+use crate::holders::Holders;
+use crate::layers::has_layers;
 use crate::links::Links;
 use crate::listed::listings_of;
-use crate::seeker::Seeker;
 use crate::spots::Spots;
 use crate::view::View;
-use crate::ways::Ways;
 use disp_model::{Memory, Op, Problem};
 use event_graph::Graph;
 use std::alloc::Global;
@@ -20,8 +17,8 @@ use std::alloc::Global;
 /// What is looked for first among the open choices.
 #[derive(Clone, Copy, Debug, PartialEq, Eq)]
 pub enum Strategy {
-    /// The order that costs most, whichever way it goes; then what crosses the ways of other
-    /// trains; then a fork.
+    /// The order whose two ways cost most, the cheaper one first of all; where that is nothing,
+    /// what crosses the ways of other trains; then a fork.
     Toll,
     /// A fork of which one way is left; then the order that is asked for earliest; then a fork.
     Time,
@@ -63,90 +60,6 @@ pub struct Adviser {
     found: Found,
 }
 
-/// What an adviser has found of forks and of crossings, and room for looks at ways.
-#[derive(Drop)]
-struct Found {
-    forks: Forks,
-    crossings: Crossings,
-    ways: Ways,
-    seeker: Seeker,
-}
-
-impl Found {
-    /// Notes what is to be looked at again of a holder of a resource of which some have moved.
-    fn note_moved(&mut self, moved: &Moved, holder: &Holder) {
-        if holder.forced {
-            return;
-        }
-        if moved.forced.meets(holder) {
-            self.forks.forget_before(holder.train, holder.number);
-        }
-        if moved.span.meets(holder) {
-            self.crossings.forget_at(holder.train, holder.number);
-        }
-    }
-
-    /// The fork that comes first.
-    fn first_fork(&mut self, view: View) -> Option<Fork>
-        requires { view.graph.now.problem ≡ view.problem.now }
-    {
-        self.forks.first(view, &mut self.seeker, &mut self.ways)
-    }
-}
-
-/// The order of two that clash, where the routes part at a fork.
-fn order_of(facts: &Facts, clash: Clash, fork: Option<u32>) -> Option<Advice> {
-    let (a, b) = (facts.op(clash.first), facts.op(clash.second));
-    let resource = clash.resource;
-    if !clash.touches {
-        return Some(Advice::Order { a, b, resource });
-    }
-    let fork = facts.op(fork?);
-    Some(Advice::Touch {
-        a,
-        b,
-        resource,
-        fork,
-    })
-}
-
-/// The route at a fork.
-fn route_of(facts: &Facts, fork: Fork) -> Advice {
-    Advice::Route(facts.op(fork.number))
-}
-
-/// What comes first by tolls.
-fn by_toll(view: View, found: &mut Found, layered: &[bool]) -> Option<Advice>
-    requires { view.graph.now.problem ≡ view.problem.now }
-{
-    let fork = view.spots.fork();
-    if let Some(clash) = first_clash(view, &mut found.seeker, By::Toll, fork.is_some()) {
-        return order_of(view.facts, clash, fork);
-    }
-    if let Some(crossing) = found.crossings.first(view, layered) {
-        return Some(Advice::Run(view.facts.op(crossing.number)));
-    }
-    let fork = found.first_fork(view)?;
-    Some(route_of(view.facts, fork))
-}
-
-/// What comes first by time.
-fn by_time(view: View, found: &mut Found) -> Option<Advice>
-    requires { view.graph.now.problem ≡ view.problem.now }
-{
-    let fork = found.first_fork(view);
-    if let Some(fork) = fork {
-        if fork.live < 2 {
-            return Some(route_of(view.facts, fork));
-        }
-    }
-    let number = view.spots.fork();
-    if let Some(clash) = first_clash(view, &mut found.seeker, By::Time, number.is_some()) {
-        return order_of(view.facts, clash, number);
-    }
-    Some(route_of(view.facts, fork?))
-}
-
 impl Adviser {
     /// An adviser on the choices of a problem.
     ///
@@ -169,12 +82,7 @@ impl Adviser {
             spots: Spots::new(alloc, count, trains)?,
             holders: Holders::of(alloc, problem)?,
             layered,
-            found: Found {
-                forks: Forks::new(alloc, count, trains)?,
-                crossings: Crossings::new(alloc, count, trains)?,
-                ways: Ways::new(alloc, count)?,
-                seeker: Seeker::new(alloc, count)?,
-            },
+            found: Found::new(alloc, count, trains)?,
         })
     }
 
@@ -227,8 +135,7 @@ impl Adviser {
         let routes = graph.routes(train);
         self.spots
             .look_at(&self.facts, routes, graph.paths(), train)?;
-        self.found.forks.forget(train);
-        self.found.crossings.forget(train);
+        self.found.forget(train);
         let layers = has_layers(&self.spots, routes, self.facts.first(train));
         if let Some(layered) = self.layered.get_mut(train as usize) {
             *layered = layers;
@@ -286,9 +193,9 @@ impl Adviser {
             holders: &self.holders,
             links: &self.links,
         };
-        Ok(match strategy {
+        match strategy {
             Strategy::Toll | Strategy::Any => by_toll(view, &mut self.found, &self.layered),
             Strategy::Time => by_time(view, &mut self.found),
-        })
+        }
     }
 }

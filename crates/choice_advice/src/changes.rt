@@ -105,16 +105,13 @@ impl Changes {
 
     /// Has the operations wait to which arcs lead from one.
     fn wait_behind(&mut self, links: &Links, number: u32) -> Result<(), Memory> {
-        let mut link = links.last(number);
+        let mut place = links.last(number);
         for _ in 0..links.len() {
-            let Some(place) = link else {
+            let Some(link) = links.at(place) else {
                 return Ok(());
             };
-            let Some((to, before)) = links.at(place) else {
-                return Ok(());
-            };
-            self.waiting.push(to)?;
-            link = before;
+            self.waiting.push(link.to)?;
+            place = link.before;
         }
         Ok(())
     }

@@ -1,80 +1,23 @@
+use crate::clash::{Clash, first_of, own_weight, sink, weight};
 use crate::meetings::Meeting;
+use crate::pusher::Pusher;
 use crate::seeker::Seeker;
-use crate::tolls::{most_toll, toll};
+use crate::spots::NEVER;
 use crate::view::View;
+use disp_model::Memory;
+use std::alloc::Global;
 
 /// For how many clashes at most it is asked at a node whether an order of theirs closes a cycle.
 const MOST_ASKED: u32 = 64;
 
-/// Two forced operations, of two trains, that hold a resource at a time, or of which one ends when
-/// the other starts.
-#[derive(Clone, Copy)]
-pub(crate) struct Clash {
-    /// What their order costs at least, whichever it is.
-    pub toll: u64,
-    /// When the later one starts.
-    pub later: u64,
-    /// Their numbers, the lower train's first.
-    pub first: u32,
-    pub second: u32,
-    pub resource: u32,
-    /// Whether they only touch.
-    pub touches: bool,
-}
+/// Of how many clashes at most it is asked at a node what their orders push.
+const MOST_PUSHED: usize = 8;
 
 /// By what one clash comes before another.
 #[derive(Clone, Copy, PartialEq, Eq)]
 pub(crate) enum By {
     Toll,
     Time,
-}
-
-/// What is looked for among clashes.
-#[derive(Clone, Copy)]
-pub(crate) struct Looking {
-    by: By,
-    /// Whether those count that only touch.
-    touching: bool,
-    found: Option<Clash>,
-    /// Whether one order of it closes a cycle, so that the other one is left.
-    closes: bool,
-    asked: u32,
-}
-
-impl Clash {
-    /// The clash of two that meet.
-    fn of(meeting: &Meeting, toll: u64) -> Clash {
-        Clash {
-            toll,
-            later: meeting.one_start.max(meeting.other_start),
-            first: meeting.one.min(meeting.other),
-            second: meeting.one.max(meeting.other),
-            resource: meeting.resource,
-            touches: meeting.touches,
-        }
-    }
-
-    /// Whether it comes before another.
-    fn is_before(&self, other: &Clash) -> bool {
-        if self.toll != other.toll {
-            return self.toll > other.toll;
-        }
-        if self.later != other.later {
-            return self.later < other.later;
-        }
-        if self.first != other.first {
-            return self.first < other.first;
-        }
-        self.second < other.second
-    }
-}
-
-/// The one of a clash that may be known and another that comes first.
-fn first_of(known: Option<Clash>, clash: Clash) -> Option<Clash> {
-    match known {
-        Some(before) if !clash.is_before(&before) => known,
-        _ => Some(clash),
-    }
 }
 
 /// Whether the order of one operation before another would close a cycle.
@@ -89,43 +32,74 @@ fn is_asked(view: View, seeker: &mut Seeker, one: u32, other: u32) -> bool {
     view.leads(seeker, behind, other)
 }
 
-/// What it costs more that an operation starts only at a time; none where that is less than what is
-/// known.
-fn toll_above(view: View, known: u64, number: u32, time: u64) -> Option<u64> {
-    if most_toll(view.spots, number, time) < known {
-        return None;
-    }
-    let toll = toll(view.facts, view.spots, number, time);
-    if toll < known { None } else { Some(toll) }
+/// Looks for the clash that comes first: room for one look after another.
+#[derive(Drop)]
+pub(crate) struct Clashes {
+    /// Those that come first of what was looked at, in their order.
+    first: Vec<Clash>,
+    pusher: Pusher,
+    by: By,
+    /// Whether those count that only touch.
+    touching: bool,
+    /// Whether one order of the first one closes a cycle, so that the other one is left.
+    closes: bool,
+    asked: u32,
 }
 
-impl Looking {
-    /// Nothing found yet.
-    pub(crate) fn new(by: By, touching: bool) -> Looking {
-        Looking {
-            by,
-            touching,
-            found: None,
+impl Clashes {
+    /// A look over so many operations.
+    pub(crate) fn new(alloc: Global, count: usize) -> Result<Clashes, Memory> {
+        Ok(Clashes {
+            first: Vec::new(alloc),
+            pusher: Pusher::new(alloc, count)?,
+            by: By::Toll,
+            touching: false,
             closes: false,
             asked: 0,
+        })
+    }
+
+    /// Begins a look.
+    fn begin(&mut self, by: By, touching: bool) {
+        self.first.clear();
+        self.by = by;
+        self.touching = touching;
+        self.closes = false;
+        self.asked = 0;
+    }
+
+    /// How many of those that come first are kept.
+    fn most_kept(&self) -> usize {
+        match self.by {
+            By::Toll => MOST_PUSHED,
+            By::Time => 1,
         }
     }
 
-    /// What an order of two that meet costs at least; none where that is less than the known one.
-    fn toll(&self, view: View, meeting: &Meeting) -> Option<u64> {
+    /// Keeps a clash, if it is among those that come first.
+    fn keep(&mut self, clash: Clash) -> Result<(), Memory> {
+        if self.first.len() >= self.most_kept() {
+            match self.first.last() {
+                Some(last) if clash.is_before(last) => {}
+                _ => return Ok(()),
+            }
+            self.first.pop();
+        }
+        self.first.push(clash)?;
+        sink(&mut self.first);
+        Ok(())
+    }
+
+    /// What the orders of two that meet weigh; none where that is too little.
+    fn weight(&self, view: View, meeting: &Meeting) -> Option<u64> {
         if self.by == By::Time {
             return Some(0);
         }
-        let known = match self.found {
-            Some(clash) => clash.toll,
-            None => 0,
+        let known = match self.first.last() {
+            Some(last) if self.first.len() >= MOST_PUSHED => last.weight,
+            _ => 0,
         };
-        if most_toll(view.spots, meeting.one, meeting.other_until) < known {
-            return None;
-        }
-        let there = toll_above(view, known, meeting.other, meeting.one_until)?;
-        let back = toll_above(view, known, meeting.one, meeting.other_until)?;
-        Some(there.min(back))
+        own_weight(view, meeting, known)
     }
 
     /// Whether it is asked of two that meet if one order of theirs closes a cycle.
@@ -137,55 +111,96 @@ impl Looking {
         true
     }
 
+    /// Keeps the clash of two that meet alone, since one order of theirs closes a cycle.
+    fn keep_alone(&mut self, meeting: Meeting) -> Result<(), Memory> {
+        self.closes = true;
+        self.first.clear();
+        self.keep(Clash {
+            weight: NEVER,
+            meeting,
+        })
+    }
+
     /// Looks at two that meet.
-    fn take(&mut self, view: View, seeker: &mut Seeker, meeting: &Meeting) {
-        let toll = self.toll(view, meeting);
+    fn take(&mut self, view: View, seeker: &mut Seeker, meeting: &Meeting) -> Result<(), Memory> {
         let (one, other) = (meeting.one, meeting.other);
         if self.asks() && (closes(view, seeker, one, other) || closes(view, seeker, other, one)) {
-            self.closes = true;
-            self.found = Some(Clash::of(meeting, toll.unwrap_or(0)));
-            return;
+            return self.keep_alone(*meeting);
         }
-        if let Some(toll) = toll {
-            let known = self.found;
-            self.found = first_of(known, Clash::of(meeting, toll));
+        match self.weight(view, meeting) {
+            Some(weight) => self.keep(Clash {
+                weight,
+                meeting: *meeting,
+            }),
+            None => Ok(()),
         }
     }
 
-    /// Looks at two that meet, where they count.
-    fn meet(&mut self, view: View, seeker: &mut Seeker, meeting: &Meeting) {
-        let (one, other) = (meeting.one, meeting.other);
-        if meeting.touches
-            && (!self.touching
-                || is_asked(view, seeker, one, other)
-                || is_asked(view, seeker, other, one))
-        {
-            return;
+    /// Whether two that meet count.
+    fn counts(&self, view: View, seeker: &mut Seeker, meeting: &Meeting) -> bool {
+        if !meeting.touches {
+            return true;
         }
-        self.take(view, seeker, meeting);
+        let (one, other) = (meeting.one, meeting.other);
+        self.touching && !is_asked(view, seeker, one, other) && !is_asked(view, seeker, other, one)
     }
 
     /// Looks at all that meet on a resource.
-    fn look_at(&mut self, view: View, seeker: &mut Seeker, meetings: &[Meeting]) {
+    fn look_at(
+        &mut self,
+        view: View,
+        seeker: &mut Seeker,
+        meetings: &[Meeting],
+    ) -> Result<(), Memory> {
         for meeting in meetings {
             if self.closes {
-                return;
+                return Ok(());
             }
-            self.meet(view, seeker, meeting);
+            if self.counts(view, seeker, meeting) {
+                self.take(view, seeker, meeting)?;
+            }
         }
+        Ok(())
     }
-}
 
-/// The clash that comes first.
-pub(crate) fn first_clash(
-    view: View,
-    seeker: &mut Seeker,
-    by: By,
-    touching: bool,
-) -> Option<Clash> {
-    let mut looking = Looking::new(by, touching);
-    for resource in view.holders.each() {
-        looking.look_at(view, seeker, resource.meetings());
+    /// What the orders of two that meet weigh with all that they push.
+    fn pushed_weight(&mut self, view: View, meeting: &Meeting) -> Result<u64, Memory> {
+        let (one, other) = (meeting.one, meeting.other);
+        let behind = view.spots.at(one).behind;
+        let there = self.pusher.toll(view, other, meeting.one_until, behind)?;
+        let behind = view.spots.at(other).behind;
+        let back = self.pusher.toll(view, one, meeting.other_until, behind)?;
+        Ok(weight(there, back))
     }
-    looking.found
+
+    /// The one of those that are kept that comes first by all that its orders push.
+    fn first_pushed(&mut self, view: View) -> Result<Option<Clash>, Memory> {
+        let mut found = None;
+        for _ in 0..self.first.len() {
+            let Some(clash) = self.first.pop() else {
+                return Ok(found);
+            };
+            let weight = self.pushed_weight(view, &clash.meeting)?;
+            found = first_of(found, Clash { weight, ..clash });
+        }
+        Ok(found)
+    }
+
+    /// The clash that comes first.
+    pub(crate) fn find(
+        &mut self,
+        view: View,
+        seeker: &mut Seeker,
+        by: By,
+        touching: bool,
+    ) -> Result<Option<Clash>, Memory> {
+        self.begin(by, touching);
+        for resource in view.holders.each() {
+            self.look_at(view, seeker, resource.meetings())?;
+        }
+        if self.first.len() > 1 {
+            return self.first_pushed(view);
+        }
+        Ok(self.first.pop())
+    }
 }

@@ -7,15 +7,18 @@
 
 mod adviser;
 mod changes;
+mod clash;
 mod clashes;
 mod course;
 mod facts;
 mod forks;
+mod found;
 mod holders;
 mod layers;
 mod links;
 mod listed;
 mod meetings;
+mod pusher;
 mod seeker;
 mod spots;
 mod tolls;

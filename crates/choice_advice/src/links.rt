@@ -4,10 +4,12 @@ use std::alloc::Global;
 
 /// An arc, and the one that was kept before it from the same operation.
 #[derive(Clone, Copy)]
-struct Link {
+pub(crate) struct Link {
     from: u32,
-    to: u32,
-    before: Option<u32>,
+    pub to: u32,
+    /// How much later the operation `to` starts, at least.
+    pub length: u64,
+    pub before: Option<u32>,
 }
 
 /// The arcs of a graph in the order in which they were added, by the operations that they lead
@@ -45,6 +47,7 @@ impl Links {
             self.each.push(Link {
                 from: arc.from,
                 to: arc.to,
+                length: arc.length,
                 before,
             })?;
         }
@@ -68,9 +71,8 @@ impl Links {
         }
     }
 
-    /// Where an arc leads to, and the arc before it from the same operation.
-    pub(crate) fn at(&self, place: u32) -> Option<(u32, Option<u32>)> {
-        let link = self.each.get(place as usize)?;
-        Some((link.to, link.before))
+    /// The arc at a place, where there is one.
+    pub(crate) fn at(&self, place: Option<u32>) -> Option<Link> {
+        self.each.get(place? as usize).copied()
     }
 }

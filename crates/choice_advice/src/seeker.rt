@@ -50,21 +50,18 @@ impl Seeker {
 
     /// Goes on from an operation along its arcs. Says whether one leads to the end of the way.
     fn go_on(&mut self, links: &Links, paths: &Paths, number: u32, end: u32) -> bool {
-        let mut link = links.last(number);
+        let mut place = links.last(number);
         for _ in 0..links.len() {
-            let Some(place) = link else {
+            let Some(link) = links.at(place) else {
                 return false;
             };
-            let Some((to, before)) = links.at(place) else {
-                return false;
-            };
-            if to == end {
+            if link.to == end {
                 return true;
             }
-            if may_lead(paths, to, end) {
-                self.put(to);
+            if may_lead(paths, link.to, end) {
+                self.put(link.to);
             }
-            link = before;
+            place = link.before;
         }
         false
     }

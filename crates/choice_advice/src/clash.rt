@@ -1,0 +1,92 @@
+use crate::meetings::Meeting;
+use crate::tolls::{most_toll, toll};
+use crate::view::View;
+
+/// So often the cheaper order of a clash counts, where the dearer one counts once.
+const CHEAPER: u64 = 4;
+
+/// What the dearer order of a clash counts at most.
+const MOST_DEARER: u64 = 1 << 50;
+
+/// Two forced operations that meet, and how much their order decides.
+#[derive(Clone, Copy)]
+pub(crate) struct Clash {
+    /// What its orders cost, as `weight` adds it up; never where one of them closes a cycle.
+    pub weight: u64,
+    pub meeting: Meeting,
+}
+
+/// What two orders weigh that cost so much.
+pub(crate) fn weight(one: u64, other: u64) -> u64 {
+    let dearer = one.max(other).min(MOST_DEARER);
+    one.min(other)
+        .saturating_mul(CHEAPER)
+        .saturating_add(dearer)
+}
+
+impl Clash {
+    /// When the later one of the two starts.
+    fn later(&self) -> u64 {
+        self.meeting.one_start.max(self.meeting.other_start)
+    }
+
+    /// The number of the lower train's.
+    pub(crate) fn first(&self) -> u32 {
+        self.meeting.one.min(self.meeting.other)
+    }
+
+    /// The number of the other one.
+    pub(crate) fn second(&self) -> u32 {
+        self.meeting.one.max(self.meeting.other)
+    }
+
+    /// Whether it comes before another.
+    pub(crate) fn is_before(&self, other: &Clash) -> bool {
+        if self.weight != other.weight {
+            return self.weight > other.weight;
+        }
+        if self.later() != other.later() {
+            return self.later() < other.later();
+        }
+        if self.first() != other.first() {
+            return self.first() < other.first();
+        }
+        self.second() < other.second()
+    }
+}
+
+/// The one of a clash that may be known and another that comes first.
+pub(crate) fn first_of(known: Option<Clash>, clash: Clash) -> Option<Clash> {
+    match known {
+        Some(before) if !clash.is_before(&before) => known,
+        _ => Some(clash),
+    }
+}
+
+/// Moves the last clash to the front of those that come behind it.
+pub(crate) fn sink(clashes: &mut [Clash]) {
+    for at in (1..clashes.len()).rev() {
+        let before = at.saturating_sub(1);
+        let (Some(one), Some(other)) = (clashes.get(before), clashes.get(at)) else {
+            return;
+        };
+        if !other.is_before(one) {
+            return;
+        }
+        clashes.swap(before, at);
+    }
+}
+
+/// What the orders of two that meet weigh by their own trains; none where that is less than what is
+/// known.
+pub(crate) fn own_weight(view: View, meeting: &Meeting, known: u64) -> Option<u64> {
+    let one = most_toll(view.spots, meeting.one, meeting.other_until);
+    let other = most_toll(view.spots, meeting.other, meeting.one_until);
+    if weight(one, other) < known {
+        return None;
+    }
+    let one = toll(view.facts, view.spots, meeting.one, meeting.other_until);
+    let other = toll(view.facts, view.spots, meeting.other, meeting.one_until);
+    let found = weight(one, other);
+    if found < known { None } else { Some(found) }
+}

@@ -1,0 +1,132 @@
+use crate::links::Links;
+use crate::spots::{NEVER, length_of};
+use crate::view::View;
+use disp_model::Memory;
+use incremental_paths::Paths;
+use std::alloc::Global;
+use std::cmp::Reverse;
+use std::collections::BinaryHeap;
+
+/// When an operation starts that is pushed, and in which look it was.
+#[derive(Clone, Copy)]
+struct Pushed {
+    look: u64,
+    time: u64,
+}
+
+/// Starts operations later, and all to which arcs lead from them: room for one look after another.
+#[derive(Drop)]
+pub(crate) struct Pusher {
+    each: Vec<Pushed>,
+    look: u64,
+    /// The operations that are pushed and push on, by their places in the order of the arcs.
+    waiting: BinaryHeap<(Reverse<u32>, u32)>,
+}
+
+/// The place of an operation in the order of the arcs.
+fn place_of(paths: &Paths, number: u32) -> u32 {
+    if number as usize >= paths.size() {
+        return u32::MAX;
+    }
+    paths.place(number)
+}
+
+impl Pusher {
+    /// A look over so many operations.
+    pub(crate) fn new(alloc: Global, count: usize) -> Result<Pusher, Memory> {
+        let mut each = Vec::with_capacity(alloc, count)?;
+        for _ in 0..count {
+            each.push(Pushed { look: 0, time: 0 })?;
+        }
+        Ok(Pusher {
+            each,
+            look: 0,
+            waiting: BinaryHeap::new(alloc),
+        })
+    }
+
+    /// When an operation starts that is pushed.
+    fn time(&self, number: u32) -> u64 {
+        match self.each.get(number as usize) {
+            Some(pushed) => pushed.time,
+            None => NEVER,
+        }
+    }
+
+    /// Has an operation start no earlier than a time. Says whether it is pushed for the first time
+    /// in this look.
+    fn delay(&mut self, number: u32, time: u64) -> bool {
+        let Some(pushed) = self.each.get_mut(number as usize) else {
+            return false;
+        };
+        if pushed.look == self.look {
+            pushed.time = pushed.time.max(time);
+            return false;
+        }
+        *pushed = Pushed {
+            look: self.look,
+            time,
+        };
+        true
+    }
+
+    /// Pushes an operation to a time, where it starts earlier.
+    fn push(&mut self, paths: &Paths, number: u32, time: u64) -> Result<(), Memory> {
+        if time > length_of(paths, number) && self.delay(number, time) {
+            let place = place_of(paths, number);
+            self.waiting.push((Reverse(place), number))?;
+        }
+        Ok(())
+    }
+
+    /// Pushes those to which arcs lead from an operation that starts at a time.
+    fn push_on(
+        &mut self,
+        links: &Links,
+        paths: &Paths,
+        number: u32,
+        time: u64,
+    ) -> Result<(), Memory> {
+        let mut place = links.last(number);
+        for _ in 0..links.len() {
+            let Some(link) = links.at(place) else {
+                return Ok(());
+            };
+            self.push(paths, link.to, time.saturating_add(link.length))?;
+            place = link.before;
+        }
+        Ok(())
+    }
+
+    /// How much more all trains cost where an operation starts only at a time; never where one of
+    /// them may not start so late, or where that pushes an operation that is to come before.
+    pub(crate) fn toll(
+        &mut self,
+        view: View,
+        number: u32,
+        time: u64,
+        before: u32,
+    ) -> Result<u64, Memory> {
+        let paths = view.graph.paths();
+        self.look = self.look.saturating_add(1);
+        self.waiting.clear();
+        self.push(paths, number, time)?;
+        let mut toll = 0u64;
+        for _ in 0..self.each.len() {
+            let Some((_, number)) = self.waiting.pop() else {
+                return Ok(toll);
+            };
+            if number == before {
+                return Ok(NEVER);
+            }
+            let time = self.time(number);
+            let start = length_of(paths, number);
+            let Some(rise) = view.facts.rise(number, start, time) else {
+                return Ok(NEVER);
+            };
+            toll = toll.saturating_add(rise);
+            self.push_on(view.links, paths, number, time)?;
+        }
+        Ok(toll)
+    }
+}
