@@ -15,7 +15,8 @@ use Rattle.node_facts.specs.declared.demands.Demand.{Demand}
 use Rattle.node_facts.specs.Ways.{IsWay, sum_at}
 use Rattle.node_facts.proofs.Allowing.{IsAsked, allowed_is_way, way_is_allowed, way_goes}
 use Rattle.node_facts.proofs.Stepping.{Through, through}
-use Rattle.tree_checker.specs.TrainCosts.{Comes, AreEntered, base_by, reach_by, price_of, price_along, AreCosts, IsLeastCost}
+use Rattle.problem_facts.specs.Prices.{own_price}
+use Rattle.tree_checker.specs.TrainCosts.{Comes, AreEntered, base_by, reach_by, price_along, AreCosts, IsLeastCost}
 use Rattle.tree_checker.proofs.Coming.{way_comes, comes_way}
 use Rattle.tree_checker.proofs.Priced.{route_price}
 
@@ -60,7 +61,7 @@ same_reach node t order places demands e bases entered o total is kept reach = o
 
 pub least_cost_is : (node : Node) (t : ℕ) (order places : List ℕ) (demands : List Demand) (e : ℕ) (bases : List ℕ) (entered costs : List (Option ℕ)) → IsAsked node t order places demands e
     → AreEntered (train_at node.problem t) places demands (base_by bases) e entered
-    → AreCosts (train_at node.problem t) places demands (price_of node.problem.components t (reach_by entered bases)) costs → IsLeastCost node t (base_by bases) (sum_at costs e)
+    → AreCosts (train_at node.problem t) places demands (own_price node.problem.components t (reach_by entered bases)) costs → IsLeastCost node t (base_by bases) (sum_at costs e)
 least_cost_is node t order places demands e bases entered costs is kept paid = by (sum_at costs e) refl
   where
     train : List Operation
@@ -70,7 +71,7 @@ least_cost_is node t order places demands e bases entered costs is kept paid = b
     reach = reach_by entered bases
 
     price : ℕ → ℕ
-    price = price_of node.problem.components t reach
+    price = own_price node.problem.components t reach
 
     -- a route costs by the kept reaches what it costs by those of a share
     same_cost : (share : ℕ) (over : IsShareOver node t (base_by bases) share) (rest : List ℕ) → IsWay train places demands e rest → price_along price (e ∷ rest) ≡ route_cost node.problem t over.reach (e ∷ rest)

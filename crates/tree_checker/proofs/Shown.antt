@@ -15,7 +15,8 @@ use Rattle.node_facts.specs.declared.train.TrainKnowledge.{TrainKnowledge}
 use Rattle.node_facts.specs.Known.{IsKnown}
 use Rattle.node_facts.specs.Orders.{AreKnown}
 use Rattle.node_facts.specs.Ways.{sum_at}
-use Rattle.tree_checker.specs.TrainCosts.{AreEntered, base_by, reach_by, price_of, AreCosts, AreLowers, AreRaised, IsLeastCost, IsShown}
+use Rattle.problem_facts.specs.Prices.{own_price}
+use Rattle.tree_checker.specs.TrainCosts.{AreEntered, base_by, reach_by, AreCosts, AreLowers, AreRaised, IsLeastCost, IsShown}
 use Rattle.tree_checker.proofs.Enough.{arrivals_once}
 use Rattle.tree_checker.proofs.LeastCosts.{least_cost_is, share_moves}
 use Rattle.node_facts.proofs.Assembling.{order_fits}
@@ -60,11 +61,11 @@ share_shown node shown walks count lowers bases read found same long are raised 
 -- what the passes over a train find is what it costs at least
 pub least_cost_of : (node : Node) (t : ℕ) (known : TrainKnowledge) (operations : List Operation) (bases : List ℕ) (entered costs : List (Option ℕ)) → IsKnown node t known → operations ≡ train_at node.problem t
     → AreEntered operations known.places.items known.demands.items (base_by bases) known.entry entered
-    → AreCosts operations known.places.items known.demands.items (price_of node.problem.components t (reach_by entered bases)) costs → IsLeastCost node t (base_by bases) (sum_at costs known.entry)
+    → AreCosts operations known.places.items known.demands.items (own_price node.problem.components t (reach_by entered bases)) costs → IsLeastCost node t (base_by bases) (sum_at costs known.entry)
 least_cost_of node t known operations bases entered costs is same kept paid =
     least_cost_is node t known.order.items known.places.items known.demands.items known.entry bases entered costs (known_asks node t known is)
     (subst (λ (l : List Operation). AreEntered l known.places.items known.demands.items (base_by bases) known.entry entered) same kept)
-    (subst (λ (l : List Operation). AreCosts l known.places.items known.demands.items (price_of node.problem.components t (reach_by entered bases)) costs) same paid)
+    (subst (λ (l : List Operation). AreCosts l known.places.items known.demands.items (own_price node.problem.components t (reach_by entered bases)) costs) same paid)
 
 -- a train of which something is known fits
 pub known_fits : (problem : Problem) (fixings : List Fixing) (decisions : List Decision) (t : ℕ) (known : TrainKnowledge) (operations : List Operation) → IsKnown (node_at problem fixings decisions) t known → operations ≡ train_at problem t → length known.order.items < 2 ^ 31

@@ -1,13 +1,11 @@
 -- What a listed train costs at least, pass by pass over its allowed ways.
-use Rattle.std.specs.Prelude.{◌≡◌, ◌⊎◌, ◌≢◌, ℕ, Bool, true, false, ◌+◌, ◌≤◌, ◌<◌, ◌^◌, ◌==◌, ◌&&◌, max, List, [], ◌∷◌, length, Contains, Option, Some, None, slice_index, sum_by, unwrap_or, MatchOption, if◌then◌else◌}
+use Rattle.std.specs.Prelude.{◌≡◌, ◌⊎◌, ◌≢◌, ℕ, Bool, true, false, ◌+◌, ◌≤◌, ◌<◌, ◌^◌, ◌==◌, max, List, [], ◌∷◌, length, Contains, Option, Some, None, slice_index, unwrap_or, MatchOption, if◌then◌else◌}
 use Rattle.disp_model.specs.declared.train.Op.{Op}
 use Rattle.disp_model.specs.declared.train.Operation.{Operation}
-use Rattle.disp_model.specs.declared.train.Component.{Component}
 use Rattle.disp_model.specs.declared.fixing.Fixing.{Fixing}
 use Rattle.disp_model.specs.declared.problem.Problem.{Problem}
 use Rattle.disp_model.specs.declared.tree.TrainWalks.{TrainWalks}
 use Rattle.disp_model.specs.Train.{next_of, duration_of, IsSuccessor}
-use Rattle.disp_model.specs.Cost.{cost_at}
 use Rattle.disp_model.specs.Node.{Node}
 use Rattle.disp_model.specs.Walks.{lower_of, IsWalk, EndsIn}
 use Rattle.disp_model.specs.Shares.{Arrival, AreWalksOn, greatest_to, IsShareOver, ShowsShare}
@@ -63,15 +61,6 @@ abbrev pub reach_by : List (Option ℕ) → List ℕ → ℕ → ℕ
 reach_by entered bases o = max (unwrap_or (sum_at entered o) 0) (base_by bases o)
 
 -- ---- what operations cost
-
--- what a component of a train costs at an operation, or nothing where it is of another
-abbrev pub cost_there : ℕ → (ℕ → ℕ) → ℕ → Component → ℕ
-cost_there t reach o c = if (c.train == t) && (o == c.operation) then cost_at c (reach c.operation)
-    else 0
-
--- what the components of an operation cost together
-abbrev pub price_of : List Component → ℕ → (ℕ → ℕ) → ℕ → ℕ
-price_of components t reach o = sum_by (cost_there t reach o) components
 
 -- the prices of operations together
 abbrev pub price_along : (ℕ → ℕ) → List ℕ → ℕ

@@ -1,7 +1,8 @@
 ghost use Rattle.std.specs.Prelude.{◌≡◌, ◌↔◌, ℕ, IfOk, Some};
 ghost use Rattle.train_orders.specs.Orders.{IsOrder};
 ghost use Rattle.node_facts.specs.Ways.{IsLeastOf, IsOnward, GoesOnward};
-ghost use Rattle.tree_checker.specs.TrainCosts.{reach_by, price_of, ArePrices, IsCostBy, AreCosts};
+ghost use Rattle.problem_facts.specs.Prices.{own_price};
+ghost use Rattle.tree_checker.specs.TrainCosts.{reach_by, ArePrices, IsCostBy, AreCosts};
 
 use crate::entering::{base_at, kept_at, lesser, reach_at};
 use disp_model::{Component, Memory, Operation};
@@ -19,7 +20,7 @@ fn prices_of(
     bases: &[u128],
 ) -> Result<Vec<u128>, Memory>
     ensures { IfOk result (λ prices. ArePrices operations.now
-        (price_of components.now train (reach_by entered.now bases.now)) prices.items) }
+        (own_price components.now train (reach_by entered.now bases.now)) prices.items) }
 {
     let mut prices = vec![in alloc; 0; operations.len()]?;
     add_components(&mut prices, train, components, |price: u128, component| {
@@ -121,7 +122,7 @@ pub(crate) fn costs_over(
     requires { IsOrder operations.now known.now.order.items }
     ensures { IfOk result (λ costs. AreCosts operations.now known.now.places.items
         known.now.demands.items
-        (price_of components.now train (reach_by entered.now bases.now)) costs.items) }
+        (own_price components.now train (reach_by entered.now bases.now)) costs.items) }
 {
     let prices = prices_of(alloc, components, operations, train, entered, bases)?;
     let prices = prices.as_slice();

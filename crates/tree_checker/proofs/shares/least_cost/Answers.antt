@@ -6,7 +6,8 @@ use Rattle.train_orders.specs.Orders.{IsOrder}
 use Rattle.node_facts.specs.Ways.{sum_at}
 use Rattle.route_marks.specs.Marks.{ArePlaces}
 use Rattle.node_facts.proofs.Assembling.{is_inside}
-use Rattle.tree_checker.specs.TrainCosts.{base_by, reach_by, price_of, IsLeastCost, AreCosts}
+use Rattle.problem_facts.specs.Prices.{own_price}
+use Rattle.tree_checker.specs.TrainCosts.{base_by, reach_by, IsLeastCost, AreCosts}
 use Rattle.tree_checker.proofs.Owned.{own_costs}
 use Rattle.tree_checker.proofs.Shown.{least_cost_of, known_fits}
 use Rattle.tree_checker.proofs.shares.least_cost.Goals as goal
@@ -47,5 +48,5 @@ returns c fixings decisions is =
     let kept : sum_at costs known.entry ≡ c.kept_at.result = sym (c.kept_at.ensures ∙ ap (λ (e : ℕ). sum_at c.as_slice.result.now e) c.entry.ensures ∙ ap (λ (l : List (Option ℕ)). sum_at l known.entry) c.as_slice.ensures.value) in
     let lent = c.of_train-components.ensures ∙ c.requires.own.has t (omega (arith, is.there, c.requires.own.long)) in
     let named = own_costs operations known.places.items known.demands.items problem.components c.of_train-components.result.now t (reach_by c.as_slice-entered.result.now bases) costs lent c.in_ok-costs.ensures in
-    let paid = subst (λ (l : List (Option ℕ)). AreCosts operations known.places.items known.demands.items (price_of problem.components t (reach_by l bases)) costs) c.as_slice-entered.ensures.value named in
+    let paid = subst (λ (l : List (Option ℕ)). AreCosts operations known.places.items known.demands.items (own_price problem.components t (reach_by l bases)) costs) c.as_slice-entered.ensures.value named in
     subst (IsLeastCost node t (base_by bases)) kept (least_cost_of node t known operations bases entered costs is c.train_of-operations.ensures c.in_ok-entered.ensures paid)
