@@ -1,7 +1,6 @@
 -- What is known of trains, on the way from one place of a tree to the next.
-use Rattle.std.specs.Prelude.{◌≡◌, ◌⊎◌, ◌<◌, ◌≤◌, ℕ, List, All, Contains, Option, Some, None, length, slice_get, slice_index_or}
+use Rattle.std.specs.Prelude.{◌≡◌, ◌⊎◌, ◌<◌, ◌≤◌, ℕ, List, All, Contains, Some, length, slice_get, slice_index_or}
 use Rattle.disp_model.specs.declared.decision.Decision.{Decision}
-use Rattle.disp_model.specs.declared.decision.Decision.TheVariants.{Go, First, Run, Skip}
 use Rattle.disp_model.specs.Node.{Node}
 use Rattle.node_facts.specs.declared.train.TrainKnowledge.{TrainKnowledge}
 use Rattle.node_facts.specs.Known.{IsKnown}

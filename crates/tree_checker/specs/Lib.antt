@@ -5,3 +5,4 @@ pub mod Bounds
 pub mod TrainCosts
 pub mod Descents
 pub mod Seen
+pub mod KnownNodes

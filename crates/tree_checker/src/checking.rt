@@ -8,6 +8,7 @@ ghost use Rattle.problem_facts.specs.Components.{AreOwnOf};
 use crate::children::decisions_below;
 use crate::descent::descend;
 use crate::judging::judge;
+use crate::known::KnownNode;
 use crate::places::{Place, open};
 use crate::why::{Checked, Why};
 use decision_paths::DecisionPath;
@@ -42,7 +43,14 @@ fn step(
         return Ok(Some(Why::BadChoice));
     };
     descend(alloc, problem, fixings, path, trains, place)?;
-    if let Some(why) = judge(alloc, problem, fixings, path, trains, own, verdict, top)? {
+    let here = KnownNode {
+        problem,
+        fixings,
+        decisions: &*path,
+        trains: &*trains,
+        own,
+    };
+    if let Some(why) = judge(alloc, here, verdict, top)? {
         return Ok(Some(why));
     }
     let below = decisions_below(alloc, problem, top)?;

@@ -1,35 +1,29 @@
 ghost use Rattle.std.specs.Prelude.{IfOk, MatchOption};
-ghost use Rattle.disp_model.specs.Node.{node_at};
 ghost use Rattle.node_facts.specs.Orders.{AreKnown};
 ghost use Rattle.tree_checker.specs.Rules.{KeepsAllRules, IsFirstRule};
+ghost use Rattle.tree_checker.specs.KnownNodes.{node_of};
 
+use crate::known::KnownNode;
 use crate::rules::{keeps, rule_at};
 use crate::why::Why;
-use decision_paths::DecisionPath;
-use disp_model::{Leaf, Memory, Problem, Verdict};
-use node_facts::{FixingIndex, KnownTrains};
+use disp_model::{Leaf, Memory, Verdict};
 use std::alloc::Global;
 
 /// The first rule that a leaf breaks, whatever it costs.
 pub(crate) fn first_rule(
     alloc: Global,
-    problem: &Problem,
-    fixings: &FixingIndex,
-    decisions: &DecisionPath,
-    trains: &KnownTrains,
+    here: KnownNode,
     verdict: Verdict,
     leaf: &Leaf,
 ) -> Result<Option<Why>, Memory>
-    requires { AreKnown (node_at problem.now fixings.now decisions.now) trains.now }
+    requires { AreKnown (node_of here) here.trains.now }
     ensures { IfOk result (λ found. MatchOption found
-        (KeepsAllRules (node_at problem.now fixings.now decisions.now) verdict leaf.now)
-        (IsFirstRule (node_at problem.now fixings.now decisions.now) verdict leaf.now)) }
+        (KeepsAllRules (node_of here.entry) verdict leaf.now)
+        (IsFirstRule (node_of here.entry) verdict leaf.now)) }
 {
     for place in 0..13 {
         let rule = rule_at(place);
-        if !keeps(
-            alloc, problem, fixings, decisions, trains, verdict, leaf, rule,
-        )? {
+        if !keeps(alloc, here, verdict, leaf, rule)? {
             return Ok(Some(rule));
         }
     }

@@ -10,10 +10,12 @@ ghost use Rattle.disp_model.specs.Trees.{LeafHolds, Shows};
 ghost use Rattle.node_facts.specs.Orders.{AreKnown};
 ghost use Rattle.problem_facts.specs.Components.{AreOwnOf};
 ghost use Rattle.tree_checker.specs.Rules.{KeepsAllRules, IsFirstRule, TreeNodeHolds, IsRefusedFor};
+ghost use Rattle.tree_checker.specs.KnownNodes.{node_of};
 
 use crate::bound::bound_of;
 use crate::branch::is_branch;
 use crate::first::first_rule;
+use crate::known::KnownNode;
 use crate::leaf::{component_walks, listed_trains};
 use crate::names::are_named;
 use crate::showing::shows;
@@ -42,7 +44,14 @@ fn leaf_holds(
         return Ok(true);
     }
     let own = OwnComponents::of(alloc, problem)?;
-    shows(alloc, problem, fixings, &path, &trains, &own, verdict, leaf)
+    let here = KnownNode {
+        problem,
+        fixings,
+        decisions: &path,
+        trains: &trains,
+        own: &own,
+    };
+    shows(alloc, here, verdict, leaf)
 }
 
 /// Whether a leaf holds in a place: some train has no allowed route, or what the leaf lists shows
@@ -67,31 +76,17 @@ pub fn check_leaf(
 }
 
 /// What a leaf costs that keeps all other rules, and yet does not reach a cost.
-fn below_cost(
-    alloc: Global,
-    problem: &Problem,
-    fixings: &FixingIndex,
-    decisions: &DecisionPath,
-    trains: &KnownTrains,
-    own: &OwnComponents,
-    cost: u64,
-    leaf: &Leaf,
-) -> Result<Why, Memory>
-    requires known { AreKnown (node_at problem.now fixings.now decisions.now) trains.now }
-    requires own { AreOwnOf problem.now own.now }
-    requires routes { HasNoRoute (node_at problem.now fixings.now decisions.now) → ⊥ }
-    requires not_shown { Shows (node_at problem.now fixings.now decisions.now) (Optimal cost)
-        leaf.now → ⊥ }
-    requires keeps { KeepsAllRules (node_at problem.now fixings.now decisions.now) (Optimal cost)
-        leaf.now }
-    ensures { IfOk result
-        (IsFirstRule (node_at problem.now fixings.now decisions.now) (Optimal cost) leaf.now) }
+fn below_cost(alloc: Global, here: KnownNode, cost: u64, leaf: &Leaf) -> Result<Why, Memory>
+    requires known { AreKnown (node_of here) here.trains.now }
+    requires own { AreOwnOf here.problem.now here.own.now }
+    requires routes { HasNoRoute (node_of here) → ⊥ }
+    requires not_shown { Shows (node_of here) (Optimal cost) leaf.now → ⊥ }
+    requires keeps { KeepsAllRules (node_of here) (Optimal cost) leaf.now }
+    ensures { IfOk result (IsFirstRule (node_of here.entry) (Optimal cost) leaf.now) }
 {
     let walks = component_walks(leaf);
     let listed = listed_trains(leaf);
-    match bound_of(
-        alloc, problem, fixings, decisions, trains, own, walks, listed,
-    )? {
+    match bound_of(alloc, here, walks, listed)? {
         Some(bound) => Ok(Why::BelowCost { bound, cost }),
         None => Ok(Why::WrongEnd),
     }
@@ -100,28 +95,19 @@ fn below_cost(
 /// What a leaf costs that keeps all other rules, and yet shows nothing.
 fn below_verdict(
     alloc: Global,
-    problem: &Problem,
-    fixings: &FixingIndex,
-    decisions: &DecisionPath,
-    trains: &KnownTrains,
-    own: &OwnComponents,
+    here: KnownNode,
     verdict: Verdict,
     leaf: &Leaf,
 ) -> Result<Why, Memory>
-    requires known { AreKnown (node_at problem.now fixings.now decisions.now) trains.now }
-    requires own { AreOwnOf problem.now own.now }
-    requires routes { HasNoRoute (node_at problem.now fixings.now decisions.now) → ⊥ }
-    requires not_shown { Shows (node_at problem.now fixings.now decisions.now) verdict leaf.now
-        → ⊥ }
-    requires keeps { KeepsAllRules (node_at problem.now fixings.now decisions.now)
-        verdict leaf.now }
-    ensures { IfOk result
-        (IsFirstRule (node_at problem.now fixings.now decisions.now) verdict leaf.now) }
+    requires known { AreKnown (node_of here) here.trains.now }
+    requires own { AreOwnOf here.problem.now here.own.now }
+    requires routes { HasNoRoute (node_of here) → ⊥ }
+    requires not_shown { Shows (node_of here) verdict leaf.now → ⊥ }
+    requires keeps { KeepsAllRules (node_of here) verdict leaf.now }
+    ensures { IfOk result (IsFirstRule (node_of here.entry) verdict leaf.now) }
 {
     match verdict {
-        Verdict::Optimal(cost) => {
-            below_cost(alloc, problem, fixings, decisions, trains, own, cost, leaf)
-        }
+        Verdict::Optimal(cost) => below_cost(alloc, here, cost, leaf),
         Verdict::Infeasible => Ok(Why::NoVerdict),
     }
 }
@@ -129,58 +115,42 @@ fn below_verdict(
 /// The first rule that a leaf breaks that shows nothing.
 fn first_broken(
     alloc: Global,
-    problem: &Problem,
-    fixings: &FixingIndex,
-    decisions: &DecisionPath,
-    trains: &KnownTrains,
-    own: &OwnComponents,
+    here: KnownNode,
     verdict: Verdict,
     leaf: &Leaf,
 ) -> Result<Why, Memory>
-    requires known { AreKnown (node_at problem.now fixings.now decisions.now) trains.now }
-    requires own { AreOwnOf problem.now own.now }
-    requires routes { HasNoRoute (node_at problem.now fixings.now decisions.now) → ⊥ }
-    requires not_shown { Shows (node_at problem.now fixings.now decisions.now) verdict leaf.now
-        → ⊥ }
-    ensures { IfOk result
-        (IsFirstRule (node_at problem.now fixings.now decisions.now) verdict leaf.now) }
+    requires known { AreKnown (node_of here) here.trains.now }
+    requires own { AreOwnOf here.problem.now here.own.now }
+    requires routes { HasNoRoute (node_of here) → ⊥ }
+    requires not_shown { Shows (node_of here) verdict leaf.now → ⊥ }
+    ensures { IfOk result (IsFirstRule (node_of here.entry) verdict leaf.now) }
 {
-    match first_rule(alloc, problem, fixings, decisions, trains, verdict, leaf)? {
+    match first_rule(alloc, here, verdict, leaf)? {
         Some(rule) => Ok(rule),
-        None => below_verdict(
-            alloc, problem, fixings, decisions, trains, own, verdict, leaf,
-        ),
+        None => below_verdict(alloc, here, verdict, leaf),
     }
 }
 
 /// Why a leaf does not hold in a place, if it does not.
 fn judge_leaf(
     alloc: Global,
-    problem: &Problem,
-    fixings: &FixingIndex,
-    decisions: &DecisionPath,
-    trains: &KnownTrains,
-    own: &OwnComponents,
+    here: KnownNode,
     verdict: Verdict,
     leaf: &Leaf,
 ) -> Result<Option<Why>, Memory>
-    requires known { AreKnown (node_at problem.now fixings.now decisions.now) trains.now }
-    requires own { AreOwnOf problem.now own.now }
+    requires known { AreKnown (node_of here) here.trains.now }
+    requires own { AreOwnOf here.problem.now here.own.now }
     ensures { IfOk result (λ found. MatchOption found
-        (LeafHolds (node_at problem.now fixings.now decisions.now) verdict leaf.now)
-        (IsRefusedFor (node_at problem.now fixings.now decisions.now) verdict (ALeaf leaf.now))) }
+        (LeafHolds (node_of here.entry) verdict leaf.now)
+        (IsRefusedFor (node_of here.entry) verdict (ALeaf leaf.now))) }
 {
-    if trains.has_no_route() {
+    if here.trains.has_no_route() {
         return Ok(None);
     }
-    if shows(
-        alloc, problem, fixings, decisions, trains, own, verdict, leaf,
-    )? {
+    if shows(alloc, here, verdict, leaf)? {
         return Ok(None);
     }
-    let why = first_broken(
-        alloc, problem, fixings, decisions, trains, own, verdict, leaf,
-    )?;
+    let why = first_broken(alloc, here, verdict, leaf)?;
     Ok(Some(why))
 }
 
@@ -204,26 +174,18 @@ fn judge_branch(problem: &Problem, choice: Choice, children: u32) -> Option<Why>
 /// Why a node of a tree does not hold in a place, if it does not, by what is known of its trains.
 pub(crate) fn judge(
     alloc: Global,
-    problem: &Problem,
-    fixings: &FixingIndex,
-    decisions: &DecisionPath,
-    trains: &KnownTrains,
-    own: &OwnComponents,
+    here: KnownNode,
     verdict: Verdict,
     top: &TreeNode,
 ) -> Result<Option<Why>, Memory>
-    requires known { AreKnown (node_at problem.now fixings.now decisions.now) trains.now }
-    requires own { AreOwnOf problem.now own.now }
+    requires known { AreKnown (node_of here) here.trains.now }
+    requires own { AreOwnOf here.problem.now here.own.now }
     ensures { IfOk result (λ found. MatchOption found
-        (TreeNodeHolds (node_at problem.now fixings.now decisions.now) verdict top.now)
-        (IsRefusedFor (node_at problem.now fixings.now decisions.now) verdict top.now)) }
+        (TreeNodeHolds (node_of here.entry) verdict top.now)
+        (IsRefusedFor (node_of here.entry) verdict top.now)) }
 {
     match top {
-        TreeNode::Branch { choice, children } => Ok(judge_branch(problem, *choice, *children)),
-        TreeNode::Leaf(leaf) => {
-            judge_leaf(
-                alloc, problem, fixings, decisions, trains, own, verdict, leaf,
-            )
-        }
+        TreeNode::Branch { choice, children } => Ok(judge_branch(here.problem, *choice, *children)),
+        TreeNode::Leaf(leaf) => judge_leaf(alloc, here, verdict, leaf),
     }
 }

@@ -1,12 +1,12 @@
 ghost use Rattle.std.specs.Prelude.{◌≡◌, ◌↔◌, Some, IfSome, ◌<◌, ◌≤◌, ◌^◌, ◌==◌, ℕ, IfOk, length};
-ghost use Rattle.disp_model.specs.Node.{node_at};
 ghost use Rattle.disp_model.specs.Walks.{lower_of, IsWalk};
 ghost use Rattle.node_facts.specs.Orders.{AreKnown};
 ghost use Rattle.tree_checker.specs.TrainCosts.{IsLanding, Raises, WasRaised, AreLowers};
+ghost use Rattle.tree_checker.specs.KnownNodes.{node_of};
 
-use decision_paths::DecisionPath;
+use crate::known::KnownNode;
 use disp_model::{List, Memory, Op, Problem};
-use node_facts::{FixingIndex, KnownTrains, end_of, lower_of, walk_length};
+use node_facts::{FixingIndex, end_of, lower_of, walk_length};
 use std::alloc::Global;
 
 /// Where a walk ends on its train, and how long it is.
@@ -24,36 +24,29 @@ fn count_of(operations: &[Op]) -> usize
 }
 
 /// How long a walk is; none where the list is no walk of the node.
-fn length_of(
-    problem: &Problem,
-    fixings: &FixingIndex,
-    decisions: &DecisionPath,
-    trains: &KnownTrains,
-    walk: &[Op],
-) -> Option<u128>
-    requires { AreKnown (node_at problem.now fixings.now decisions.now) trains.now }
+fn length_of(here: KnownNode, walk: &[Op]) -> Option<u128>
+    requires { AreKnown (node_of here) here.trains.now }
     ensures is { (n : ℕ) → (result ≡ Some n)
-        ↔ IsWalk (node_at problem.now fixings.now decisions.now) walk.now n }
+        ↔ IsWalk (node_of here.entry) walk.now n }
     ensures small { IfSome result (λ n. n ≤ 2 ^ 127) }
 {
     let (first, rest) = walk.split_first()?;
     // that these are numbers of 64 bits bounds the length
-    let _lower = lower_of(problem, fixings, *first);
+    let _lower = lower_of(here.problem, here.fixings, *first);
     let _count = count_of(rest);
-    walk_length(problem, fixings, decisions, trains, walk)
+    walk_length(
+        here.problem,
+        here.fixings,
+        here.decisions,
+        here.trains,
+        walk,
+    )
 }
 
 /// Where a walk ends on a train, and how long it is; none where it is no walk that ends there.
-fn landing_of(
-    problem: &Problem,
-    fixings: &FixingIndex,
-    decisions: &DecisionPath,
-    trains: &KnownTrains,
-    train: u32,
-    walk: &[Op],
-) -> Option<Landing>
-    requires { AreKnown (node_at problem.now fixings.now decisions.now) trains.now }
-    ensures { IsLanding (node_at problem.now fixings.now decisions.now) train walk.now result }
+fn landing_of(here: KnownNode, train: u32, walk: &[Op]) -> Option<Landing>
+    requires { AreKnown (node_of here) here.trains.now }
+    ensures { IsLanding (node_of here.entry) train walk.now result }
 {
     let Some(end) = end_of(walk) else {
         return None;
@@ -61,7 +54,7 @@ fn landing_of(
     if !(end.train == train) {
         return None;
     }
-    match length_of(problem, fixings, decisions, trains, walk) {
+    match length_of(here, walk) {
         Some(total) => Some(Landing {
             operation: end.op,
             total,
@@ -84,19 +77,16 @@ fn raise(bases: &mut Vec<u128>, landing: Landing)
 /// Raises bases to the lengths of walks that end on a train; false where one is no such walk.
 pub(crate) fn raise_all(
     bases: &mut Vec<u128>,
-    problem: &Problem,
-    fixings: &FixingIndex,
-    decisions: &DecisionPath,
-    trains: &KnownTrains,
+    here: KnownNode,
     train: u32,
     walks: &[List<Op>],
 ) -> bool
-    requires { AreKnown (node_at problem.now fixings.now decisions.now) trains.now }
-    ensures { WasRaised (node_at problem.now fixings.now decisions.now) train walks.now
+    requires { AreKnown (node_of here) here.trains.now }
+    ensures { WasRaised (node_of here.entry) train walks.now
         bases.old.items bases.new.items result }
 {
     for walk in walks {
-        match landing_of(problem, fixings, decisions, trains, train, walk.as_slice()) {
+        match landing_of(here, train, walk.as_slice()) {
             Some(landing) => raise(bases, landing),
             None => return false,
         }

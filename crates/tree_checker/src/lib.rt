@@ -12,6 +12,7 @@ mod ends;
 mod entering;
 mod first;
 mod judging;
+mod known;
 mod landings;
 mod leaf;
 mod lists;

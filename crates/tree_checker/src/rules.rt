@@ -5,9 +5,11 @@ ghost use Rattle.disp_model.specs.Shares.{AreOfOthers};
 ghost use Rattle.node_facts.specs.Orders.{AreKnown};
 ghost use Rattle.tree_checker.specs.declared.lists.ListRule.TheVariants.{Joined};
 ghost use Rattle.tree_checker.specs.Rules.{rule_at, AreRight, IsLeafClosed, EndOnTrain, KeepsListRule};
+ghost use Rattle.tree_checker.specs.KnownNodes.{node_of};
 
 use crate::distinct::{have_distinct, have_distinct_trains};
 use crate::ends::{are_of_others, end_on_train, end_right, is_closed, is_late_if_said};
+use crate::known::KnownNode;
 use crate::leaf::{component_walks, has_verdict, is_long_cycle, listed_trains, says_more};
 use crate::lists::ListRule;
 use crate::names::has_names;
@@ -15,7 +17,7 @@ use crate::rights::are_right;
 use crate::why::Why;
 use decision_paths::DecisionPath;
 use disp_model::{ComponentWalk, Leaf, Memory, Problem, TrainWalks, Verdict};
-use node_facts::{FixingIndex, KnownTrains};
+use node_facts::KnownTrains;
 use std::alloc::Global;
 
 /// The rule of a place in the order in which they are asked; of costs none speaks.
@@ -70,33 +72,48 @@ fn are_on_trains(
 /// Whether a leaf keeps a rule.
 pub(crate) fn keeps(
     alloc: Global,
-    problem: &Problem,
-    fixings: &FixingIndex,
-    decisions: &DecisionPath,
-    trains: &KnownTrains,
+    here: KnownNode,
     verdict: Verdict,
     leaf: &Leaf,
     rule: Why,
 ) -> Result<bool, Memory>
-    requires { AreKnown (node_at problem.now fixings.now decisions.now) trains.now }
+    requires { AreKnown (node_of here) here.trains.now }
     ensures { IfOk result (λ kept. IsTrue kept
-        ↔ KeepsListRule (node_at problem.now fixings.now decisions.now) verdict leaf.now rule) }
+        ↔ KeepsListRule (node_of here.entry) verdict leaf.now rule) }
 {
     let walks = component_walks(leaf);
     let listed = listed_trains(leaf);
     match rule {
-        Why::BadName => Ok(has_names(problem, trains, decisions, leaf)),
+        Why::BadName => Ok(has_names(here.problem, here.trains, here.decisions, leaf)),
         Why::BadChoice => Ok(true),
         Why::HasRoute => Ok(says_more(leaf)),
         Why::NotCycle => Ok(is_long_cycle(leaf)),
-        Why::EmptyWalk => Ok(are_right(problem, trains, decisions, ListRule::NotEmpty, leaf)),
-        Why::NotForced => Ok(are_right(problem, trains, decisions, ListRule::Forced, leaf)),
-        Why::BadArc => Ok(has_arcs(problem, trains, decisions, leaf)),
-        Why::NotLate => Ok(is_late_if_said(problem, fixings, decisions, trains, leaf)),
+        Why::EmptyWalk => Ok(are_right(
+            here.problem,
+            here.trains,
+            here.decisions,
+            ListRule::NotEmpty,
+            leaf,
+        )),
+        Why::NotForced => Ok(are_right(
+            here.problem,
+            here.trains,
+            here.decisions,
+            ListRule::Forced,
+            leaf,
+        )),
+        Why::BadArc => Ok(has_arcs(here.problem, here.trains, here.decisions, leaf)),
+        Why::NotLate => Ok(is_late_if_said(
+            here.problem,
+            here.fixings,
+            here.decisions,
+            here.trains,
+            leaf,
+        )),
         Why::RepeatedComponent => have_distinct(alloc, walks),
         Why::RepeatedTrain => have_distinct_trains(alloc, listed),
-        Why::WrongTrain => are_on_trains(alloc, problem, walks, listed),
-        Why::WrongEnd => Ok(end_right(problem, walks)),
+        Why::WrongTrain => are_on_trains(alloc, here.problem, walks, listed),
+        Why::WrongEnd => Ok(end_right(here.problem, walks)),
         Why::NoVerdict => Ok(has_verdict(verdict, leaf)),
         Why::BelowCost { .. } => Ok(true),
     }

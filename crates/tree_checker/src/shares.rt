@@ -7,13 +7,14 @@ ghost use Rattle.node_facts.specs.Orders.{AreKnown};
 ghost use Rattle.tree_checker.specs.Bounds.{IsSharesOfAll};
 ghost use Rattle.problem_facts.specs.Components.{AreOwnOf};
 ghost use Rattle.tree_checker.specs.TrainCosts.{base_by, IsLeastCost, IsShown};
+ghost use Rattle.tree_checker.specs.KnownNodes.{node_of};
 
 use crate::entering::{entered_of, kept_at};
+use crate::known::KnownNode;
 use crate::landings::{lowers_of, raise_all};
 use crate::paying::costs_over;
-use decision_paths::DecisionPath;
 use disp_model::{Memory, Problem, TrainWalks};
-use node_facts::{FixingIndex, KnownTrains, TrainKnowledge, train_of};
+use node_facts::{TrainKnowledge, train_of};
 use problem_facts::OwnComponents;
 use std::alloc::Global;
 
@@ -44,53 +45,44 @@ fn least_cost(
 }
 
 /// What a listed train costs at least by its walks; none where it shows no share.
-fn share_of(
-    alloc: Global,
-    problem: &Problem,
-    fixings: &FixingIndex,
-    decisions: &DecisionPath,
-    trains: &KnownTrains,
-    own: &OwnComponents,
-    shown: &TrainWalks,
-) -> Result<Option<u128>, Memory>
-    requires known { AreKnown (node_at problem.now fixings.now decisions.now) trains.now }
-    requires own { AreOwnOf problem.now own.now }
-    ensures { IfOk result
-        (IsShown (node_at problem.now fixings.now decisions.now) shown.now) }
+fn share_of(alloc: Global, here: KnownNode, shown: &TrainWalks) -> Result<Option<u128>, Memory>
+    requires known { AreKnown (node_of here) here.trains.now }
+    requires own { AreOwnOf here.problem.now here.own.now }
+    ensures { IfOk result (IsShown (node_of here.entry) shown.now) }
 {
     let train = shown.train;
-    let Some(known) = trains.as_slice().get(train as usize) else {
+    let Some(known) = here.trains.as_slice().get(train as usize) else {
         return Ok(None);
     };
-    let count = train_of(problem, train).len();
-    let mut bases = lowers_of(alloc, problem, fixings, train, count)?;
+    let count = train_of(here.problem, train).len();
+    let mut bases = lowers_of(alloc, here.problem, here.fixings, train, count)?;
     let walks = shown.walks.as_slice();
-    if !raise_all(
-        &mut bases, problem, fixings, decisions, trains, train, walks,
-    ) {
+    if !raise_all(&mut bases, here, train, walks) {
         return Ok(None);
     }
-    least_cost(alloc, problem, own, known, train, bases.as_slice())
+    least_cost(
+        alloc,
+        here.problem,
+        here.own,
+        known,
+        train,
+        bases.as_slice(),
+    )
 }
 
 /// What listed trains cost together by their walks; none where one of them has no share.
 pub(crate) fn shares_cost(
     alloc: Global,
-    problem: &Problem,
-    fixings: &FixingIndex,
-    decisions: &DecisionPath,
-    trains: &KnownTrains,
-    own: &OwnComponents,
+    here: KnownNode,
     listed: &[TrainWalks],
 ) -> Result<Option<u128>, Memory>
-    requires known { AreKnown (node_at problem.now fixings.now decisions.now) trains.now }
-    requires own { AreOwnOf problem.now own.now }
-    ensures { IfOk result
-        (IsSharesOfAll (node_at problem.now fixings.now decisions.now) listed.now) }
+    requires known { AreKnown (node_of here) here.trains.now }
+    requires own { AreOwnOf here.problem.now here.own.now }
+    ensures { IfOk result (IsSharesOfAll (node_of here.entry) listed.now) }
 {
     let mut total: u128 = 0;
     for shown in listed {
-        match share_of(alloc, problem, fixings, decisions, trains, own, shown)? {
+        match share_of(alloc, here, shown)? {
             Some(share) => total = total.saturating_add(share),
             None => return Ok(None),
         }
