@@ -1,10 +1,9 @@
-ghost use Rattle.std.specs.Prelude.{◌≡◌, ◌↔◌, IsTrue};
-ghost use Rattle.disp_model.specs.Cost.{cost_at};
+ghost use Rattle.std.specs.Prelude.{◌↔◌, IsTrue};
 ghost use Rattle.disp_model.specs.Node.{node_at};
 ghost use Rattle.disp_model.specs.Nodes.{component_op};
 ghost use Rattle.disp_model.specs.Walks.{EndsIn};
 ghost use Rattle.node_facts.specs.Orders.{AreKnown};
-ghost use Rattle.node_facts.specs.Costs.{capped, IsWalkCost, IsCostOfAll};
+ghost use Rattle.node_facts.specs.Costs.{IsWalkCost, IsCostOfAll};
 
 use crate::arcs::is_same;
 use crate::fixing_index::FixingIndex;
@@ -13,21 +12,7 @@ use crate::trains::KnownTrains;
 use crate::walks::walk_length;
 use decision_paths::DecisionPath;
 use disp_model::{Component, ComponentWalk, Op, Problem};
-
-/// What a component costs where its operation starts at a time, or the greatest number of 128 bits
-/// where it costs more.
-fn cost_of(component: &Component, time: u128) -> u128
-    ensures { result ≡ capped (cost_at component.now time) }
-{
-    let threshold = u128::from(component.threshold);
-    let late = time.saturating_sub(threshold);
-    let sum = u128::from(component.coeff).saturating_mul(late);
-    if threshold <= time {
-        sum.saturating_add(u128::from(component.increment))
-    } else {
-        sum
-    }
-}
+use problem_facts::cost_of;
 
 /// Whether a walk ends in the operation of a component.
 pub fn ends_in(walk: &[Op], component: &Component) -> bool
