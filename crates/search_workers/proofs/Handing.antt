@@ -8,7 +8,7 @@ use Rattle.disp_model.specs.Node.{Node, node_at}
 use Rattle.open_nodes.specs.declared.work.Fragment.{Fragment}
 use Rattle.open_nodes.specs.declared.work.Work.{Work}
 use Rattle.tree_growth.specs.Grown.{GrowsBelow, branches}
-use Rattle.dispatch_core.specs.Asked.{IsGrowth, MayGiveBack}
+use Rattle.dispatch_core.specs.Asked.{IsGrowth}
 use Rattle.dispatch_core.specs.States.{Core, IsExamined}
 use Rattle.dispatch_core.proofs.Replacing.{newest_fixings}
 use Rattle.search_workers.specs.Searched.{IsOfNewest, node_of}

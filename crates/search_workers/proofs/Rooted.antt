@@ -1,9 +1,9 @@
 -- The root of the newest edition.
-use Rattle.std.proofs.Common.{◌≡◌, ◌∙◌, List, [], refl, sym, ap, subst}
+use Rattle.std.proofs.Common.{◌≡◌, List, [], sym, subst}
 use Rattle.disp_model.specs.declared.fixing.Fixing.{Fixing}
 use Rattle.disp_model.specs.declared.problem.Problem.{Problem}
 use Rattle.disp_model.specs.declared.tree.Leaf.{Leaf as TreeLeaf}
-use Rattle.disp_model.specs.History.{changes_of, edition_of}
+use Rattle.disp_model.specs.History.{edition_of}
 use Rattle.disp_model.specs.Node.{Node, node_at}
 use Rattle.dispatch_core.specs.States.{Core, IsSound}
 use Rattle.event_graph.specs.Joined.{IsOfEdition}

@@ -1,5 +1,3 @@
-use Rattle.std.proofs.Common.{◌∙◌, ap}
-use Rattle.disp_model.specs.declared.settings.Settings.{Settings}
 use Rattle.search_workers.proofs.GoingOn.{on_on, dead_on}
 use Rattle.search_workers.proofs.search.rounds_of_dead.Goals as goal
 

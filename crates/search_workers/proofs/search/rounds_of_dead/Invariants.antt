@@ -1,4 +1,4 @@
-use Rattle.std.proofs.Common.{◌≡◌, []}
+use Rattle.std.proofs.Common.{[]}
 use Rattle.disp_model.specs.History.{edition_of}
 use Rattle.disp_model.specs.Node.{node_at}
 use Rattle.node_leaves.specs.Shown.{IsDeadLeaf}

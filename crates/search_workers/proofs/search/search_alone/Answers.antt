@@ -1,6 +1,5 @@
-use Rattle.std.proofs.Common.{◌≡◌, ◌∙◌, []}
+use Rattle.std.proofs.Common.{◌∙◌, []}
 use Rattle.std.proofs.lemmas.Result.{IfOk-at_ok}
-use Rattle.disp_model.specs.History.{edition_of}
 use Rattle.disp_model.specs.Node.{node_at}
 use Rattle.node_leaves.specs.Shown.{IsDeadLeaf}
 use Rattle.search_workers.proofs.Rooted.{root_edition, graph_newest, dead_root}
