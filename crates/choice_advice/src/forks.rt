@@ -14,6 +14,8 @@ pub(crate) struct Fork {
     pub number: u32,
     /// How many of its ways lead on in time, two where they are more.
     pub live: u32,
+    /// How much more the second least of those costs than the least one.
+    pub spread: u64,
     /// How many of those cost no more than the least one, and begin with what no other train must
     /// hold then.
     pub free: u32,
@@ -25,6 +27,9 @@ impl Fork {
     fn is_before(&self, other: &Fork) -> bool {
         if self.live != other.live {
             return self.live < other.live;
+        }
+        if self.spread != other.spread {
+            return self.spread > other.spread;
         }
         if self.free != other.free {
             return self.free < other.free;
@@ -56,6 +61,7 @@ fn fork_at(
     let mut fork = Fork {
         number: parting.fork,
         live: 0,
+        spread: 0,
         free: 0,
         start: spot.start,
     };
@@ -63,6 +69,7 @@ fn fork_at(
         return fork;
     };
     let mut least = NEVER;
+    let mut second = NEVER;
     for op in next.as_slice() {
         let over = parting.first.saturating_add(*op);
         let way = ways.way(view, seeker, routes, parting, over);
@@ -71,12 +78,18 @@ fn fork_at(
         }
         fork.live = fork.live.saturating_add(1).min(2);
         if way.cost < least {
+            second = least;
             least = way.cost;
             fork.free = 0;
+        } else {
+            second = second.min(way.cost);
         }
         if way.cost == least && way.free {
             fork.free = fork.free.saturating_add(1);
         }
+    }
+    if second != NEVER {
+        fork.spread = second.saturating_sub(least);
     }
     fork
 }
