@@ -18,42 +18,48 @@ use packed_nodes::PackedNode;
 use problem_facts::OwnComponents;
 use std::alloc::Global;
 
+/// What a tree is to show, and of what.
+#[derive(Clone, Copy)]
+struct Claim<'a> {
+    problem: &'a Problem,
+    fixings: &'a FixingIndex,
+    own: &'a OwnComponents,
+    verdict: Verdict,
+}
+
 /// Puts a node of the tree into the next place, and its children before those that are left; says
 /// why it does not hold there, if it does not.
 fn step(
     alloc: Global,
-    problem: &Problem,
-    fixings: &FixingIndex,
-    verdict: Verdict,
+    claim: Claim,
     path: &mut DecisionPath,
     trains: &mut KnownTrains,
-    own: &OwnComponents,
     places: &mut Vec<Place>,
     top: &TreeNode,
 ) -> Result<Option<Why>, Memory>
     requires nested { IsNested (length path.old) (reverse places.old.items) }
-    requires known { AreKnown (node_at problem.now fixings.now path.old) trains.old }
-    requires own { AreOwnOf problem.now own.now }
-    ensures steps { IfOk result (IsStep problem.now fixings.now verdict top.now
-        path.old path.new places.old.items places.new.items) }
-    ensures known { OnOk result
-        (AreKnown (node_at problem.now fixings.now path.new) trains.new) }
+    requires known { AreKnown (node_at claim.problem.now claim.fixings.now path.old) trains.old }
+    requires own { AreOwnOf claim.problem.now claim.own.now }
+    ensures steps { IfOk result (IsStep claim.entry.problem.now claim.entry.fixings.now
+        claim.entry.verdict top.now path.old path.new places.old.items places.new.items) }
+    ensures known { OnOk result (AreKnown
+        (node_at claim.entry.problem.now claim.entry.fixings.now path.new) trains.new) }
 {
     let Some(place) = places.pop() else {
         return Ok(Some(Why::BadChoice));
     };
-    descend(alloc, problem, fixings, path, trains, place)?;
+    descend(alloc, claim.problem, claim.fixings, path, trains, place)?;
     let here = KnownNode {
-        problem,
-        fixings,
+        problem: claim.problem,
+        fixings: claim.fixings,
         decisions: &*path,
         trains: &*trains,
-        own,
+        own: claim.own,
     };
-    if let Some(why) = judge(alloc, here, verdict, top)? {
+    if let Some(why) = judge(alloc, here, claim.verdict, top)? {
         return Ok(Some(why));
     }
-    let below = decisions_below(alloc, problem, top)?;
+    let below = decisions_below(alloc, claim.problem, top)?;
     open(places, path.len(), &below)?;
     Ok(None)
 }
@@ -61,27 +67,22 @@ fn step(
 /// Unpacks a node of the tree, and does the same with it.
 fn unpacked_step(
     alloc: Global,
-    problem: &Problem,
-    fixings: &FixingIndex,
-    verdict: Verdict,
+    claim: Claim,
     path: &mut DecisionPath,
     trains: &mut KnownTrains,
-    own: &OwnComponents,
     places: &mut Vec<Place>,
     packed: &PackedNode,
 ) -> Result<Option<Why>, Memory>
     requires nested { IsNested (length path.old) (reverse places.old.items) }
-    requires known { AreKnown (node_at problem.now fixings.now path.old) trains.old }
-    requires own { AreOwnOf problem.now own.now }
-    ensures steps { IfOk result (IsStep problem.now fixings.now verdict packed.now
-        path.old path.new places.old.items places.new.items) }
-    ensures known { OnOk result
-        (AreKnown (node_at problem.now fixings.now path.new) trains.new) }
+    requires known { AreKnown (node_at claim.problem.now claim.fixings.now path.old) trains.old }
+    requires own { AreOwnOf claim.problem.now claim.own.now }
+    ensures steps { IfOk result (IsStep claim.entry.problem.now claim.entry.fixings.now
+        claim.entry.verdict packed.now path.old path.new places.old.items places.new.items) }
+    ensures known { OnOk result (AreKnown
+        (node_at claim.entry.problem.now claim.entry.fixings.now path.new) trains.new) }
 {
     let top = packed.node(alloc)?;
-    step(
-        alloc, problem, fixings, verdict, path, trains, own, places, &top,
-    )
+    step(alloc, claim, path, trains, places, &top)
 }
 
 /// What is to be said of a tree: accepted, or the first node that is refused, and why.
@@ -97,6 +98,12 @@ fn check_tree(
     let mut path = DecisionPath::new(alloc, problem.trains.len())?;
     let mut trains = KnownTrains::of(alloc, problem, fixings, &path)?;
     let own = OwnComponents::of(alloc, problem)?;
+    let claim = Claim {
+        problem,
+        fixings,
+        own: &own,
+        verdict,
+    };
     let mut places = Vec::new(alloc);
     places.push(Place {
         depth: 0,
@@ -105,12 +112,9 @@ fn check_tree(
     for (node, packed) in tree.iter().enumerate() {
         if let Some(why) = unpacked_step(
             alloc,
-            problem,
-            fixings,
-            verdict,
+            claim,
             &mut path,
             &mut trains,
-            &own,
             &mut places,
             packed,
         )? {

@@ -5,4 +5,4 @@ use Rattle.tree_checker.proofs.Descending.{IsLeft}
 use Rattle.tree_checker.proofs.checking.check_tree.Given as goal
 
 abbrev pub invariant-loop-node : goal.invariant-loop-node
-invariant-loop-node l = IsLeft l.problem l.fixings l.verdict l.tree l.node l.path l.places.items × AreKnown (node_at l.problem l.fixings l.path) l.trains
+invariant-loop-node l = IsLeft l.problem l.fixings l.fn.verdict l.tree l.node l.path l.places.items × AreKnown (node_at l.problem l.fixings l.path) l.trains
