@@ -149,8 +149,10 @@ fills_as problem last shows n place (outline.Branch choice) graft = record {
   bounds = graft.bounds;
   splits = graft.splits ++ record { node = n; choice = choice } ∷ [];
 }
-fills_as problem last shows n place outline.Dead graft = filled_by_leaf last shows n place Dead graft
-fills_as problem last shows n place outline.Open graft = filled_by_leaf last shows n place Open graft
+fills_as problem last shows n place outline.Dead graft =
+    filled_by_leaf last shows n place Dead graft
+fills_as problem last shows n place outline.Open graft =
+    filled_by_leaf last shows n place Open graft
 
 abbrev pub fills_there : Problem → ℕ → ℕ → ℕ → Option Place → TreeNode → Graft → Graft
 fills_there problem last shows n None node graft = graft

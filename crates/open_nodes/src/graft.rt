@@ -226,13 +226,13 @@ fn fill<'a>(
     node: &PackedNode,
     made: &mut Grafted,
 ) -> Result<Step<'a>, Memory>
-    ensures { IfOk result (λ next. IsGraft (fills problem.now last shows step.entry.at node.now (record {
-      grown = made.old.grown.items;
-      at = step.entry.at;
-      bounds = step.entry.left.now;
-      splits = made.old.splits;
-    }))
-        made.new.grown.items next.at next.left.now made.new.splits) }
+    ensures { IfOk result (λ next. IsGraft (fills problem.now last shows step.entry.at node.now
+        (record {
+          grown = made.old.grown.items;
+          at = step.entry.at;
+          bounds = step.entry.left.now;
+          splits = made.old.splits;
+        })) made.new.grown.items next.at next.left.now made.new.splits) }
 {
     let Some(number) = step.at else {
         return Ok(step);
