@@ -102,6 +102,7 @@ fn add_orders_of(found: &mut Vec<Decision>, first: Op, s: u32, a: &Operation, ot
 }
 
 /// The operation that came last on a resource.
+#[derive(Drop)]
 struct Latest {
     resource: u32,
     op: Op,
@@ -334,7 +335,7 @@ for trains in "${sizes[@]}"; do
     echo "    run(rt, $trains, \"$PWD/problem$trains.json\")?;" >> src/main.rt
 done
 printf '    Ok(())\n}\n' >> src/main.rt
-mkdir -p proofs/{try_each,add_each,root}
+mkdir -p proofs/{try_each,add_each,try_and_add_each,root}
 for call in try_each add_each try_and_add_each; do
     cat > proofs/$call/Invariants.antt <<PROOF
 use Rattle.std.proofs.Common.{◌≡◌}

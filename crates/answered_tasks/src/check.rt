@@ -42,7 +42,7 @@ fn check_with<S: Shelf>(
     ensures reads { ReadsNames (IsGiven (option_map (λ name. name.now) plan.entry))
         (S.state shelf.old) (S.state shelf.new)
         (IsErrAnd result IsReadingFault) }
-    ensures feeds { (S.state shelf.new).open_feeds ≡ (S.state shelf.old).open_feeds }
+    ensures feeds { S.open_feeds shelf.new ≡ S.open_feeds shelf.old }
 {
     match given_plan(alloc, shelf, plan) {
         Ok(plan) => judge_tree(alloc, problem, fixings, verdict, tree, plan),
@@ -71,7 +71,7 @@ fn check_tree<S: Shelf>(
     ensures reads { ReadsNames (IsTreeOrPlan tree.now (option_map (λ name. name.now) plan.entry))
         (S.state shelf.old) (S.state shelf.new)
         (IsErrAnd result IsReadingFault) }
-    ensures feeds { (S.state shelf.new).open_feeds ≡ (S.state shelf.old).open_feeds }
+    ensures feeds { S.open_feeds shelf.new ≡ S.open_feeds shelf.old }
 {
     match tree_file(alloc, shelf, edition, tree.as_str()) {
         Ok((verdict, tree)) => check_with(alloc, shelf, problem, fixings, verdict, &tree, plan),
@@ -102,7 +102,7 @@ fn check_files<S: Shelf>(
         (option_map (λ name. name.now) plan.entry))
         (S.state shelf.old) (S.state shelf.new)
         (IsErrAnd result IsReadingFault) }
-    ensures feeds { (S.state shelf.new).open_feeds ≡ (S.state shelf.old).open_feeds }
+    ensures feeds { S.open_feeds shelf.new ≡ S.open_feeds shelf.old }
 {
     match editions_of(alloc, shelf, problem, fixings) {
         Ok(mut editions) => {
@@ -143,7 +143,7 @@ pub(crate) fn run_check<S: Shelf>(
         (option_map (λ name. name.now) plan.entry))
         (S.state shelf.old) (S.state shelf.new)
         (IsErrAnd result IsReadingFault) }
-    ensures feeds { (S.state shelf.new).open_feeds ≡ (S.state shelf.old).open_feeds }
+    ensures feeds { S.open_feeds shelf.new ≡ S.open_feeds shelf.old }
 {
     match problem_file(alloc, shelf, problem.as_str()) {
         Ok(problem) => check_files(alloc, shelf, &problem, fixings, tree, plan),

@@ -27,7 +27,7 @@ fn fetch<S: Shelf>(alloc: Global, shelf: &mut S, which: Input, name: &str) -> Re
         name.now) }
     ensures reads { ReadsOne name.now (S.state shelf.old) (S.state shelf.new)
         (result ≡ Err (Failed which)) }
-    ensures feeds { (S.state shelf.new).open_feeds ≡ (S.state shelf.old).open_feeds }
+    ensures feeds { S.open_feeds shelf.new ≡ S.open_feeds shelf.old }
 {
     match shelf.fetch(alloc, name, MOST_FILE_BYTES) {
         Ok(bytes) => Ok(bytes),
@@ -74,7 +74,7 @@ pub fn problem_file<S: Shelf>(alloc: Global, shelf: &mut S, name: &str) -> Resul
         name.now) }
     ensures reads { ReadsOne name.now (S.state shelf.old) (S.state shelf.new)
         (IsErrAnd result IsReadingFault) }
-    ensures feeds { (S.state shelf.new).open_feeds ≡ (S.state shelf.old).open_feeds }
+    ensures feeds { S.open_feeds shelf.new ≡ S.open_feeds shelf.old }
 {
     let bytes = fetch(alloc, shelf, Input::Problem, name)?;
     problem_of(alloc, &bytes)
@@ -93,7 +93,7 @@ pub(crate) fn solution_file<S: Shelf>(
         name.now) }
     ensures reads { ReadsOne name.now (S.state shelf.old) (S.state shelf.new)
         (IsErrAnd result IsReadingFault) }
-    ensures feeds { (S.state shelf.new).open_feeds ≡ (S.state shelf.old).open_feeds }
+    ensures feeds { S.open_feeds shelf.new ≡ S.open_feeds shelf.old }
 {
     let bytes = fetch(alloc, shelf, Input::Solution, name)?;
     solution_of(alloc, &bytes)
@@ -160,10 +160,10 @@ fn open<S: Shelf>(alloc: Global, shelf: &mut S, name: &str) -> Result<S::Feed, C
     ensures not_long { IfErr result IsNotLong }
     ensures reads { ReadsOne name.now (S.state shelf.old) (S.state shelf.new)
         (result ≡ Err (Failed Input.Fixings)) }
-    ensures opened { OnOk result ((S.state shelf.new).open_feeds
-        ≡ (S.state shelf.old).open_feeds + 1) }
-    ensures unopened { OnErr result ((S.state shelf.new).open_feeds
-        ≡ (S.state shelf.old).open_feeds) }
+    ensures opened { OnOk result (S.open_feeds shelf.new
+        ≡ S.open_feeds shelf.old + 1) }
+    ensures unopened { OnErr result (S.open_feeds shelf.new
+        ≡ S.open_feeds shelf.old) }
 {
     match shelf.feed(alloc, name) {
         Ok(feed) => Ok(feed),
@@ -188,7 +188,7 @@ pub(crate) fn fixings_file<S: Shelf>(
         problem.now name.now) }
     ensures reads { ReadsOne name.now (S.state shelf.old) (S.state shelf.new)
         (IsErrAnd result IsReadingFault) }
-    ensures feeds { (S.state shelf.new).open_feeds ≡ (S.state shelf.old).open_feeds }
+    ensures feeds { S.open_feeds shelf.new ≡ S.open_feeds shelf.old }
 {
     let mut feed = open(alloc, shelf, name)?;
     let editions = take(alloc, problem, &mut feed);
@@ -211,7 +211,7 @@ fn asked_file<S: Shelf>(
         problem.now name.now) }
     ensures reads { ReadsOne name.now (S.state shelf.old) (S.state shelf.new)
         (IsErrAnd result IsReadingFault) }
-    ensures feeds { (S.state shelf.new).open_feeds ≡ (S.state shelf.old).open_feeds }
+    ensures feeds { S.open_feeds shelf.new ≡ S.open_feeds shelf.old }
 {
     let mut feed = open(alloc, shelf, name)?;
     let read = take_asked(alloc, problem, &mut feed);
@@ -238,7 +238,7 @@ pub(crate) fn asked_of<S: Shelf>(
     ensures reads { ReadsNames (IsGiven (option_map (λ n. n.now) name.entry))
         (S.state shelf.old) (S.state shelf.new)
         (IsErrAnd result IsReadingFault) }
-    ensures feeds { (S.state shelf.new).open_feeds ≡ (S.state shelf.old).open_feeds }
+    ensures feeds { S.open_feeds shelf.new ≡ S.open_feeds shelf.old }
 {
     match name {
         Some(name) => asked_file(alloc, shelf, problem, name.as_str()),
@@ -262,7 +262,7 @@ pub(crate) fn editions_of<S: Shelf>(
     ensures reads { ReadsNames (IsGiven (option_map (λ n. n.now) name.entry))
         (S.state shelf.old) (S.state shelf.new)
         (IsErrAnd result IsReadingFault) }
-    ensures feeds { (S.state shelf.new).open_feeds ≡ (S.state shelf.old).open_feeds }
+    ensures feeds { S.open_feeds shelf.new ≡ S.open_feeds shelf.old }
 {
     match name {
         Some(name) => fixings_file(alloc, shelf, problem, name.as_str()),
@@ -318,7 +318,7 @@ pub(crate) fn tree_file<S: Shelf>(
         edition name.now) }
     ensures reads { ReadsOne name.now (S.state shelf.old) (S.state shelf.new)
         (IsErrAnd result IsReadingFault) }
-    ensures feeds { (S.state shelf.new).open_feeds ≡ (S.state shelf.old).open_feeds }
+    ensures feeds { S.open_feeds shelf.new ≡ S.open_feeds shelf.old }
 {
     let bytes = fetch(alloc, shelf, Input::Tree, name)?;
     tree_of(alloc, edition, &bytes)
@@ -348,7 +348,7 @@ fn plan_file<S: Shelf>(
         name.now) }
     ensures reads { ReadsOne name.now (S.state shelf.old) (S.state shelf.new)
         (IsErrAnd result IsReadingFault) }
-    ensures feeds { (S.state shelf.new).open_feeds ≡ (S.state shelf.old).open_feeds }
+    ensures feeds { S.open_feeds shelf.new ≡ S.open_feeds shelf.old }
 {
     let bytes = fetch(alloc, shelf, Input::Plan, name)?;
     plan_of(alloc, &bytes)
@@ -368,7 +368,7 @@ pub(crate) fn given_plan<S: Shelf>(
     ensures reads { ReadsNames (IsGiven (option_map (λ n. n.now) name.entry))
         (S.state shelf.old) (S.state shelf.new)
         (IsErrAnd result IsReadingFault) }
-    ensures feeds { (S.state shelf.new).open_feeds ≡ (S.state shelf.old).open_feeds }
+    ensures feeds { S.open_feeds shelf.new ≡ S.open_feeds shelf.old }
 {
     let Some(name) = name else {
         return Ok(None);

@@ -29,7 +29,7 @@ fn publish<S: Shelf, O: Sink>(alloc: Global, shelf: &mut S, out: &mut O, answer:
         (S.state shelf.old).putting (S.state shelf.new).putting name }
     ensures readings { (name : List ℕ) → (S.state shelf.new).reading name
         ≡ (S.state shelf.old).reading name }
-    ensures feeds { (S.state shelf.new).open_feeds ≡ (S.state shelf.old).open_feeds }
+    ensures feeds { S.open_feeds shelf.new ≡ S.open_feeds shelf.old }
 {
     match put_all(alloc, shelf, answer.puts.as_slice()) {
         Ok(()) => finish(out, answer.lines.as_slice(), answer.status),
@@ -69,7 +69,7 @@ pub fn answer<R: Threads + Wait + Sync, S: Shelf, O: Sink, G: Gate>(
     ensures ends { (words : List (List ℕ)) → IsRead words read → Ends words
         (outside (S.state shelf.old) (O.state out.old))
         (outside (S.state shelf.new) (O.state out.new)) result.status result.journal.items }
-    ensures feeds { (S.state shelf.new).open_feeds ≡ (S.state shelf.old).open_feeds }
+    ensures feeds { S.open_feeds shelf.new ≡ S.open_feeds shelf.old }
 {
     match run(rt, alloc, read, shelf, gate) {
         Ok(answer) => {

@@ -52,7 +52,7 @@ fn solve_with<R: Threads + Wait + Sync, S: Shelf, G: Gate>(
     ensures reads { ReadsNames (IsGiven task.now.fixings)
         (S.state shelf.old) (S.state shelf.new)
         (IsErrAnd result IsReadingFault) }
-    ensures feeds { (S.state shelf.new).open_feeds ≡ (S.state shelf.old).open_feeds }
+    ensures feeds { S.open_feeds shelf.new ≡ S.open_feeds shelf.old }
 {
     match asked_of(alloc, shelf, problem, task.fixings.as_ref()) {
         Ok(asked) => solve(rt, alloc, problem, asked.as_slice(), task, gate),
@@ -77,7 +77,7 @@ fn run_solve<R: Threads + Wait + Sync, S: Shelf, G: Gate>(
     ensures reads { ReadsNames (IsProblemOrFixings task.now.problem task.now.fixings)
         (S.state shelf.old) (S.state shelf.new)
         (IsErrAnd result IsReadingFault) }
-    ensures feeds { (S.state shelf.new).open_feeds ≡ (S.state shelf.old).open_feeds }
+    ensures feeds { S.open_feeds shelf.new ≡ S.open_feeds shelf.old }
 {
     match problem_file(alloc, shelf, task.problem.as_str()) {
         Ok(problem) => solve_with(rt, alloc, shelf, &problem, task, gate),
@@ -103,7 +103,7 @@ fn judge_file<S: Shelf>(
     ensures status { IfOk result (λ answer. IsAnswerStatus answer.status) }
     ensures reads { ReadsOne solution.now (S.state shelf.old) (S.state shelf.new)
         (IsErrAnd result IsReadingFault) }
-    ensures feeds { (S.state shelf.new).open_feeds ≡ (S.state shelf.old).open_feeds }
+    ensures feeds { S.open_feeds shelf.new ≡ S.open_feeds shelf.old }
 {
     let (plan, stated) = solution_file(alloc, shelf, solution)?;
     Ok(judge(alloc, problem, fixings, &plan, stated, telling)?)
@@ -127,7 +127,7 @@ fn judge_with<S: Shelf>(
     ensures status { IfOk result (λ answer. IsAnswerStatus answer.status) }
     ensures reads { ReadsNames (IsOneOfTwo (Some name.now) solution.now)
         (S.state shelf.old) (S.state shelf.new) (IsErrAnd result IsReadingFault) }
-    ensures feeds { (S.state shelf.new).open_feeds ≡ (S.state shelf.old).open_feeds }
+    ensures feeds { S.open_feeds shelf.new ≡ S.open_feeds shelf.old }
 {
     match fixings_file(alloc, shelf, problem, name.as_str()) {
         Ok(mut editions) => judge_file(
@@ -163,7 +163,7 @@ fn judge_files<S: Shelf>(
         (IsOneOfTwo (option_map (λ name. name.now) fixings.entry) solution.now)
         (S.state shelf.old) (S.state shelf.new)
         (IsErrAnd result IsReadingFault) }
-    ensures feeds { (S.state shelf.new).open_feeds ≡ (S.state shelf.old).open_feeds }
+    ensures feeds { S.open_feeds shelf.new ≡ S.open_feeds shelf.old }
 {
     match fixings {
         Some(name) => judge_with(alloc, shelf, problem, name, solution, telling),
@@ -188,7 +188,7 @@ fn run_judge<S: Shelf>(
         (IsOneOfThree task.now.problem task.now.fixings task.now.solution)
         (S.state shelf.old) (S.state shelf.new)
         (IsErrAnd result IsReadingFault) }
-    ensures feeds { (S.state shelf.new).open_feeds ≡ (S.state shelf.old).open_feeds }
+    ensures feeds { S.open_feeds shelf.new ≡ S.open_feeds shelf.old }
 {
     match problem_file(alloc, shelf, task.problem.as_str()) {
         Ok(problem) => {
@@ -230,7 +230,7 @@ fn run_task<R: Threads + Wait + Sync, S: Shelf, G: Gate>(
         ≡ (S.state shelf.old).putting name }
     ensures held { (name : List ℕ) → (S.state shelf.new).holds name
         ≡ (S.state shelf.old).holds name }
-    ensures feeds { (S.state shelf.new).open_feeds ≡ (S.state shelf.old).open_feeds }
+    ensures feeds { S.open_feeds shelf.new ≡ S.open_feeds shelf.old }
 {
     match task {
         Task::Solve(task) => run_solve(rt, alloc, shelf, task, gate),
@@ -272,7 +272,7 @@ pub(crate) fn run<R: Threads + Wait + Sync, S: Shelf, G: Gate>(
         ≡ (S.state shelf.old).putting name }
     ensures held { (name : List ℕ) → (S.state shelf.new).holds name
         ≡ (S.state shelf.old).holds name }
-    ensures feeds { (S.state shelf.new).open_feeds ≡ (S.state shelf.old).open_feeds }
+    ensures feeds { S.open_feeds shelf.new ≡ S.open_feeds shelf.old }
 {
     match task_of(read) {
         Ok(task) => run_task(rt, alloc, shelf, &task, gate),

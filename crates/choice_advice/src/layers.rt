@@ -11,8 +11,8 @@ use std::alloc::Global;
 /// How often a time counts in which a forced operation is run, where others count once.
 const FORCED: u64 = 8;
 
-/// An operation that some allowed routes have and others have not, and how long its resources may be
-/// held by other trains while it is run.
+/// An operation that some allowed routes have and others have not, and how long its resources may
+/// be held by other trains while it is run.
 #[derive(Clone, Copy)]
 pub(crate) struct Crossing {
     pub number: u32,

@@ -9,12 +9,11 @@ Holdings = List ℕ → Option (Option (List ℕ))
 abbrev pub Counts : Type 0
 Counts = List ℕ → ℕ
 
--- what names hold, how often readings and puttings of them have failed, and how many feeds are open
+-- what names hold, and how often readings and puttings of them have failed
 pub record ShelfState : Type 0 where
   pub holds : Holdings
   pub reading : Counts
   pub putting : Counts
-  pub open_feeds : ℕ
 
 -- what was written, where that is told, and how often writes have failed
 pub record SinkState : Type 0 where

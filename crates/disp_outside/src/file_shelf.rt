@@ -112,8 +112,9 @@ where
       holds = λ _. None;
       reading = fault_count_of shelf;
       putting = put_fault_count_of shelf;
-      open_feeds = open_count shelf;
     } };
+
+    ghost open_feeds = { λ shelf. open_count shelf };
 
     // Room for a fault is made first, so that each fault is counted.
     fn fetch(&mut self, alloc: Global, name: &str, limit: u64) -> Result<Vec<u8>, FetchNo> {

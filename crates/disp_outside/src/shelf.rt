@@ -56,9 +56,11 @@ pub trait Shelf: Send {
     ghost knows: { Self → List ℕ → Type 0 };
 
     /// What names hold, where it is told: nothing is told, or there is no file, or there is a file
-    /// of these bytes; how often readings and puttings of a name have failed; and how many feeds
-    /// are open: those that it gave, but for those that were closed.
+    /// of these bytes; and how often readings and puttings of a name have failed.
     ghost state: { Self → ShelfState };
+
+    /// How many of its feeds are open: those that it gave, but for those that were closed.
+    ghost open_feeds: { Self → ℕ };
 
     /// The bytes of a file of at most `limit` bytes.
     ///
@@ -89,7 +91,7 @@ pub trait Shelf: Send {
         ensures still_known { (other : List ℕ) → knows self.old other → knows self.new other }
         ensures memory { IsErrOf result FetchNo.Memory → (other : List ℕ) → knows self.new other
             → knows self.old other }
-        ensures feeds { (state self.new).open_feeds ≡ (state self.old).open_feeds };
+        ensures feeds { open_feeds self.new ≡ open_feeds self.old };
 
     /// Makes these the bytes of the name's file.
     ///
@@ -118,7 +120,7 @@ pub trait Shelf: Send {
             → knows self.old other }
         ensures memory_held { IsErrOf result PutNo.Memory → (state self.new).holds name.now
             ≡ (state self.old).holds name.now }
-        ensures feeds { (state self.new).open_feeds ≡ (state self.old).open_feeds };
+        ensures feeds { open_feeds self.new ≡ open_feeds self.old };
 
     /// A feed of the lines that the name holds.
     ///
@@ -150,8 +152,10 @@ pub trait Shelf: Send {
             → knows self.old other }
 
         // One more is open where a feed is given, and no more where none is.
-        ensures opened { OnOk result ((state self.new).open_feeds ≡ (state self.old).open_feeds + 1) }
-        ensures unopened { OnErr result ((state self.new).open_feeds ≡ (state self.old).open_feeds) };
+        ensures opened { OnOk result
+            (open_feeds self.new ≡ open_feeds self.old + 1) }
+        ensures unopened { OnErr result
+            (open_feeds self.new ≡ open_feeds self.old) };
 
     /// Ends a feed. What failed in it counts as one fault of reading its name.
     fn close(&mut self, feed: Self::Feed)
@@ -173,5 +177,5 @@ pub trait Shelf: Send {
         ensures known { (other : List ℕ) → knows self.new other ↔ knows self.old other }
 
         // One less is open.
-        ensures closed { (state self.new).open_feeds ≡ (state self.old).open_feeds - 1 };
+        ensures closed { open_feeds self.new ≡ open_feeds self.old - 1 };
 }

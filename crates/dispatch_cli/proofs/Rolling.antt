@@ -192,12 +192,12 @@ run_of task problem old mid new status journal file reads faults written runs = 
 
 -- the roll did not begin, and its cause was told
 pub stopped_of : (task : RollTask) (old mid new : Outside) (why : RollNo) (status : ℕ) (journal : List Entry) → HasNotBegun task old mid why
-    → StopsWith mid.faults new.faults mid.written new.written why status → new.holds ≡ mid.holds → new.reading ≡ mid.reading → new.putting ≡ mid.putting → new.open_feeds ≡ mid.open_feeds → journal ≡ []
+    → StopsWith mid.faults new.faults mid.written new.written why status → new.holds ≡ mid.holds → new.reading ≡ mid.reading → new.putting ≡ mid.putting → journal ≡ []
     → EndsStopped task old new status journal
-stopped_of task old mid new why status journal before told holds reading putting feeds none = record {
+stopped_of task old mid new why status journal before told holds reading putting none = record {
   why = why;
   stops = rw (reading) before.stops;
-  reads = rw (reading, putting, holds, feeds) before.reads;
+  reads = rw (reading, putting, holds) before.reads;
   told = rw (← before.faults, ← before.written) told;
   journal_is = none;
 }

@@ -32,10 +32,10 @@ fn open_next<S: Shelf>(
         ≡ (S.state shelf.old).putting other }
     ensures held { (other : List ℕ) → (S.state shelf.new).holds other
         ≡ (S.state shelf.old).holds other }
-    ensures opened { OnOk result ((S.state shelf.new).open_feeds
-        ≡ (S.state shelf.old).open_feeds + 1) }
-    ensures unopened { OnErr result ((S.state shelf.new).open_feeds
-        ≡ (S.state shelf.old).open_feeds) }
+    ensures opened { OnOk result (S.open_feeds shelf.new
+        ≡ S.open_feeds shelf.old + 1) }
+    ensures unopened { OnErr result (S.open_feeds shelf.new
+        ≡ S.open_feeds shelf.old) }
 {
     feeds.reserve(1)?;
     match shelf.feed(alloc, name) {
@@ -69,8 +69,8 @@ fn open_each<S: Shelf>(
         ≡ (S.state shelf.old).putting name }
     ensures held { (name : List ℕ) → (S.state shelf.new).holds name
         ≡ (S.state shelf.old).holds name }
-    ensures opened { (S.state shelf.new).open_feeds
-        ≡ (S.state shelf.old).open_feeds + length feeds.new.items }
+    ensures opened { S.open_feeds shelf.new
+        ≡ S.open_feeds shelf.old + length feeds.new.items }
 {
     let mut number = 0;
     for name in names {
@@ -105,10 +105,10 @@ pub(crate) fn open_feeds<S: Shelf>(
         ≡ (S.state shelf.old).putting name }
     ensures held { (name : List ℕ) → (S.state shelf.new).holds name
         ≡ (S.state shelf.old).holds name }
-    ensures opened { IfOk result (λ feeds. (S.state shelf.new).open_feeds
-        ≡ (S.state shelf.old).open_feeds + length feeds.items) }
-    ensures unopened { OnErr result ((S.state shelf.new).open_feeds
-        ≡ (S.state shelf.old).open_feeds) }
+    ensures opened { IfOk result (λ feeds. S.open_feeds shelf.new
+        ≡ S.open_feeds shelf.old + length feeds.items) }
+    ensures unopened { OnErr result (S.open_feeds shelf.new
+        ≡ S.open_feeds shelf.old) }
 {
     let mut feeds = Vec::new(alloc);
     match open_each(alloc, shelf, names, &mut feeds) {

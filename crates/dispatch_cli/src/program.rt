@@ -45,7 +45,7 @@ pub fn dispatch<R: Threads + Wait + Sync, S: Shelf, O: Sink, G: Gate>(
     ensures ends { EndsAs (map (λ word. string_bytes word) words.now)
         (outside (S.state shelf.old) (O.state out.old))
         (outside (S.state shelf.new) (O.state out.new)) result.status result.journal.items }
-    ensures feeds { (S.state shelf.new).open_feeds ≡ (S.state shelf.old).open_feeds }
+    ensures feeds { S.open_feeds shelf.new ≡ S.open_feeds shelf.old }
 {
     match read_words(alloc, words) {
         Ok(Task::Roll(task)) => run_roll(rt, alloc, &task, shelf, out, gate),

@@ -26,7 +26,7 @@ fn problem_of<S: Shelf>(alloc: Global, shelf: &mut S, task: &RollTask) -> Result
         (S.state shelf.old).reading (S.state shelf.new).reading) }
     ensures reads { ReadsOne task.now.problem (S.state shelf.old) (S.state shelf.new)
         (IsErrAnd result IsFault) }
-    ensures feeds { (S.state shelf.new).open_feeds ≡ (S.state shelf.old).open_feeds }
+    ensures feeds { S.open_feeds shelf.new ≡ S.open_feeds shelf.old }
 {
     let count = task.feeds.len();
     if count > MOST_CALLERS as usize {
@@ -60,7 +60,7 @@ fn roll_feeds<R: Threads + Wait + Sync, S: Shelf, O: Sink, G: Gate>(
         ≡ (S.state shelf.old).holds name) }
     ensures faults { OnErr result ((O.state out.new).faults ≡ (O.state out.old).faults) }
     ensures written { OnErr result ((O.state out.new).written ≡ (O.state out.old).written) }
-    ensures feeds { (S.state shelf.new).open_feeds ≡ (S.state shelf.old).open_feeds }
+    ensures feeds { S.open_feeds shelf.new ≡ S.open_feeds shelf.old }
 {
     let feeds = match open_feeds(alloc, shelf, task.feeds.as_slice()) {
         Ok(feeds) => feeds,
@@ -100,7 +100,7 @@ fn rolled_of<R: Threads + Wait + Sync, S: Shelf, O: Sink, G: Gate>(
     ensures no { IfErr result (HasNotBegun task.now
         (outside (S.state shelf.old) (O.state out.old))
         (outside (S.state shelf.new) (O.state out.new))) }
-    ensures feeds { (S.state shelf.new).open_feeds ≡ (S.state shelf.old).open_feeds }
+    ensures feeds { S.open_feeds shelf.new ≡ S.open_feeds shelf.old }
 {
     match problem_of(alloc, shelf, task) {
         Ok(problem) => roll_feeds(rt, alloc, &problem, task, shelf, out, gate),
@@ -120,7 +120,7 @@ pub(crate) fn run_roll<R: Threads + Wait + Sync, S: Shelf, O: Sink, G: Gate>(
     ensures ends { EndsRoll task.now
         (outside (S.state shelf.old) (O.state out.old))
         (outside (S.state shelf.new) (O.state out.new)) result.status result.journal.items }
-    ensures feeds { (S.state shelf.new).open_feeds ≡ (S.state shelf.old).open_feeds }
+    ensures feeds { S.open_feeds shelf.new ≡ S.open_feeds shelf.old }
 {
     match rolled_of(rt, alloc, task, shelf, out, gate) {
         Ok(rolled) => Done {

@@ -69,8 +69,8 @@ pub fn join_readers<S: Shelf>(
         ≡ (S.state shelf.old).putting name }
     ensures held { (name : List ℕ) → (S.state shelf.new).holds name
         ≡ (S.state shelf.old).holds name }
-    ensures closed { (S.state shelf.new).open_feeds
-        ≡ (S.state shelf.old).open_feeds - length readers.items }
+    ensures closed { S.open_feeds shelf.new
+        ≡ S.open_feeds shelf.old - length readers.items }
 {
     for reader in readers {
         let Reader { pass, feed, .. } = reader;

@@ -39,7 +39,7 @@ fn put_tree<S: Shelf>(
     ensures readings { (name : List ℕ) → (S.state shelf.new).reading name
         ≡ (S.state shelf.old).reading name }
     ensures known { (name : List ℕ) → S.knows shelf.old name → S.knows shelf.new name }
-    ensures feeds { (S.state shelf.new).open_feeds ≡ (S.state shelf.old).open_feeds }
+    ensures feeds { S.open_feeds shelf.new ≡ S.open_feeds shelf.old }
 {
     let Ok(puts) = entry_puts(alloc, trees, entry) else {
         return Err(PutNo::Memory);
@@ -80,7 +80,7 @@ fn print_entry<S: Shelf, O: Sink>(
         (outside (S.state shelf.old) (O.state out.old))
         (outside (S.state shelf.new) (O.state out.new)) result }
     ensures known { (name : List ℕ) → S.knows shelf.old name → S.knows shelf.new name }
-    ensures feeds { (S.state shelf.new).open_feeds ≡ (S.state shelf.old).open_feeds }
+    ensures feeds { S.open_feeds shelf.new ≡ S.open_feeds shelf.old }
 {
     put_tree(alloc, shelf, trees, entry)?;
     write_line(alloc, out, entry)?;
@@ -110,7 +110,7 @@ pub fn print_entries<S: Shelf, O: Sink>(
         (outside (S.state shelf.old) (O.state out.old))
         (outside (S.state shelf.new) (O.state out.new)) result }
     ensures known { (name : List ℕ) → S.knows shelf.old name → S.knows shelf.new name }
-    ensures feeds { (S.state shelf.new).open_feeds ≡ (S.state shelf.old).open_feeds }
+    ensures feeds { S.open_feeds shelf.new ≡ S.open_feeds shelf.old }
 {
     for entry in entries {
         print_entry(alloc, shelf, out, trees, entry)?;

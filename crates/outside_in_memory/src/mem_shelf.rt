@@ -170,8 +170,9 @@ impl Shelf for MemShelf {
       holds = λ name. Some (held_file shelf name);
       reading = reading_faults shelf;
       putting = putting_faults shelf;
-      open_feeds = open_count shelf;
     } };
+
+    ghost open_feeds = { λ shelf. open_count shelf };
 
     #[tactic(auto, using(std::proofs::lemmas::Map::Text::text_keys))]
     fn fetch(&mut self, alloc: Global, name: &str, limit: u64) -> Result<Vec<u8>, FetchNo>

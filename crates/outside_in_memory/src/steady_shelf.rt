@@ -76,8 +76,9 @@ impl Shelf for SteadyShelf {
       holds = λ name. Some (Some (held_bytes shelf name));
       reading = λ _. 0;
       putting = λ _. 0;
-      open_feeds = steady_open_count shelf;
     } };
+
+    ghost open_feeds = { λ shelf. steady_open_count shelf };
 
     fn fetch(&mut self, alloc: Global, name: &str, limit: u64) -> Result<Vec<u8>, FetchNo> {
         copy_within(alloc, self.file(name), limit)

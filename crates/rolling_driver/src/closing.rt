@@ -14,8 +14,8 @@ pub fn close_feeds<S: Shelf>(shelf: &mut S, feeds: Vec<S::Feed>)
         ≡ (S.state shelf.old).putting name }
     ensures held { (name : List ℕ) → (S.state shelf.new).holds name
         ≡ (S.state shelf.old).holds name }
-    ensures closed { (S.state shelf.new).open_feeds
-        ≡ (S.state shelf.old).open_feeds - length feeds.items }
+    ensures closed { S.open_feeds shelf.new
+        ≡ S.open_feeds shelf.old - length feeds.items }
 {
     for feed in feeds {
         shelf.close(feed);
@@ -33,8 +33,8 @@ pub(crate) fn close_readers<S: Shelf>(shelf: &mut S, readers: Vec<Reader<S::Feed
         ≡ (S.state shelf.old).putting name }
     ensures held { (name : List ℕ) → (S.state shelf.new).holds name
         ≡ (S.state shelf.old).holds name }
-    ensures closed { (S.state shelf.new).open_feeds
-        ≡ (S.state shelf.old).open_feeds - length readers.items }
+    ensures closed { S.open_feeds shelf.new
+        ≡ S.open_feeds shelf.old - length readers.items }
 {
     for reader in readers {
         let Reader { feed, .. } = reader;

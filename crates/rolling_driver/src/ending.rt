@@ -35,7 +35,7 @@ fn print_rest<W: Wait, S: Shelf, O: Sink>(
         (outside (S.state shelf.new) (O.state out.new)) printed result }
     ensures readings { (name : List ℕ) → (S.state shelf.new).reading name
         ≡ (S.state shelf.old).reading name }
-    ensures feeds { (S.state shelf.new).open_feeds ≡ (S.state shelf.old).open_feeds }
+    ensures feeds { S.open_feeds shelf.new ≡ S.open_feeds shelf.old }
 {
     match printed {
         Ok(()) => print_news(rt, alloc, board, first, shelf, out, trees),
@@ -64,8 +64,8 @@ pub(crate) fn end_run<W: Wait, S: Shelf, O: Sink>(
         (option_map (λ prefix. prefix.now) trees.entry) first readers.items searchers.items printed
         (outside (S.state shelf.old) (O.state out.old))
         (outside (S.state shelf.new) (O.state out.new)) result.0 result.1 }
-    ensures closed { (S.state shelf.new).open_feeds
-        ≡ (S.state shelf.old).open_feeds - length readers.items }
+    ensures closed { S.open_feeds shelf.new
+        ≡ S.open_feeds shelf.old - length readers.items }
 {
     let mut first = first;
     join_readers(&board, &mut first, shelf, readers);

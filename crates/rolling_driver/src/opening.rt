@@ -40,8 +40,8 @@ fn close_left<S: Shelf>(shelf: &mut S, left: Left<S::Feed>)
         ≡ (S.state shelf.old).putting name }
     ensures held { (name : List ℕ) → (S.state shelf.new).holds name
         ≡ (S.state shelf.old).holds name }
-    ensures closed { (S.state shelf.new).open_feeds
-        ≡ (S.state shelf.old).open_feeds - length (feeds_of left) }
+    ensures closed { S.open_feeds shelf.new
+        ≡ S.open_feeds shelf.old - length (feeds_of left) }
 {
     match left {
         Left::Feeds(feeds) => close_feeds(shelf, feeds),
@@ -106,7 +106,7 @@ pub(crate) fn open_run<S: Shelf>(
         (IsOpened S.Feed.has_ended S.Feed.faults problem.now settings workers feeds.items) }
     ensures same { OnOk result (shelf.new ≡ shelf.old) }
     ensures closed { OnErr result
-        ((S.state shelf.new).open_feeds ≡ (S.state shelf.old).open_feeds - length feeds.items) }
+        (S.open_feeds shelf.new ≡ S.open_feeds shelf.old - length feeds.items) }
     ensures counts { OnErr result ((name : List ℕ) → (S.state shelf.new).reading name
         ≡ (S.state shelf.old).reading name) }
     ensures puttings { OnErr result ((name : List ℕ) → (S.state shelf.new).putting name

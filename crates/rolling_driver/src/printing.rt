@@ -36,7 +36,7 @@ fn print_new<W: Wait, S: Shelf, O: Sink>(
         (outside (S.state shelf.new) (O.state out.new)) result }
     ensures fetched { OnOk result (fetched pass.new ≡ length (known pass.new).seen) }
     ensures known { (name : List ℕ) → S.knows shelf.old name → S.knows shelf.new name }
-    ensures feeds { (S.state shelf.new).open_feeds ≡ (S.state shelf.old).open_feeds }
+    ensures feeds { S.open_feeds shelf.new ≡ S.open_feeds shelf.old }
 {
     let moves = board.moves();
     let Ok(news) = board.news(rt, alloc, pass) else {
@@ -65,7 +65,7 @@ pub(crate) fn print_news<W: Wait, S: Shelf, O: Sink>(
         (outside (S.state shelf.new) (O.state out.new)) result }
     ensures fetched { OnOk result (fetched pass.new ≡ length (known pass.new).seen) }
     ensures known { (name : List ℕ) → S.knows shelf.old name → S.knows shelf.new name }
-    ensures feeds { (S.state shelf.new).open_feeds ≡ (S.state shelf.old).open_feeds }
+    ensures feeds { S.open_feeds shelf.new ≡ S.open_feeds shelf.old }
 {
     let mut over = false;
     for _ in rt.forever() {

@@ -53,8 +53,8 @@ pub fn roll<R: Threads + Wait + Sync, S: Shelf, O: Sink, G: Gate>(
     ensures refused { OnErr result (
         outside (S.state shelf.new) (O.state out.new)
         ≡ outside (S.state shelf.old) (O.state out.old)) }
-    ensures closed { (S.state shelf.new).open_feeds
-        ≡ (S.state shelf.old).open_feeds - length feeds.items }
+    ensures closed { S.open_feeds shelf.new
+        ≡ S.open_feeds shelf.old - length feeds.items }
 {
     let Run {
         board,

@@ -73,7 +73,7 @@ pub(crate) fn run_all<R: Threads + Wait + Sync, S: Shelf, O: Sink, G: Gate>(
         (outside (S.state shelf.new) (O.state out.new)) result }
     ensures fetched { OnOk result (fetched first.new ≡ length (known first.new).seen) }
     ensures known { (name : List ℕ) → S.knows shelf.old name → S.knows shelf.new name }
-    ensures feeds { (S.state shelf.new).open_feeds ≡ (S.state shelf.old).open_feeds }
+    ensures feeds { S.open_feeds shelf.new ≡ S.open_feeds shelf.old }
 {
     let mut print = || -> Result<(), PrintNo>
         requires { own_board first.now ≡ board_of board.now }
@@ -87,7 +87,7 @@ pub(crate) fn run_all<R: Threads + Wait + Sync, S: Shelf, O: Sink, G: Gate>(
             (fetched first.exit.now ≡ length (known first.exit.now).seen) }
         ensures known { (name : List ℕ) → S.knows shelf.entry.now name
             → S.knows shelf.exit.now name }
-        ensures feeds { (S.state shelf.exit.now).open_feeds ≡ (S.state shelf.entry.now).open_feeds }
+        ensures feeds { S.open_feeds shelf.exit.now ≡ S.open_feeds shelf.entry.now }
     { print_news(rt, alloc, board, first, shelf, out, trees) };
     let mut work = ||
         requires { IsSync R.row × AreReady S.Feed.has_ended board.now readers.now

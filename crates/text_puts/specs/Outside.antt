@@ -3,13 +3,12 @@ use Rattle.std.specs.Prelude.{◌≡◌, ℕ, List, Option, Some, IfSome}
 use Rattle.std.specs.Io.KnownBytes.{append_known}
 use Rattle.disp_outside.specs.States.{Holdings, Counts, ShelfState, SinkState}
 
--- what names hold, how often readings and puttings of them have failed, how many feeds are open,
--- how often writes have failed, and what was written, where that is told
+-- what names hold, how often readings and puttings of them have failed, how often writes have
+-- failed, and what was written, where that is told
 pub record Outside : Type 0 where
   pub holds : Holdings
   pub reading : Counts
   pub putting : Counts
-  pub open_feeds : ℕ
   pub faults : ℕ
   pub written : Option (List ℕ)
 
@@ -19,7 +18,6 @@ outside shelf sink = record {
   holds = shelf.holds;
   reading = shelf.reading;
   putting = shelf.putting;
-  open_feeds = shelf.open_feeds;
   faults = sink.faults;
   written = sink.written;
 }
@@ -30,7 +28,6 @@ shelf_of at = record {
   holds = at.holds;
   reading = at.reading;
   putting = at.putting;
-  open_feeds = at.open_feeds;
 }
 
 -- the name holds these bytes, as far as is told

@@ -27,7 +27,7 @@ pub fn put_all<S: Shelf>(alloc: Global, shelf: &mut S, puts: &[Put]) -> Result<(
     ensures readings { (name : List ℕ) → (S.state shelf.new).reading name
         ≡ (S.state shelf.old).reading name }
     ensures known { (name : List ℕ) → S.knows shelf.old name → S.knows shelf.new name }
-    ensures feeds { (S.state shelf.new).open_feeds ≡ (S.state shelf.old).open_feeds }
+    ensures feeds { S.open_feeds shelf.new ≡ S.open_feeds shelf.old }
 {
     for due in puts {
         shelf.put(alloc, due.name.as_str(), due.bytes.as_slice())?;

@@ -39,8 +39,9 @@ impl Shelf for ClosedShelf {
       holds = λ _. None;
       reading = λ _. 0;
       putting = λ _. 0;
-      open_feeds = 0;
     } };
+
+    ghost open_feeds = { λ _. 0 };
 
     fn fetch(&mut self, _alloc: Global, _name: &str, _limit: u64) -> Result<Vec<u8>, FetchNo> {
         if self.all_too_long {

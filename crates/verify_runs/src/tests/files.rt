@@ -68,8 +68,9 @@ impl Shelf for LongShelf {
       holds = λ _. None;
       reading = λ _. 0;
       putting = λ _. 0;
-      open_feeds = 0;
     } };
+
+    ghost open_feeds = { λ _. 0 };
 
     fn fetch(&mut self, alloc: Global, name: &str, limit: u64) -> Result<Vec<u8>, FetchNo> {
         let text = if name == "t" { TREE } else { TWO };

@@ -35,5 +35,5 @@ loop-name-preserved g c =
 
 pub returns-in-Err-clause-opened : goal.returns-in-Err-clause-opened
 returns-in-Err-clause-opened g c =
-    subst (λ l. (g.S.Shelf.state c.open_next.new.shelf).open_feeds ≡ (g.S.Shelf.state c.args.shelf.now).open_feeds + length l) (sym c.in-Err.ensures.same)
+    subst (λ l. g.S.Shelf.open_feeds c.open_next.new.shelf ≡ g.S.Shelf.open_feeds c.args.shelf.now + length l) (sym c.in-Err.ensures.same)
     (c.in-Err.ensures.unopened ∙ c.loop-name.invariant.are_open)

@@ -10,6 +10,6 @@ invariant-loop-name g l = record {
   known : All (λ feed. g.S.Shelf.knows l.shelf (g.S.Feed.Feed.name feed)) l.feeds.items;
   quiet : (name : List ℕ) → (g.S.Shelf.state l.shelf).reading name ≡ (g.S.Shelf.state l.fn.shelf).reading name;
   puttings : (name : List ℕ) → (g.S.Shelf.state l.shelf).putting name ≡ (g.S.Shelf.state l.fn.shelf).putting name;
-  are_open : (g.S.Shelf.state l.shelf).open_feeds ≡ (g.S.Shelf.state l.fn.shelf).open_feeds + length l.feeds.items;
+  are_open : g.S.Shelf.open_feeds l.shelf ≡ g.S.Shelf.open_feeds l.fn.shelf + length l.feeds.items;
   held : (name : List ℕ) → (g.S.Shelf.state l.shelf).holds name ≡ (g.S.Shelf.state l.fn.shelf).holds name;
 }

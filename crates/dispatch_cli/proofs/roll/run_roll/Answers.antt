@@ -10,6 +10,6 @@ returns-in-Err g c =
           (outside (g.S.Shelf.state c.args.shelf.now) (g.O.Sink.state c.args.out.now))
           (outside (g.S.Shelf.state c.rolled_of.new.shelf) (g.O.Sink.state c.rolled_of.new.out))
           (outside (g.S.Shelf.state c.rolled_of.new.shelf) (g.O.Sink.state c.stop_roll.new.out))
-          c.in-Err.no _ _ c.in-Err.ensures.no c.stop_roll.ensures refl refl refl refl c.new.ensures.items);
+          c.in-Err.no _ _ c.in-Err.ensures.no c.stop_roll.ensures refl refl refl c.new.ensures.items);
       feeds = c.in-Err.ensures.feeds;
     }

@@ -14,6 +14,6 @@ invariant-loop-reader g l = record {
   knows : (name : List ℕ) → g.S.Shelf.knows l.shelf name ↔ g.S.Shelf.knows l.fn.shelf name;
   counts : CountsFeeds g.S.Feed.Feed.name g.S.Feed.Feed.faults (map (λ r. r.feed) l.yielded) (g.S.Shelf.state l.fn.shelf).reading (g.S.Shelf.state l.shelf).reading;
   puttings : (name : List ℕ) → (g.S.Shelf.state l.shelf).putting name ≡ (g.S.Shelf.state l.fn.shelf).putting name;
-  closed : (g.S.Shelf.state l.shelf).open_feeds ≡ (g.S.Shelf.state l.fn.shelf).open_feeds - length l.yielded;
+  closed : g.S.Shelf.open_feeds l.shelf ≡ g.S.Shelf.open_feeds l.fn.shelf - length l.yielded;
   held : (name : List ℕ) → (g.S.Shelf.state l.shelf).holds name ≡ (g.S.Shelf.state l.fn.shelf).holds name;
 }

@@ -11,5 +11,5 @@ invariant-loop-entry g l = record {
       (outside (g.S.Shelf.state l.fn.shelf) (g.O.Sink.state l.fn.out))
       (outside (g.S.Shelf.state l.shelf) (g.O.Sink.state l.out));
   known : (name : List ℕ) → g.S.Shelf.knows l.fn.shelf name → g.S.Shelf.knows l.shelf name;
-  feeds : (g.S.Shelf.state l.shelf).open_feeds ≡ (g.S.Shelf.state l.fn.shelf).open_feeds;
+  feeds : g.S.Shelf.open_feeds l.shelf ≡ g.S.Shelf.open_feeds l.fn.shelf;
 }

@@ -8,4 +8,4 @@ pub returns-clause-closed : goal.returns-clause-closed
 returns-clause-closed g c =
     let gives = c.into_iter-feed-iterator.ensures.into_iter_gives in
     let seen = YieldsList-end (YieldsList-from_vec c.args.feeds.items gives.0 (search rules)) c.loop-feed.yielded c.loop-feed.feed-iterator c.loop-feed.yielded_by c.next.result c.next.new.self c.in-None.is c.next.ensures.steps in
-    subst (λ feeds. (g.S.Shelf.state c.loop-feed.shelf).open_feeds ≡ (g.S.Shelf.state c.args.shelf.now).open_feeds - length feeds) (sym (map-id c.loop-feed.yielded) ∙ seen.0) c.loop-feed.invariant.closed
+    subst (λ feeds. g.S.Shelf.open_feeds c.loop-feed.shelf ≡ g.S.Shelf.open_feeds c.args.shelf.now - length feeds) (sym (map-id c.loop-feed.yielded) ∙ seen.0) c.loop-feed.invariant.closed

@@ -8,5 +8,5 @@ invariant-loop-feed g l = record {
   counts : (name : List ℕ) → (g.S.Shelf.state l.shelf).reading name ≡ (g.S.Shelf.state l.fn.shelf).reading name;
   puttings : (name : List ℕ) → (g.S.Shelf.state l.shelf).putting name ≡ (g.S.Shelf.state l.fn.shelf).putting name;
   held : (name : List ℕ) → (g.S.Shelf.state l.shelf).holds name ≡ (g.S.Shelf.state l.fn.shelf).holds name;
-  closed : (g.S.Shelf.state l.shelf).open_feeds ≡ (g.S.Shelf.state l.fn.shelf).open_feeds - length l.yielded;
+  closed : g.S.Shelf.open_feeds l.shelf ≡ g.S.Shelf.open_feeds l.fn.shelf - length l.yielded;
 }

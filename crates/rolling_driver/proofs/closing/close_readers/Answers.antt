@@ -26,4 +26,4 @@ pub returns-clause-closed : goal.returns-clause-closed
 returns-clause-closed g c =
     let gives = c.into_iter-reader-iterator.ensures.into_iter_gives in
     let seen = YieldsList-end (YieldsList-from_vec c.args.readers.items gives.0 (search rules)) c.loop-reader.yielded c.loop-reader.reader-iterator c.loop-reader.yielded_by c.next.result c.next.new.self c.in-None.is c.next.ensures.steps in
-    subst (λ readers. (g.S.Shelf.state c.loop-reader.shelf).open_feeds ≡ (g.S.Shelf.state c.args.shelf.now).open_feeds - length readers) (sym (map-id c.loop-reader.yielded) ∙ seen.0) c.loop-reader.invariant.closed
+    subst (λ readers. g.S.Shelf.open_feeds c.loop-reader.shelf ≡ g.S.Shelf.open_feeds c.args.shelf.now - length readers) (sym (map-id c.loop-reader.yielded) ∙ seen.0) c.loop-reader.invariant.closed

@@ -10,4 +10,4 @@ close_left-requires-clause-known g c = λ lifetimes outlived. subst (λ l. All (
 
 pub returns-in-Err-clause-closed : goal.returns-in-Err-clause-closed
 returns-in-Err-clause-closed g c =
-    subst (λ l. (g.S.Shelf.state c.close_left.new.shelf).open_feeds ≡ (g.S.Shelf.state c.args.shelf.now).open_feeds - length l) c.in-Err.ensures.left c.close_left.ensures.closed
+    subst (λ l. g.S.Shelf.open_feeds c.close_left.new.shelf ≡ g.S.Shelf.open_feeds c.args.shelf.now - length l) c.in-Err.ensures.left c.close_left.ensures.closed

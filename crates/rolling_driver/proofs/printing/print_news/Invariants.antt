@@ -12,5 +12,5 @@ invariant-loop g l = record {
       (outside (g.S.Shelf.state l.initial.shelf) (g.O.Sink.state l.initial.out))
       (outside (g.S.Shelf.state l.shelf) (g.O.Sink.state l.out));
   known : (name : List ℕ) → g.S.Shelf.knows l.initial.shelf name → g.S.Shelf.knows l.shelf name;
-  feeds : (g.S.Shelf.state l.shelf).open_feeds ≡ (g.S.Shelf.state l.initial.shelf).open_feeds;
+  feeds : g.S.Shelf.open_feeds l.shelf ≡ g.S.Shelf.open_feeds l.initial.shelf;
 }

@@ -71,8 +71,8 @@ returns g c =
       closed =
           let long = ap (λ l. length l) readers_are ∙ (read.as_many ∙ (sym (length-map run.readers.items (λ r. r.feed)) ∙ ap (λ l. length l) c.in_ok-board.ensures.opened.feeds_are)) in
           c.end_run-core.ensures.closed
-          ∙ (ap (λ (n : ℕ). (g.S.Shelf.state c.run_all-printed.new.shelf).open_feeds - n) long
-          ∙ (ap (λ (n : ℕ). n - length c.args.feeds.items) said.feeds ∙ ap (λ s. (g.S.Shelf.state s).open_feeds - length c.args.feeds.items) c.in_ok-board.ensures.same));
+          ∙ (ap (λ (n : ℕ). g.S.Shelf.open_feeds c.run_all-printed.new.shelf - n) long
+          ∙ (ap (λ (n : ℕ). n - length c.args.feeds.items) said.feeds ∙ ap (λ s. g.S.Shelf.open_feeds s - length c.args.feeds.items) c.in_ok-board.ensures.same));
     }
 
 pub returns-in_err-board-clause-refused : goal.returns-in_err-board-clause-refused

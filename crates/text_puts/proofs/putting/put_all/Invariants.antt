@@ -12,5 +12,5 @@ invariant-loop-due g l = record {
   readings : (name : List ℕ) → (g.S.Shelf.state l.shelf).reading name
       ≡ (g.S.Shelf.state l.fn.shelf).reading name;
   known : (name : List ℕ) → g.S.Shelf.knows l.fn.shelf name → g.S.Shelf.knows l.shelf name;
-  feeds : (g.S.Shelf.state l.shelf).open_feeds ≡ (g.S.Shelf.state l.fn.shelf).open_feeds;
+  feeds : g.S.Shelf.open_feeds l.shelf ≡ g.S.Shelf.open_feeds l.fn.shelf;
 }
