@@ -8,11 +8,11 @@ use disp_model::Memory;
 use route_sets::Routes;
 use std::alloc::Global;
 
-/// How often a time counts in which a forced operation is run, where others count once.
+/// How often a forced operation counts, where others count once.
 const FORCED: u64 = 8;
 
-/// An operation that some allowed routes have and others have not, and how long its resources may
-/// be held by other trains while it is run.
+/// An operation that some allowed routes have and others have not, and how much else may be held
+/// while it is run.
 #[derive(Clone, Copy)]
 pub(crate) struct Crossing {
     pub number: u32,
@@ -33,7 +33,7 @@ impl Crossing {
     }
 }
 
-/// How long other trains may hold a resource in a time, all together.
+/// How much other trains may hold of a resource in a time.
 fn crowd_on(holders: &[Holder], train: u32, from: u64, until: u64) -> u64 {
     let mut crowd = 0u64;
     for holder in holders {
@@ -41,10 +41,7 @@ fn crowd_on(holders: &[Holder], train: u32, from: u64, until: u64) -> u64 {
             return crowd;
         }
         if holder.train != train && from < holder.until() {
-            let shared = until.min(holder.until());
-            let shared = shared.saturating_sub(from.max(holder.start));
-            let weight = if holder.forced { FORCED } else { 1 };
-            crowd = crowd.saturating_add(shared.saturating_mul(weight));
+            crowd = crowd.saturating_add(if holder.forced { FORCED } else { 1 });
         }
     }
     crowd
