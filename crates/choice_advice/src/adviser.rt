@@ -20,7 +20,8 @@ pub enum Strategy {
     /// The order whose two ways cost most, the cheaper one first of all; where that is nothing,
     /// what crosses the ways of other trains; then a fork.
     Toll,
-    /// A fork of which one way is left; then the order that is asked for earliest; then a fork.
+    /// A fork of which one way is left; then an order of which one way leaves no plan; then the
+    /// order that is asked for earliest; then a fork.
     Time,
     /// Whatever is open: the route of the first train whose routes part, else what comes first by
     /// tolls.

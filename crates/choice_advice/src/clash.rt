@@ -90,3 +90,8 @@ pub(crate) fn own_weight(view: View, meeting: &Meeting, known: u64) -> Option<u6
     let found = weight(one, other);
     if found < known { None } else { Some(found) }
 }
+
+/// What the orders of two that meet weigh where one of them leaves no plan, and otherwise nothing.
+pub(crate) fn dead_weight(view: View, meeting: &Meeting) -> u64 {
+    own_weight(view, meeting, MOST_DEARER).unwrap_or(0)
+}

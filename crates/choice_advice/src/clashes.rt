@@ -1,4 +1,4 @@
-use crate::clash::{Clash, first_of, own_weight, sink, weight};
+use crate::clash::{Clash, dead_weight, first_of, own_weight, sink, weight};
 use crate::meetings::Meeting;
 use crate::pusher::Pusher;
 use crate::seeker::Seeker;
@@ -93,7 +93,7 @@ impl Clashes {
     /// What the orders of two that meet weigh; none where that is too little.
     fn weight(&self, view: View, meeting: &Meeting) -> Option<u64> {
         if self.by == By::Time {
-            return Some(0);
+            return Some(dead_weight(view, meeting));
         }
         let known = match self.first.last() {
             Some(last) if self.first.len() >= MOST_PUSHED => last.weight,
@@ -104,7 +104,7 @@ impl Clashes {
 
     /// Whether it is asked of two that meet if one order of theirs closes a cycle.
     fn asks(&mut self) -> bool {
-        if self.by == By::Time || self.asked >= MOST_ASKED {
+        if self.asked >= MOST_ASKED {
             return false;
         }
         self.asked = self.asked.saturating_add(1);

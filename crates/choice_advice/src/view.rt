@@ -22,4 +22,23 @@ impl<'a> View<'a> {
     pub(crate) fn leads(&self, seeker: &mut Seeker, from: u32, to: u32) -> bool {
         seeker.leads(self.links, self.graph.paths(), from, to)
     }
+
+    /// Whether the end of an operation at which routes part has to come before another operation,
+    /// by the orders of it and operations of other trains.
+    pub(crate) fn ends_before(&self, seeker: &mut Seeker, fork: u32, other: u32) -> bool {
+        let train = self.spots.at(fork).train;
+        let mut place = self.links.last(fork);
+        for _ in 0..self.links.len() {
+            let Some(link) = self.links.at(place) else {
+                return false;
+            };
+            if self.spots.at(link.to).train != train
+                && (link.to == other || self.leads(seeker, link.to, other))
+            {
+                return true;
+            }
+            place = link.before;
+        }
+        false
+    }
 }

@@ -193,7 +193,7 @@ impl Ways {
         let end = start.saturating_add(facts.min(over));
         let behind = spots.at(holder.number).behind;
         let before = toll(facts, spots, holder.number, end) != NEVER
-            && !view.leads(seeker, parting.join, behind);
+            && !view.leads(seeker, holder.number, parting.fork);
         if before {
             return false;
         }
@@ -201,7 +201,8 @@ impl Ways {
         let late = self.time(parting.join).saturating_add(wait);
         let waits = facts.cost(over, holder.until()).is_some()
             && toll(facts, spots, parting.join, late) != NEVER
-            && !view.leads(seeker, holder.number, parting.fork);
+            && !view.leads(seeker, parting.join, behind)
+            && !view.ends_before(seeker, parting.fork, behind);
         !waits
     }
 

@@ -54,10 +54,14 @@ fn guide_to(
     problem: &Problem,
     fixings: &[Fixing],
     order: &mut Vec<u32>,
-) -> Result<Guide, Memory> {
+) -> Result<Guide, Memory>
+    requires edition { IsOfEdition (node_at problem.now fixings.now []) }
+{
     let insertions = insertions_for(order.as_slice());
     let target = target(alloc, problem, fixings, insertions, order)?;
-    Guide::new(alloc, problem, target)
+    let mut guide = Guide::new(alloc, problem, target)?;
+    guide.look_ahead(alloc, problem, fixings)?;
+    Ok(guide)
 }
 
 /// The ground of an edition with these fixings. The order of trains is kept from edition to

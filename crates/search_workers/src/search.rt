@@ -2,6 +2,7 @@ ghost use Rattle.std.specs.Prelude.{◌≡◌, [], ◌∷◌, IfOk, OnOk, None, 
 ghost use Rattle.disp_model.specs.declared.tree.TreeNode.TheVariants.{Leaf as LeafNode};
 ghost use Rattle.disp_model.specs.History.{edition_of};
 ghost use Rattle.disp_model.specs.Node.{node_at};
+ghost use Rattle.event_graph.specs.Joined.{IsOfEdition};
 ghost use Rattle.node_leaves.specs.Reckoned.{ReckonsFor};
 ghost use Rattle.node_leaves.specs.Shown.{IsDeadLeaf};
 ghost use Rattle.share_bound.specs.Known.{HoldFor};
@@ -155,10 +156,14 @@ fn reckon(alloc: Global, problem: &Problem, rule: Rule) -> Result<Reckoning, Mem
 }
 
 /// A guide along the target of a problem under fixings.
-fn guide_to(alloc: Global, problem: &Problem, fixings: &[Fixing]) -> Result<Guide, Memory> {
+fn guide_to(alloc: Global, problem: &Problem, fixings: &[Fixing]) -> Result<Guide, Memory>
+    requires edition { IsOfEdition (node_at problem.now fixings.now []) }
+{
     let mut order = Vec::new(alloc);
     let target = target(alloc, problem, fixings, INSERTIONS, &mut order)?;
-    Guide::new(alloc, problem, target)
+    let mut guide = Guide::new(alloc, problem, target)?;
+    guide.look_ahead(alloc, problem, fixings)?;
+    Ok(guide)
 }
 
 /// Searches the newest edition of a core on one thread until it is settled or stopped. The problem

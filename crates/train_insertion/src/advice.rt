@@ -1,4 +1,4 @@
-ghost use Rattle.std.specs.Prelude.{◌≡◌, [], false};
+ghost use Rattle.std.specs.Prelude.{◌≡◌, ◌<◌, ◌↔◌, [], All, IsTrue, false, length};
 ghost use Rattle.train_insertion.specs.Targets.{run_in, started_in, followed_in};
 
 use disp_model::{Event, List, Memory, Op, Problem};
@@ -108,6 +108,13 @@ impl Target {
     /// `Memory` where memory runs out.
     pub fn of_plan(alloc: Global, problem: &Problem, plan: &[Event]) -> Result<Target, Memory> {
         of_events(alloc, problem.trains.len(), plan)
+    }
+
+    /// Whether each train of it runs something.
+    pub fn is_whole(&self) -> bool
+        ensures { IsTrue result ↔ All (λ run. 0 < length run) self.now }
+    {
+        self.runs.iter().all(|run| run.len() > 0)
     }
 
     /// What a train runs.

@@ -1,4 +1,10 @@
-use disp_model::{Memory, Problem};
+ghost use Rattle.std.specs.Prelude.{[]};
+ghost use Rattle.disp_model.specs.Node.{node_at};
+ghost use Rattle.event_graph.specs.Joined.{IsOfEdition};
+
+use crate::outlook::{MOST_NODES, Outlook, look_below};
+use disp_model::{Fixing, Memory, Problem};
+use event_graph::Graph;
 use free_choices::{Adviser, Strategy};
 use std::alloc::Global;
 use train_insertion::Target;
@@ -16,8 +22,8 @@ pub struct Guide {
     pub(crate) target: Target,
     pub(crate) adviser: Adviser,
     pub(crate) strategy: Strategy,
-    /// How many dives the strategy has had.
-    dives: u32,
+    /// How many dives the strategy has left.
+    left: u32,
 }
 
 impl Guide {
@@ -27,8 +33,37 @@ impl Guide {
             target,
             adviser: Adviser::new(alloc, problem)?,
             strategy: Strategy::Toll,
-            dives: 0,
+            left: TOLL_DIVES,
         })
+    }
+
+    /// Looks ahead from the root of an edition with these fixings, where the target leaves a train
+    /// out: there may be no plan at all then. A plan that is found becomes the target; where there
+    /// seems to be none the choices are taken by time first. Fails for memory alone.
+    pub fn look_ahead(
+        &mut self,
+        alloc: Global,
+        problem: &Problem,
+        fixings: &[Fixing],
+    ) -> Result<(), Memory>
+        requires edition { IsOfEdition (node_at problem.now fixings.now []) }
+    {
+        if self.target.is_whole() {
+            return Ok(());
+        }
+        let Ok(mut graph) = Graph::new(alloc, problem, fixings) else {
+            return Ok(());
+        };
+        self.begin();
+        match look_below(alloc, problem, &mut graph, &mut self.adviser, &self.target)? {
+            Outlook::Plan(plan) => self.target = Target::of_plan(alloc, problem, plan.as_slice())?,
+            Outlook::NoPlan => {
+                self.strategy = Strategy::Time;
+                self.left = MOST_NODES;
+            }
+            Outlook::Open => {}
+        }
+        Ok(())
     }
 
     /// Makes this the target.
@@ -43,14 +78,15 @@ impl Guide {
 
     /// Counts a dive. Each of the two strategies gives way to the other after a number of dives.
     pub fn count_dive(&mut self) {
-        self.dives = self.dives.saturating_add(1);
-        let (turn, other) = match self.strategy {
-            Strategy::Toll | Strategy::Any => (TOLL_DIVES, Strategy::Time),
-            Strategy::Time => (TIME_DIVES, Strategy::Toll),
-        };
-        if self.dives >= turn {
-            self.dives = 0;
-            self.strategy = other;
+        self.left = self.left.saturating_sub(1);
+        if self.left > 0 {
+            return;
         }
+        let (strategy, left) = match self.strategy {
+            Strategy::Toll | Strategy::Any => (Strategy::Time, TIME_DIVES),
+            Strategy::Time => (Strategy::Toll, TOLL_DIVES),
+        };
+        self.strategy = strategy;
+        self.left = left;
     }
 }

@@ -13,6 +13,7 @@ mod given;
 mod grown;
 mod guide;
 mod leaves;
+mod outlook;
 mod prefer;
 mod rewinding;
 mod stage;

@@ -5,6 +5,11 @@ use Rattle.node_leaves.specs.Shown.{IsDeadLeaf}
 use Rattle.search_workers.proofs.Rooted.{root_edition, graph_newest, dead_root}
 use Rattle.search_workers.proofs.search.search_alone.Goals as goal
 
+pub guide_to-requires : goal.guide_to-requires
+guide_to-requires c = record {
+  edition = root_edition c.args.core.now c.edition-edition.ensures.sound c.args.problem.now c.requires.problem c.as_slice.result.now (c.as_slice.ensures.value ∙ c.in_ok-fixings.ensures);
+}
+
 pub new-requires : goal.new-requires
 new-requires c = record {
   edition = root_edition c.args.core.now c.edition-edition.ensures.sound c.args.problem.now c.requires.problem c.as_slice-2.result.now (c.as_slice-2.ensures.value ∙ c.in_ok-fixings.ensures);
