@@ -97,26 +97,6 @@ impl PackedNode {
         }
     }
 
-    /// Keeps a copy of a node, as `pack` does.
-    ///
-    /// # Errors
-    ///
-    /// `Memory` where memory runs out.
-    pub fn of(alloc: Global, node: &TreeNode) -> Result<PackedNode, Memory>
-        ensures { IfOk result (λ packed. packed ≡ node.now) }
-    {
-        if let TreeNode::Leaf(leaf) = node {
-            if let Some(bytes) = packed(alloc, leaf) {
-                return Ok(PackedNode {
-                    stored: stored_as(leaf, bytes),
-                });
-            }
-        }
-        Ok(PackedNode {
-            stored: Stored::Plain(node.copy()?),
-        })
-    }
-
     /// What the node is, without what it lists.
     pub fn outline(&self) -> Outline
         ensures { result ≡ outline_of self.now }

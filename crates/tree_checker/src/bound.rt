@@ -2,7 +2,7 @@ ghost use Rattle.std.specs.Prelude.{IfOk};
 ghost use Rattle.node_facts.specs.Orders.{AreKnown};
 ghost use Rattle.tree_checker.specs.Bounds.{IsBoundOfAll};
 ghost use Rattle.problem_facts.specs.Components.{AreOwnOf};
-ghost use Rattle.tree_checker.specs.KnownNodes.{node_of};
+ghost use Rattle.tree_checker.specs.KnownNodes.{node_here};
 
 use crate::known::KnownNode;
 use crate::shares::shares_cost;
@@ -17,9 +17,9 @@ pub(crate) fn bound_of(
     walks: &[ComponentWalk],
     listed: &[TrainWalks],
 ) -> Result<Option<u128>, Memory>
-    requires known { AreKnown (node_of here) here.trains.now }
+    requires known { AreKnown (node_here here) here.trains.now }
     requires own { AreOwnOf here.problem.now here.own.now }
-    ensures { IfOk result (IsBoundOfAll (node_of here.entry) walks.now listed.now) }
+    ensures { IfOk result (IsBoundOfAll (node_here here.entry) walks.now listed.now) }
 {
     let Some(sum) = walks_cost(
         here.problem,

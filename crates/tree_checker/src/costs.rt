@@ -1,7 +1,7 @@
 ghost use Rattle.std.specs.Prelude.{◌↔◌, IfOk, IsTrue};
 ghost use Rattle.disp_model.specs.Trees.{CostsEnough, ReachVerdict};
 ghost use Rattle.node_facts.specs.Orders.{AreKnown};
-ghost use Rattle.tree_checker.specs.KnownNodes.{node_of};
+ghost use Rattle.tree_checker.specs.KnownNodes.{node_here};
 
 use crate::distinct::have_distinct;
 use crate::known::KnownNode;
@@ -16,9 +16,9 @@ fn cost_enough(
     walks: &[ComponentWalk],
     cost: u64,
 ) -> Result<bool, Memory>
-    requires { AreKnown (node_of here) here.trains.now }
+    requires { AreKnown (node_here here) here.trains.now }
     ensures { IfOk result (λ enough. IsTrue enough
-        ↔ CostsEnough (node_of here.entry) walks.now cost) }
+        ↔ CostsEnough (node_here here.entry) walks.now cost) }
 {
     if !have_distinct(alloc, walks)? {
         return Ok(false);
@@ -42,9 +42,9 @@ pub(crate) fn reach_verdict(
     verdict: Verdict,
     walks: &[ComponentWalk],
 ) -> Result<bool, Memory>
-    requires { AreKnown (node_of here) here.trains.now }
+    requires { AreKnown (node_here here) here.trains.now }
     ensures { IfOk result (λ reached. IsTrue reached
-        ↔ ReachVerdict (node_of here.entry) verdict walks.now) }
+        ↔ ReachVerdict (node_here here.entry) verdict walks.now) }
 {
     match verdict {
         Verdict::Optimal(cost) => { cost_enough(alloc, here, walks, cost) }

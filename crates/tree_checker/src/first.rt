@@ -1,7 +1,7 @@
 ghost use Rattle.std.specs.Prelude.{IfOk, MatchOption};
 ghost use Rattle.node_facts.specs.Orders.{AreKnown};
 ghost use Rattle.tree_checker.specs.Rules.{KeepsAllRules, IsFirstRule};
-ghost use Rattle.tree_checker.specs.KnownNodes.{node_of};
+ghost use Rattle.tree_checker.specs.KnownNodes.{node_here};
 
 use crate::known::KnownNode;
 use crate::rules::{keeps, rule_at};
@@ -16,10 +16,10 @@ pub(crate) fn first_rule(
     verdict: Verdict,
     leaf: &Leaf,
 ) -> Result<Option<Why>, Memory>
-    requires { AreKnown (node_of here) here.trains.now }
+    requires { AreKnown (node_here here) here.trains.now }
     ensures { IfOk result (λ found. MatchOption found
-        (KeepsAllRules (node_of here.entry) verdict leaf.now)
-        (IsFirstRule (node_of here.entry) verdict leaf.now)) }
+        (KeepsAllRules (node_here here.entry) verdict leaf.now)
+        (IsFirstRule (node_here here.entry) verdict leaf.now)) }
 {
     for place in 0..13 {
         let rule = rule_at(place);

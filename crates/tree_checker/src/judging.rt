@@ -10,7 +10,7 @@ ghost use Rattle.disp_model.specs.Trees.{LeafHolds, Shows};
 ghost use Rattle.node_facts.specs.Orders.{AreKnown};
 ghost use Rattle.problem_facts.specs.Components.{AreOwnOf};
 ghost use Rattle.tree_checker.specs.Rules.{KeepsAllRules, IsFirstRule, TreeNodeHolds, IsRefusedFor};
-ghost use Rattle.tree_checker.specs.KnownNodes.{node_of};
+ghost use Rattle.tree_checker.specs.KnownNodes.{node_here};
 
 use crate::bound::bound_of;
 use crate::branch::is_branch;
@@ -77,12 +77,12 @@ pub fn check_leaf(
 
 /// What a leaf costs that keeps all other rules, and yet does not reach a cost.
 fn below_cost(alloc: Global, here: KnownNode, cost: u64, leaf: &Leaf) -> Result<Why, Memory>
-    requires known { AreKnown (node_of here) here.trains.now }
+    requires known { AreKnown (node_here here) here.trains.now }
     requires own { AreOwnOf here.problem.now here.own.now }
-    requires routes { HasNoRoute (node_of here) → ⊥ }
-    requires not_shown { Shows (node_of here) (Optimal cost) leaf.now → ⊥ }
-    requires keeps { KeepsAllRules (node_of here) (Optimal cost) leaf.now }
-    ensures { IfOk result (IsFirstRule (node_of here.entry) (Optimal cost) leaf.now) }
+    requires routes { HasNoRoute (node_here here) → ⊥ }
+    requires not_shown { Shows (node_here here) (Optimal cost) leaf.now → ⊥ }
+    requires keeps { KeepsAllRules (node_here here) (Optimal cost) leaf.now }
+    ensures { IfOk result (IsFirstRule (node_here here.entry) (Optimal cost) leaf.now) }
 {
     let walks = component_walks(leaf);
     let listed = listed_trains(leaf);
@@ -99,12 +99,12 @@ fn below_verdict(
     verdict: Verdict,
     leaf: &Leaf,
 ) -> Result<Why, Memory>
-    requires known { AreKnown (node_of here) here.trains.now }
+    requires known { AreKnown (node_here here) here.trains.now }
     requires own { AreOwnOf here.problem.now here.own.now }
-    requires routes { HasNoRoute (node_of here) → ⊥ }
-    requires not_shown { Shows (node_of here) verdict leaf.now → ⊥ }
-    requires keeps { KeepsAllRules (node_of here) verdict leaf.now }
-    ensures { IfOk result (IsFirstRule (node_of here.entry) verdict leaf.now) }
+    requires routes { HasNoRoute (node_here here) → ⊥ }
+    requires not_shown { Shows (node_here here) verdict leaf.now → ⊥ }
+    requires keeps { KeepsAllRules (node_here here) verdict leaf.now }
+    ensures { IfOk result (IsFirstRule (node_here here.entry) verdict leaf.now) }
 {
     match verdict {
         Verdict::Optimal(cost) => below_cost(alloc, here, cost, leaf),
@@ -119,11 +119,11 @@ fn first_broken(
     verdict: Verdict,
     leaf: &Leaf,
 ) -> Result<Why, Memory>
-    requires known { AreKnown (node_of here) here.trains.now }
+    requires known { AreKnown (node_here here) here.trains.now }
     requires own { AreOwnOf here.problem.now here.own.now }
-    requires routes { HasNoRoute (node_of here) → ⊥ }
-    requires not_shown { Shows (node_of here) verdict leaf.now → ⊥ }
-    ensures { IfOk result (IsFirstRule (node_of here.entry) verdict leaf.now) }
+    requires routes { HasNoRoute (node_here here) → ⊥ }
+    requires not_shown { Shows (node_here here) verdict leaf.now → ⊥ }
+    ensures { IfOk result (IsFirstRule (node_here here.entry) verdict leaf.now) }
 {
     match first_rule(alloc, here, verdict, leaf)? {
         Some(rule) => Ok(rule),
@@ -138,11 +138,11 @@ fn judge_leaf(
     verdict: Verdict,
     leaf: &Leaf,
 ) -> Result<Option<Why>, Memory>
-    requires known { AreKnown (node_of here) here.trains.now }
+    requires known { AreKnown (node_here here) here.trains.now }
     requires own { AreOwnOf here.problem.now here.own.now }
     ensures { IfOk result (λ found. MatchOption found
-        (LeafHolds (node_of here.entry) verdict leaf.now)
-        (IsRefusedFor (node_of here.entry) verdict (ALeaf leaf.now))) }
+        (LeafHolds (node_here here.entry) verdict leaf.now)
+        (IsRefusedFor (node_here here.entry) verdict (ALeaf leaf.now))) }
 {
     if here.trains.has_no_route() {
         return Ok(None);
@@ -178,11 +178,11 @@ pub(crate) fn judge(
     verdict: Verdict,
     top: &TreeNode,
 ) -> Result<Option<Why>, Memory>
-    requires known { AreKnown (node_of here) here.trains.now }
+    requires known { AreKnown (node_here here) here.trains.now }
     requires own { AreOwnOf here.problem.now here.own.now }
     ensures { IfOk result (λ found. MatchOption found
-        (TreeNodeHolds (node_of here.entry) verdict top.now)
-        (IsRefusedFor (node_of here.entry) verdict top.now)) }
+        (TreeNodeHolds (node_here here.entry) verdict top.now)
+        (IsRefusedFor (node_here here.entry) verdict top.now)) }
 {
     match top {
         TreeNode::Branch { choice, children } => Ok(judge_branch(here.problem, *choice, *children)),

@@ -2,7 +2,7 @@ ghost use Rattle.std.specs.Prelude.{◌≡◌, ◌↔◌, Some, IfSome, ◌<◌,
 ghost use Rattle.disp_model.specs.Walks.{lower_of, IsWalk};
 ghost use Rattle.node_facts.specs.Orders.{AreKnown};
 ghost use Rattle.tree_checker.specs.TrainCosts.{IsLanding, Raises, WasRaised, AreLowers};
-ghost use Rattle.tree_checker.specs.KnownNodes.{node_of};
+ghost use Rattle.tree_checker.specs.KnownNodes.{node_here};
 
 use crate::known::KnownNode;
 use disp_model::{List, Memory, Op, Problem};
@@ -25,9 +25,9 @@ fn count_of(operations: &[Op]) -> usize
 
 /// How long a walk is; none where the list is no walk of the node.
 fn length_of(here: KnownNode, walk: &[Op]) -> Option<u128>
-    requires { AreKnown (node_of here) here.trains.now }
+    requires { AreKnown (node_here here) here.trains.now }
     ensures is { (n : ℕ) → (result ≡ Some n)
-        ↔ IsWalk (node_of here.entry) walk.now n }
+        ↔ IsWalk (node_here here.entry) walk.now n }
     ensures small { IfSome result (λ n. n ≤ 2 ^ 127) }
 {
     let (first, rest) = walk.split_first()?;
@@ -45,8 +45,8 @@ fn length_of(here: KnownNode, walk: &[Op]) -> Option<u128>
 
 /// Where a walk ends on a train, and how long it is; none where it is no walk that ends there.
 fn landing_of(here: KnownNode, train: u32, walk: &[Op]) -> Option<Landing>
-    requires { AreKnown (node_of here) here.trains.now }
-    ensures { IsLanding (node_of here.entry) train walk.now result }
+    requires { AreKnown (node_here here) here.trains.now }
+    ensures { IsLanding (node_here here.entry) train walk.now result }
 {
     let Some(end) = end_of(walk) else {
         return None;
@@ -81,8 +81,8 @@ pub(crate) fn raise_all(
     train: u32,
     walks: &[List<Op>],
 ) -> bool
-    requires { AreKnown (node_of here) here.trains.now }
-    ensures { WasRaised (node_of here.entry) train walks.now
+    requires { AreKnown (node_here here) here.trains.now }
+    ensures { WasRaised (node_here here.entry) train walks.now
         bases.old.items bases.new.items result }
 {
     for walk in walks {

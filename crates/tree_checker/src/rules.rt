@@ -5,7 +5,7 @@ ghost use Rattle.disp_model.specs.Shares.{AreOfOthers};
 ghost use Rattle.node_facts.specs.Orders.{AreKnown};
 ghost use Rattle.tree_checker.specs.declared.lists.ListRule.TheVariants.{Joined};
 ghost use Rattle.tree_checker.specs.Rules.{rule_at, AreRight, IsLeafClosed, EndOnTrain, KeepsListRule};
-ghost use Rattle.tree_checker.specs.KnownNodes.{node_of};
+ghost use Rattle.tree_checker.specs.KnownNodes.{node_here};
 
 use crate::distinct::{have_distinct, have_distinct_trains};
 use crate::ends::{are_of_others, end_on_train, end_right, is_closed, is_late_if_said};
@@ -77,9 +77,9 @@ pub(crate) fn keeps(
     leaf: &Leaf,
     rule: Why,
 ) -> Result<bool, Memory>
-    requires { AreKnown (node_of here) here.trains.now }
+    requires { AreKnown (node_here here) here.trains.now }
     ensures { IfOk result (λ kept. IsTrue kept
-        ↔ KeepsListRule (node_of here.entry) verdict leaf.now rule) }
+        ↔ KeepsListRule (node_here here.entry) verdict leaf.now rule) }
 {
     let walks = component_walks(leaf);
     let listed = listed_trains(leaf);

@@ -7,7 +7,7 @@ ghost use Rattle.node_facts.specs.Orders.{AreKnown};
 ghost use Rattle.tree_checker.specs.Bounds.{IsSharesOfAll};
 ghost use Rattle.problem_facts.specs.Components.{AreOwnOf};
 ghost use Rattle.tree_checker.specs.TrainCosts.{base_by, IsLeastCost, IsShown};
-ghost use Rattle.tree_checker.specs.KnownNodes.{node_of};
+ghost use Rattle.tree_checker.specs.KnownNodes.{node_here};
 
 use crate::entering::{entered_of, kept_at};
 use crate::known::KnownNode;
@@ -46,9 +46,9 @@ fn least_cost(
 
 /// What a listed train costs at least by its walks; none where it shows no share.
 fn share_of(alloc: Global, here: KnownNode, shown: &TrainWalks) -> Result<Option<u128>, Memory>
-    requires known { AreKnown (node_of here) here.trains.now }
+    requires known { AreKnown (node_here here) here.trains.now }
     requires own { AreOwnOf here.problem.now here.own.now }
-    ensures { IfOk result (IsShown (node_of here.entry) shown.now) }
+    ensures { IfOk result (IsShown (node_here here.entry) shown.now) }
 {
     let train = shown.train;
     let Some(known) = here.trains.as_slice().get(train as usize) else {
@@ -76,9 +76,9 @@ pub(crate) fn shares_cost(
     here: KnownNode,
     listed: &[TrainWalks],
 ) -> Result<Option<u128>, Memory>
-    requires known { AreKnown (node_of here) here.trains.now }
+    requires known { AreKnown (node_here here) here.trains.now }
     requires own { AreOwnOf here.problem.now here.own.now }
-    ensures { IfOk result (IsSharesOfAll (node_of here.entry) listed.now) }
+    ensures { IfOk result (IsSharesOfAll (node_here here.entry) listed.now) }
 {
     let mut total: u128 = 0;
     for shown in listed {

@@ -2,7 +2,7 @@ ghost use Rattle.std.specs.Prelude.{◌↔◌, IfOk, IsTrue};
 ghost use Rattle.disp_model.specs.Trees.{SharesEnough, ShareVerdict, Shows};
 ghost use Rattle.node_facts.specs.Orders.{AreKnown};
 ghost use Rattle.problem_facts.specs.Components.{AreOwnOf};
-ghost use Rattle.tree_checker.specs.KnownNodes.{node_of};
+ghost use Rattle.tree_checker.specs.KnownNodes.{node_here};
 
 use crate::bound::bound_of;
 use crate::costs::reach_verdict;
@@ -22,10 +22,10 @@ fn shares_enough(
     listed: &[TrainWalks],
     cost: u64,
 ) -> Result<bool, Memory>
-    requires known { AreKnown (node_of here) here.trains.now }
+    requires known { AreKnown (node_here here) here.trains.now }
     requires own { AreOwnOf here.problem.now here.own.now }
     ensures { IfOk result (λ enough. IsTrue enough ↔ SharesEnough
-        (node_of here.entry) walks.now listed.now cost) }
+        (node_here here.entry) walks.now listed.now cost) }
 {
     if !have_distinct(alloc, walks)? {
         return Ok(false);
@@ -50,10 +50,10 @@ fn share_verdict(
     walks: &[ComponentWalk],
     listed: &[TrainWalks],
 ) -> Result<bool, Memory>
-    requires known { AreKnown (node_of here) here.trains.now }
+    requires known { AreKnown (node_here here) here.trains.now }
     requires own { AreOwnOf here.problem.now here.own.now }
     ensures { IfOk result (λ shown. IsTrue shown ↔ ShareVerdict
-        (node_of here.entry) verdict walks.now listed.now) }
+        (node_here here.entry) verdict walks.now listed.now) }
 {
     match verdict {
         Verdict::Optimal(cost) => shares_enough(alloc, here, walks, listed, cost),
@@ -68,10 +68,10 @@ pub(crate) fn shows(
     verdict: Verdict,
     leaf: &Leaf,
 ) -> Result<bool, Memory>
-    requires known { AreKnown (node_of here) here.trains.now }
+    requires known { AreKnown (node_here here) here.trains.now }
     requires own { AreOwnOf here.problem.now here.own.now }
     ensures { IfOk result (λ shown. IsTrue shown
-        ↔ Shows (node_of here.entry) verdict leaf.now) }
+        ↔ Shows (node_here here.entry) verdict leaf.now) }
 {
     match leaf {
         Leaf::NoRoute => Ok(false),

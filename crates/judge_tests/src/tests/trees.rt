@@ -1,7 +1,7 @@
 // Trees for two trains on one block, of the durations 10 and 4, whose exits cost 1 for each unit of
 // time; and for a train with a fork, over 1 (5) or 2 (3), whose exit costs so too.
 use disp_model::{
-    Choice, ComponentWalk, Leaf, List, Memory, Op, Problem, TrainWalks, TreeNode, Verdict,
+    Choice, ComponentWalk, Copied, Leaf, List, Memory, Op, Problem, TrainWalks, TreeNode, Verdict,
 };
 use packed_nodes::PackedNode;
 use std::alloc::Global;
@@ -86,7 +86,7 @@ fn checked(
 ) -> Result<Checked, Memory> {
     let mut tree = Vec::new(alloc);
     for node in nodes {
-        tree.push(PackedNode::of(alloc, node)?)?;
+        tree.push(PackedNode::pack(alloc, node.copy()?))?;
     }
     check(alloc, problem, &[], verdict, &tree)
 }
