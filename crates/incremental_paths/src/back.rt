@@ -7,6 +7,7 @@ ghost use Rattle.incremental_paths.specs.Spread.{AreLengths, WalksFit};
 ghost use Rattle.incremental_paths.specs.Back.{GivesNode, ComesFromMarked};
 
 use crate::arc::Arc;
+use crate::givers::Givers;
 use crate::marks::Marks;
 use crate::order::Order;
 use crate::search::mark_from;
@@ -14,6 +15,9 @@ use crate::steps::Steps;
 use crate::threads::Threads;
 use std::alloc::{AllocError, Global};
 use std::sync::ledger::{Blank, Ledger};
+
+// How many nodes of a walk there is room for at first.
+const FEW_NODES: usize = 64;
 
 /// A walk to the node that is as long as the node's length, from the last node on the way back
 /// whose length is its lower.
@@ -24,6 +28,7 @@ pub fn walk_back(
     order: &Order,
     lowers: &[u64],
     lengths: &[u64],
+    givers: &Givers,
     node: u32,
 ) -> Result<Vec<u32>, AllocError>
     requires ended { ended.now ≡ record { size = length lowers.now; keys = ends arcs.now } }
@@ -38,10 +43,10 @@ pub fn walk_back(
     ensures longest { IfOk result (λ nodes. walk_length lowers.now arcs.now nodes.items
         ≡ slice_index lengths.now node) }
 {
-    let mut nodes = Vec::new(alloc);
+    let mut nodes = Vec::with_capacity(alloc, FEW_NODES)?;
     nodes.push(node)?;
     let mut at = node;
-    while let Some(before) = giver(arcs, ended, lowers, lengths, at) {
+    while let Some(before) = giver(arcs, ended, lowers, lengths, givers, at) {
         nodes.push(before)?;
         at = before;
     }
@@ -49,8 +54,37 @@ pub fn walk_back(
     Ok(nodes)
 }
 
+// The node from which the arc that is advised gives this one its length, if it does.
+fn advised(arcs: &[Arc], lengths: &[u64], givers: &Givers, node: u32) -> Option<u32>
+    requires lengths { (lowers : List ℕ) × (length lengths.now ≡ length lowers)
+        × AreWithin (length lowers) arcs.now × AreLengths lowers arcs.now lengths.now }
+    requires node { node < length lengths.now }
+    ensures some { IfSome result (λ before. GivesNode arcs.now lengths.now before node) }
+    ensures within { IfSome result (λ before. before < length lengths.now) }
+{
+    let index = givers.of(node)?;
+    if index >= arcs.len() {
+        return None;
+    }
+    let arc = arcs[index];
+    if arc.to != node {
+        return None;
+    }
+    if lengths[arc.from as usize] + arc.length != lengths[node as usize] {
+        return None;
+    }
+    Some(arc.from)
+}
+
 // A node from which an arc gives this one its length, and `None` where its lower does.
-fn giver(arcs: &[Arc], ended: &Threads, lowers: &[u64], lengths: &[u64], node: u32) -> Option<u32>
+fn giver(
+    arcs: &[Arc],
+    ended: &Threads,
+    lowers: &[u64],
+    lengths: &[u64],
+    givers: &Givers,
+    node: u32,
+) -> Option<u32>
     requires ended { ended.now ≡ record { size = length lowers.now; keys = ends arcs.now } }
     requires sizes { length lengths.now ≡ length lowers.now }
     requires within { AreWithin (length lowers.now) arcs.now }
@@ -64,6 +98,9 @@ fn giver(arcs: &[Arc], ended: &Threads, lowers: &[u64], lengths: &[u64], node: u
     let length = lengths[node as usize];
     if length == lowers[node as usize] {
         return None;
+    }
+    if let Some(before) = advised(arcs, lengths, givers, node) {
+        return Some(before);
     }
     let mut front = ended.last(node);
     while front > 0 {

@@ -3,6 +3,7 @@ ghost use Rattle.incremental_paths.specs.declared.changes.Change.{Change};
 ghost use Rattle.incremental_paths.specs.Walks.{HasNoNodeTwice};
 ghost use Rattle.incremental_paths.specs.Spread.{nothing_told};
 
+use crate::givers::Givers;
 use crate::node_set::NodeSet;
 use std::alloc::{AllocError, Global};
 use std::marker::Model;
@@ -15,13 +16,14 @@ pub struct Change {
 }
 
 /// The changes of lengths since the last call of `clear`, as far as there is room, and the nodes of
-/// all of them.
+/// all of them. Beside them, as advice, which arcs gave nodes their lengths.
 #[derive(Debug, Drop)]
 pub struct Changes {
     room: usize,
     entries: Vec<Change>,
     lost: bool,
     grown: NodeSet,
+    givers: Givers,
 }
 
 impl Model for Changes {
@@ -42,6 +44,7 @@ impl Changes {
             entries: Vec::with_capacity(alloc, nodes)?,
             lost: false,
             grown: NodeSet::new(alloc, nodes)?,
+            givers: Givers::new(alloc, nodes)?,
         })
     }
 
@@ -52,6 +55,34 @@ impl Changes {
         self.entries.clear();
         self.lost = false;
         self.grown.clear();
+        self.givers.end();
+    }
+
+    /// Begins to note which arcs give nodes their lengths, for an arc that is added, up to the next
+    /// call of `clear`.
+    pub fn begin_arc(&mut self)
+        ensures { self.new ≡ self.old }
+    {
+        self.givers.begin();
+    }
+
+    /// Notes that the arc at this place gives the node its length. Nothing rests on it.
+    pub fn note_giver(&mut self, node: u32, place: usize)
+        ensures { self.new ≡ self.old }
+    {
+        self.givers.note(node, place);
+    }
+
+    /// Goes back to the arcs that gave nodes their lengths when there were this many arcs.
+    pub fn go_back(&mut self, left: usize)
+        ensures { self.new ≡ self.old }
+    {
+        self.givers.go_back(left);
+    }
+
+    /// Which arcs gave nodes their lengths.
+    pub fn givers(&self) -> &Givers {
+        &self.givers
     }
 
     /// Says that some changes are not told.

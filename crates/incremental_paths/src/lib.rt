@@ -10,6 +10,7 @@ mod back;
 mod changes;
 mod closing;
 mod faults;
+mod givers;
 mod laws;
 mod marks;
 mod node_set;

@@ -215,6 +215,7 @@ impl OrderedPaths {
             arc,
             start,
         )?;
+        self.changes.begin_arc();
         spread_last(
             &self.arcs,
             &self.begun,
@@ -272,6 +273,7 @@ impl OrderedPaths {
         self.starts.truncate(left);
         shorten(&mut self.begun, count, left);
         shorten(&mut self.ended, count, left);
+        self.changes.go_back(left);
         if self.stale <= left {
             put_back(&mut self.lengths, &mut self.trail, start);
         } else {
@@ -406,6 +408,7 @@ impl OrderedPaths {
             &self.order,
             &self.lowers,
             &self.lengths,
+            self.changes.givers(),
             node,
         )?)
     }

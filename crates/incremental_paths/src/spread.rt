@@ -23,9 +23,10 @@ fn raise_one(lengths: &mut [u64], changes: &mut Changes, node: u32, raised: u64)
 }
 
 /// Raises the length of the arc's end to what the arc leads to, where it is shorter, and says
-/// whether it was.
+/// whether it was. `front` is how many arcs there are up to this one, for what is noted of its end.
 pub fn raise_end<L: Ledger>(
     arc: Arc,
+    front: usize,
     lengths: &mut [u64],
     changes: &mut Changes,
     steps: &mut Steps<L>,
@@ -46,6 +47,7 @@ pub fn raise_end<L: Ledger>(
     if lengths[arc.to as usize] >= reached {
         return false;
     }
+    changes.note_giver(arc.to, front);
     raise_one(lengths, changes, arc.to, reached);
     true
 }
@@ -54,6 +56,7 @@ pub fn raise_end<L: Ledger>(
 // raised and stands behind `least`, and else `least`.
 fn raise_behind<L: Ledger>(
     arc: Arc,
+    front: usize,
     order: &Order,
     lengths: &mut [u64],
     changes: &mut Changes,
@@ -72,7 +75,7 @@ fn raise_behind<L: Ledger>(
     ensures within { result < length order.now }
     ensures reach { Reaches order.now changes.old changes.new result }
 {
-    if raise_end(arc, lengths, changes, steps) {
+    if raise_end(arc, front, lengths, changes, steps) {
         return least.max(order.place(arc.to) as usize);
     }
     least
@@ -111,7 +114,7 @@ pub fn raise_ends<L: Ledger>(
     let mut front = begun.last(node);
     while front > 0 {
         let at = front - 1;
-        top = raise_behind(arcs[at], order, lengths, changes, top, steps);
+        top = raise_behind(arcs[at], front, order, lengths, changes, top, steps);
         front = begun.before(at);
     }
     top
@@ -246,7 +249,7 @@ pub fn spread_last<L: Ledger>(
     ensures few { slice_index lengths.old arc.from + arc.length ≤ slice_index lengths.old arc.to
         → steps.new ≡ steps.old + 2 }
 {
-    if raise_end(arc, lengths, changes, steps) {
+    if raise_end(arc, arcs.len(), lengths, changes, steps) {
         push_on(arcs, begun, order, lengths, changes, arc.to, steps);
     }
 }

@@ -4,7 +4,7 @@ use Rattle.incremental_paths.proofs.back.walk_back.Goals as goal
 
 pub loop-before-init : goal.loop-before-init
 loop-before-init c =
-    rw (c.in_ok-push.ensures.items, c.new-nodes.ensures.items) (record {
+    rw (c.in_ok-push.ensures.items, c.in_ok-nodes.ensures.items) (record {
       within = c.requires.node;
       traced = (traced_none c.args.arcs.now c.args.node, omega arith);
     })

@@ -91,7 +91,7 @@ invariant_of-self-2 g c =
     let before = reached_more f.lowers.items f.arcs.items (arc g d) f.lengths.items (longest_reached f.lowers.items f.arcs.items f.lengths.items k.a_length_each k.longest) in
     let reached = rw (c.deref-2.ensures.value, c.deref_mut.ensures.value, c.in_ok-keep_arc.ensures.arcs) at c.spread_last.ensures.reached in
     let spread = rw (c.deref-2.ensures.value, c.in_ok-keep_arc.ensures.arcs) at c.spread_last.ensures.spread in
-    let tells = rw (c.clear.ensures, c.deref_mut.ensures.value) at c.spread_last.ensures.tells in
+    let tells = rw (c.begin_arc.ensures, c.clear.ensures, c.deref_mut.ensures.value) at c.spread_last.ensures.tells in
     let choice = rw (c.in_ok-reserve.ensures.items) at c.keep_changes-self-inside.ensures in
     let start : c.len-start.result ≡ length f.trail.items = omega (arith, c.len-start.ensures, c.in_ok-reserve.ensures.len, f.trail.ok.0) in
     let count : c.len-count.result ≡ length f.arcs.items + 1 = omega (arith, c.len-count.ensures, c.keep_arc.new.arcs.ok.0, ap length c.in_ok-keep_arc.ensures.arcs, length-append f.arcs.items (arc g d ∷ [])) in
@@ -112,7 +112,7 @@ returns-clause-changed g c =
     let before = reached_more f.lowers.items f.arcs.items (arc g d) f.lengths.items (longest_reached f.lowers.items f.arcs.items f.lengths.items k.a_length_each k.longest) in
     let reached = rw (c.deref-2.ensures.value, c.deref_mut.ensures.value, c.in_ok-keep_arc.ensures.arcs) at c.spread_last.ensures.reached in
     let spread = rw (c.deref-2.ensures.value, c.in_ok-keep_arc.ensures.arcs) at c.spread_last.ensures.spread in
-    let tells = rw (c.clear.ensures, c.deref_mut.ensures.value) at c.spread_last.ensures.tells in
+    let tells = rw (c.begin_arc.ensures, c.clear.ensures, c.deref_mut.ensures.value) at c.spread_last.ensures.tells in
     let arcs = f.arcs.items ++ arc g d ∷ [] in
     let within = All-push (λ (z : Arc). (z.from < length f.lowers.items) × (z.to < length f.lowers.items)) f.arcs.items (arc g d) k.within (from, to) in
     rw (← c.self.view_is, c.in_ok-keep_arc.ensures.arcs)

@@ -23,7 +23,7 @@ invariant_of-self-then-self-left c =
     let is_new = rw (c.deref_mut.ensures.value, read) at c.put_back.ensures.lengths in
     let is_trail = rw read at c.put_back.ensures.trail in
     rw (c.truncate.ensures.items, c.truncate-2.ensures.items, written_back f.lengths.items c.put_back.new.lengths f.lengths.len same)
-    (kept_undone f.lowers.items f.arcs.items f.begun f.ended f.order f.marks f.lengths.items f.trail.items f.starts.items f.stale f.changes.grown.size c.self.invariant.0 left less c.shorten.new.threads c.shorten-2.new.threads is_begun is_ended c.put_back.new.lengths c.put_back.new.trail.items c.clear.new.self.grown.size (ap (λ (t : Told). t.grown.size) c.clear.ensures) c.if-self-left.true long is_new is_trail, tt)
+    (kept_undone f.lowers.items f.arcs.items f.begun f.ended f.order f.marks f.lengths.items f.trail.items f.starts.items f.stale f.changes.grown.size c.self.invariant.0 left less c.shorten.new.threads c.shorten-2.new.threads is_begun is_ended c.put_back.new.lengths c.put_back.new.trail.items c.go_back.new.self.grown.size (ap (λ (t : Told). t.grown.size) (c.go_back.ensures ∙ c.clear.ensures)) c.if-self-left.true long is_new is_trail, tt)
 
 pub spread_anew-requires-clause-begun : goal.spread_anew-requires-clause-begun
 spread_anew-requires-clause-begun c =
@@ -54,7 +54,7 @@ invariant_of-self-else-self-left c =
     let is_begun = threads_are c.shorten.new.threads f.begun.size (take left f.begun.keys) c.shorten.ensures.size c.shorten.ensures.keys in
     let is_ended = threads_are c.shorten-2.new.threads f.ended.size (take left f.ended.keys) c.shorten-2.ensures.size c.shorten-2.ensures.keys in
     let same : length c.spread_anew.new.lengths ≡ f.lengths.len = omega (arith, c.spread_anew.auto.lengths, c.deref_mut-else-self-left.ensures.len) in
-    let room = ap (λ (t : Told). t.grown.size) c.clear-else-self-left-2.ensures ∙ c.spread_anew.ensures.room ∙ ap (λ (t : Told). t.grown.size) c.clear.ensures in
+    let room = ap (λ (t : Told). t.grown.size) c.clear-else-self-left-2.ensures ∙ c.spread_anew.ensures.room ∙ ap (λ (t : Told). t.grown.size) (c.go_back.ensures ∙ c.clear.ensures) in
     let reached = rw (c.deref-else-self-left.ensures.value, c.deref.ensures.value, c.truncate.ensures.items) at c.spread_anew.ensures.reached in
     let spread = rw (c.deref.ensures.value, c.truncate.ensures.items) at c.spread_anew.ensures.spread in
     rw (c.truncate.ensures.items, c.truncate-2.ensures.items, written_back f.lengths.items c.spread_anew.new.lengths f.lengths.len same)
