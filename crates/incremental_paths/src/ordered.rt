@@ -332,6 +332,16 @@ impl OrderedPaths {
         self.lengths[node as usize]
     }
 
+    /// The greatest length of a walk that ends in each node, in the order of the nodes.
+    pub fn lengths(&self) -> &[u64]
+        ensures count { length result.now ≡ length self.now.network.lowers }
+        ensures longest { (node : ℕ) → IsNode self.now.network node
+            → IsLongestLength self.now.network.lowers self.now.network.arcs node
+            (slice_index result.now node) }
+    {
+        &self.lengths
+    }
+
     /// The nodes whose lengths the last call of `add` or `raise` made greater, each once. There are
     /// none after `new`, `withdraw`, `cycle_with`, and an arc that was not added.
     pub fn changed(&self) -> &[u32]

@@ -152,6 +152,15 @@ impl Paths {
         self.ordered.length(node)
     }
 
+    /// The greatest length of a walk that ends in each node, in the order of the nodes.
+    pub fn lengths(&self) -> &[u64]
+        ensures count { length result.now ≡ length self.now.lowers }
+        ensures longest { (node : ℕ) → IsNode self.now node
+            → IsLongestLength self.now.lowers self.now.arcs node (slice_index result.now node) }
+    {
+        self.ordered.lengths()
+    }
+
     /// The nodes whose lengths the last call of `add` or `raise` made greater, each once. There are
     /// none after `new`, `withdraw`, `cycle_with`, and an arc that was not added.
     pub fn changed(&self) -> &[u32]

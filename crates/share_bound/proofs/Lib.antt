@@ -8,6 +8,7 @@ pub mod Fitting
 pub mod Sharing
 pub mod Owning
 pub mod Basing
+pub mod Lying
 pub mod Showing
 pub mod Freeing
 pub mod Knowing

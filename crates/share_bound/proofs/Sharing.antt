@@ -135,39 +135,6 @@ all_added node n count total before past within is = let same : n ≡ length nod
 
 -- ---- as they are read
 
-pub bases_more : (node : Node) (t count : ℕ) (bases new : List ℕ) (base : ℕ)
-    → AreBasesTo node t count bases → IsBase node (record { train = t; op = count }) base
-    → base ≤ horizon node.problem.trains → new ≡ bases ++ base ∷ []
-    → AreBasesTo node t (count + 1) new
-bases_more node t count bases new base before is small pushed = rw pushed (record {
-  long = omega (arith, length-append bases (base ∷ []), before.long);
-  are = λ o less. elim (cases_lt o count) [
-    | inl early ↦ subst (IsBase node (record { train = t; op = o })) (sym (kept o early))
-        (before.are o early)
-    | inr late ↦
-        let same : count ≡ o = omega (arith, late, less) in
-        subst (λ (x : ℕ). IsBase node (record { train = t; op = x })
-        (slice_index (bases ++ base ∷ []) x)) same
-        (subst (IsBase node (record { train = t; op = count })) (sym last) is)
-  ];
-  within = λ o less. elim (cases_lt o count) [
-    | inl early ↦ omega (arith, kept o early, before.within o early)
-    | inr late ↦ let same : count ≡ o = omega (arith, late, less) in
-        subst (λ (x : ℕ). slice_index (bases ++ base ∷ []) x ≤ horizon node.problem.trains) same
-        (omega (arith, last, small))
-  ];
-})
-  where
-    kept : (o : ℕ) → o < count → slice_index (bases ++ base ∷ []) o ≡ slice_index bases o
-    kept o less = get_or_from_slice_get (bases ++ base ∷ []) o (slice_index bases o) 0
-        (get_kept bases (base ∷ []) (slice_index bases o) o
-        (slice_get-get_or bases o 0 (omega (arith, less, before.long))))
-
-    last : slice_index (bases ++ base ∷ []) count ≡ base
-    last = get_or_from_slice_get (bases ++ base ∷ []) count base 0
-        (subst (λ (k : ℕ). slice_get (bases ++ base ∷ []) k ≡ Some base) before.long
-        (get_last bases base))
-
 pub rows_read : (node : Node) (t : ℕ) (order items : List ℕ) (rows kept : List (List ℕ))
     → order ≡ items → rows ≡ kept → AreAllowedRows node t items kept
     → AreAllowedRows node t order rows

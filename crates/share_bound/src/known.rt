@@ -1,4 +1,4 @@
-ghost use Rattle.std.specs.Prelude.{ℕ, ◌≡◌, ◌<◌, ◌^◌, ◌↔◌, IsTrue, IfOk, IfSome, OnOk, MatchOption, Some, length, slice_set};
+ghost use Rattle.std.specs.Prelude.{ℕ, ◌≡◌, ◌<◌, ◌↔◌, IsTrue, IfOk, IfSome, OnOk, MatchOption, Some, length, slice_set};
 ghost use Rattle.disp_model.specs.declared.settings.Rule.TheVariants.{Free};
 ghost use Rattle.disp_model.specs.Node.{Node, with_decision};
 ghost use Rattle.disp_model.specs.Valid.{train_at};
@@ -9,9 +9,9 @@ ghost use Rattle.share_bound.specs.Bases.{AreBasesTo, IsShareWithin};
 ghost use Rattle.problem_facts.specs.Components.{AreOwnOf};
 ghost use Rattle.share_bound.specs.Known.{known_of, HoldsFor, HoldFor, IsAboutNone, IsCurrentShare, IsShareCurrent};
 
-use crate::bases::{base_of, bases_of};
+use crate::bases::{bases_in, bases_of};
 use crate::shares::{share_over, train_of};
-use disp_model::{Decision, Memory, Op, Problem};
+use disp_model::{Decision, Memory, Problem};
 use event_arcs::train_of_decision;
 use event_graph::Graph;
 use problem_facts::OwnComponents;
@@ -32,9 +32,9 @@ pub struct KnownShares {
     pub(crate) each: Vec<Option<KnownShare>>,
 }
 
-/// Whether two times are the same.
-fn is_same(one: u64, other: u64) -> bool
-    ensures { IsTrue result ↔ (one ≡ other) }
+/// Whether two lists are the same.
+fn are_same(one: &[u64], other: &[u64]) -> bool
+    ensures { IsTrue result ↔ (one.now ≡ other.now) }
 {
     one == other
 }
@@ -43,19 +43,9 @@ fn is_same(one: u64, other: u64) -> bool
 fn are_bases(graph: &Graph, train: u32, bases: &[u64]) -> bool
     requires train { train < length graph.now.problem.trains }
     requires count { length bases.now ≡ length (train_at graph.now.problem train) }
-    requires fits { length bases.now < 2 ^ 32 }
     ensures { IsTrue result → AreBasesTo graph.now train (length bases.now) bases.now }
 {
-    for number in 0..bases.len() {
-        let op = Op {
-            train,
-            op: number as u32,
-        };
-        if !is_same(base_of(graph, op), bases[number]) {
-            return false;
-        }
-    }
-    true
+    are_same(bases_in(graph, train, bases.len()), bases)
 }
 
 impl KnownShare {

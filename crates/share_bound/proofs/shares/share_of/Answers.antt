@@ -18,13 +18,6 @@ bases_of-requires-clause-count c = ap (λ (l : List Operation). length l)
     (c.train_of-count.ensures
     ∙ ap (λ (p : Problem). train_at p c.args.train) (sym c.requires.node))
 
-pub bases_of-requires-clause-fits : goal.bases_of-requires-clause-fits
-bases_of-requires-clause-fits c = omega (
-  arith,
-  ap (λ (l : List Operation). length l) c.train_of-count.ensures,
-  train_fits c.args.problem.now c.args.train c.requires.train,
-)
-
 pub share_over-requires-clause-bases : goal.share_over-requires-clause-bases
 share_over-requires-clause-bases c o =
     let node = c.args.graph.now in
