@@ -1,11 +1,10 @@
 -- The bases of a train's operations lie one behind another among the lengths of all paths.
-use Rattle.std.proofs.Common.{◌≡◌, ℕ, ◌+◌, ◌-◌, ◌<◌, ◌≤◌, List, [], length, get_or, take, drop, sym, ap, subst, ◌∙◌, arith}
-use Rattle.std.specs.Prelude.{slice_index, slice_range, sum_by}
+use Rattle.std.proofs.Common.{◌≡◌, ℕ, ◌+◌, ◌-◌, ◌<◌, ◌≤◌, List, [], length, drop, sym, ap, subst, ◌∙◌, arith}
+use Rattle.std.specs.Prelude.{slice_index, slice_range}
 use Rattle.std.proofs.lemmas.List.{get_or-take, get_or-drop, length-take-le, length-drop}
 use Rattle.std.proofs.lemmas.List.Elements.{Contains-get_or, All-contains}
-use Rattle.disp_model.specs.declared.train.Op.{Op}
 use Rattle.disp_model.specs.declared.problem.Problem.{Problem}
-use Rattle.disp_model.specs.WellFormed.{IsAcyclic, horizon, operation_count}
+use Rattle.disp_model.specs.WellFormed.{IsAcyclic, operation_count}
 use Rattle.disp_model.specs.Numbers.{number_of}
 use Rattle.disp_model.specs.Valid.{train_at}
 use Rattle.disp_model.specs.Node.{Node}
@@ -37,9 +36,9 @@ pub lies_within : (problem : Problem) (t first count : ℕ) → t < length probl
 lies_within problem t first count lt is long =
     let there = first_there problem t lt in
     let last : number_of problem (record { train = t; op = length (train_at problem t) - 1 })
-        < operation_count problem.trains = below_count problem
-        (record { train = t; op = length (train_at problem t) - 1 }) lt
-        (omega (arith, there.op)) in
+    < operation_count problem.trains = below_count problem
+    (record { train = t; op = length (train_at problem t) - 1 }) lt
+    (omega (arith, there.op)) in
     omega (arith, is, long, last, there.op)
 
 pub bases_lie : (node : Node) (arcs : List Arc) (lowers lengths part : List ℕ) (t first count : ℕ)

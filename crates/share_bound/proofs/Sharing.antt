@@ -1,16 +1,14 @@
 -- The share of a train is what is found over the bases of its operations.
-use Rattle.std.proofs.Common.{◌≡◌, ℕ, suc, ◌+◌, ◌^◌, ◌<◌, ◌≤◌, List, [], ◌∷◌, ◌++◌, length, cond, Some, refl, sym, subst, inl, inr, arith}
-use Rattle.std.specs.Prelude.{nat_le, slice_get, slice_index, sum_by}
+use Rattle.std.proofs.Common.{◌≡◌, ℕ, suc, ◌+◌, ◌^◌, ◌<◌, ◌≤◌, List, length, cond, refl, sym, subst, inl, inr, arith}
+use Rattle.std.specs.Prelude.{nat_le, slice_index, sum_by}
 use Rattle.std.proofs.lemmas.Bool.{cases_lt, le-leb, lt-leb}
-use Rattle.std.proofs.lemmas.Option.{get_or_from_slice_get, slice_get-get_or}
-use Rattle.std.proofs.lemmas.List.{get_or_past, length-append}
+use Rattle.std.proofs.lemmas.List.{get_or_past}
 use Rattle.disp_model.specs.WellFormed.{horizon}
 use Rattle.disp_model.specs.Valid.{train_at}
 use Rattle.disp_model.specs.Node.{Node}
 use Rattle.disp_model.specs.Walks.{lower_of}
 use Rattle.disp_model.specs.Shares.{IsBase, IsShare, SharesAddUp}
 use Rattle.disp_laws.proofs.LongestWalks.{forced_within}
-use Rattle.train_orders.proofs.Places.{get_kept, get_last}
 use Rattle.route_sets.specs.Sets.{AreAllowedRows}
 use Rattle.share_bound.specs.Times.{base_in}
 use Rattle.share_bound.specs.Prices.{most_own}

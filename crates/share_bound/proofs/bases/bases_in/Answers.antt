@@ -1,4 +1,4 @@
-use Rattle.std.proofs.Common.{sym, subst, arith}
+use Rattle.std.proofs.Common.{arith}
 use Rattle.share_bound.proofs.Lying.{first_there, lies_within, bases_lie}
 use Rattle.share_bound.proofs.bases.bases_in.Goals as goal
 
@@ -11,7 +11,7 @@ part-requires c =
     omega (
       arith,
       lies_within node.problem c.args.train c.number-first.result c.args.count c.requires.train
-      c.number-first.ensures c.requires.count,
+          c.number-first.ensures c.requires.count,
       c.lengths.ensures.count,
       c.paths.ensures.lowers.long,
     )

@@ -4,7 +4,6 @@ use Rattle.std.proofs.lemmas.Result.{IfOk-weaker}
 use Rattle.disp_model.specs.declared.train.Operation.{Operation}
 use Rattle.disp_model.specs.declared.problem.Problem.{Problem}
 use Rattle.disp_model.specs.Valid.{train_at}
-use Rattle.route_sets.proofs.Answering.{train_fits}
 use Rattle.event_arcs.proofs.Shortness.{horizon_small}
 use Rattle.share_bound.proofs.Sharing.{each_base, share_of_bases}
 use Rattle.share_bound.proofs.shares.share_of.Goals as goal

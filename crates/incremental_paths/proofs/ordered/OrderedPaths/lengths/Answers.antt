@@ -1,4 +1,3 @@
-use Rattle.std.proofs.Common.{◌≡◌, ◌<◌, ℕ, List, length, sym, subst}
 use Rattle.incremental_paths.proofs.KeptFields.{kept_longest}
 use Rattle.incremental_paths.proofs.ordered.OrderedPaths.lengths.Goals as goal
 

@@ -1,4 +1,4 @@
-use Rattle.std.proofs.Common.{◌≡◌, ◌∙◌, ◌<◌, List, Option, Some, None, length, ap, subst, sym, arith}
+use Rattle.std.proofs.Common.{◌∙◌, ◌<◌, List, Option, Some, None, length, ap, arith}
 use Rattle.std.proofs.lemmas.List.{get_or-set_same}
 use Rattle.share_bound.specs.declared.known.KnownShare.{KnownShare}
 use Rattle.share_bound.specs.Known.{known_of}

@@ -1,4 +1,4 @@
-use Rattle.std.proofs.Common.{◌≡◌, ◌+◌, ◌∙◌, [], ◌∷◌, None, length, ap, sym, arith}
+use Rattle.std.proofs.Common.{◌≡◌, ◌+◌, ◌∙◌, [], ◌∷◌, None, length, ap, arith}
 use Rattle.std.proofs.lemmas.List.{length-append}
 use Rattle.share_bound.proofs.Knowing.{none_more, none_known}
 use Rattle.share_bound.proofs.known.KnownShares.new.Goals as goal
