@@ -1,5 +1,6 @@
 pub mod Arriving
 pub mod Summing
 pub mod Ending
+pub mod Passing
 pub mod Walking
 pub mod Bounding

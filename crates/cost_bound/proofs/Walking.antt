@@ -19,10 +19,10 @@ use Rattle.event_arcs.specs.Listed.{IsArcOf}
 use Rattle.event_windows.specs.Operations.{HasOperation}
 use Rattle.event_arcs.proofs.Numbering.{forced_is_op, same_by_number}
 use Rattle.event_arcs.proofs.Lengths.{carried}
-use Rattle.cost_bound.specs.Shortened.{ends_of}
+use Rattle.cost_bound.specs.Shortened.{ends_of, NamesEnds, AreEndsOver}
 use Rattle.cost_bound.specs.Bounds.{IsLongWalk}
 use Rattle.cost_bound.proofs.Arriving.{AreListed, listed_longest}
-use Rattle.cost_bound.proofs.Ending.{IsLast, ends_in, ends_last, ends_walk}
+use Rattle.cost_bound.proofs.Ending.{IsLast, ends_in, ends_last, ends_walk, ends_named}
 
 -- ---- the operations of a walk are there
 
@@ -41,15 +41,6 @@ numbers_below problem (o ∷ ops) there =
     All-cons (λ n. n < operation_count problem.trains) (number_of problem o) (map (number_of problem) ops) (below_count problem o here.train here.op) (numbers_below problem ops (All-tail (HasOperation problem) o ops there))
 
 -- ---- operations by their numbers
-
-same_named : (problem : Problem) (one other : List Op) → All (HasOperation problem) one → All (HasOperation problem) other → map (number_of problem) one ≡ map (number_of problem) other → one ≡ other
-same_named problem [] [] here there same = refl
-same_named problem [] (p ∷ other) here there same = absurd cc
-same_named problem (o ∷ one) [] here there same = absurd cc
-same_named problem (o ∷ one) (p ∷ other) here there same =
-    let first : o ≡ p = same_by_number problem o p (All-head (HasOperation problem) o one here) (All-head (HasOperation problem) p other there) cc in
-    let later : one ≡ other = same_named problem one other (All-tail (HasOperation problem) o one here) (All-tail (HasOperation problem) p other there) cc in
-    ap (λ (x : Op). x ∷ one) first ∙ ap (λ (l : List Op). p ∷ l) later
 
 last_named : (problem : Problem) (ops : List Op) (n : ℕ) (rest : List ℕ) (o : Op) → All (HasOperation problem) ops → HasOperation problem o → map (number_of problem) ops ≡ n ∷ rest → last_node_from n rest ≡ number_of problem o → IsLast ops o
 last_named problem [] n rest o there own is last = absurd cc
@@ -107,15 +98,16 @@ last_walk : (problem : Problem) (ops : List Op) (lowers : List ℕ) (arcs : List
 last_walk problem ops lowers arcs o number [] there own numbers is walk = absurd walk
 last_walk problem ops lowers arcs o number (n ∷ rest) there own numbers is walk = last_named problem ops n rest o there own numbers (walk.2 ∙ is)
 
--- what is named of a longest walk over numbers
-pub long_walk : (node : Node) (arcs : List Arc) (lowers : List ℕ) (o : Op) (number : ℕ) (nodes : List ℕ) (walk : List Op) → AreListed node arcs lowers → IsForced node o → number ≡ number_of node.problem o → IsWalkTo lowers arcs number nodes
-    → IsLongestLength lowers arcs number (walk_length lowers arcs nodes) → All (HasOperation node.problem) walk → map (number_of node.problem) walk ≡ nodes → IsLongWalk node o (ends_of walk)
-long_walk node arcs lowers o number nodes walk are forced is to long there numbers =
+-- the ends of a longest walk over numbers
+pub long_ends : (node : Node) (arcs : List Arc) (lowers : List ℕ) (o : Op) (number : ℕ) (nodes : List ℕ) (ends : List Op) → AreListed node arcs lowers → IsForced node o → number ≡ number_of node.problem o → IsWalkTo lowers arcs number nodes
+    → IsLongestLength lowers arcs number (walk_length lowers arcs nodes) → AreEndsOver node.problem nodes ends → IsLongWalk node o ends × NamesEnds ends
+long_ends node arcs lowers o number nodes ends are forced is to long ends_are =
     let over = carried_whole node arcs lowers o number nodes are forced is to in
-    let same : over.ops ≡ walk = same_named node.problem over.ops walk (walk_there node over.ops over.total over.is_walk) there (over.numbers ∙ sym numbers) in
-    let is_walk : IsWalk node walk over.total = subst (λ (l : List Op). IsWalk node l over.total) same over.is_walk in
-    let last = last_walk node.problem walk lowers arcs o number nodes there (forced_is_op node o forced) numbers is to in
+    let there = walk_there node over.ops over.total over.is_walk in
+    let same : ends ≡ ends_of over.ops = ends_are over.ops (record { there = there; are = over.numbers }) in
+    let last = last_walk node.problem over.ops lowers arcs o number nodes there (forced_is_op node o forced) over.numbers is to in
     let longest = listed_longest node arcs lowers o number (walk_length lowers arcs nodes) are forced is long in
-    let within = longest.none_longer walk over.total (ends_in walk o last) (once node walk over.total are.no_cycle is_walk) is_walk in
+    let within = longest.none_longer over.ops over.total (ends_in over.ops o last) (once node over.ops over.total are.no_cycle over.is_walk) over.is_walk in
     let total : walk_length lowers arcs nodes ≡ over.total = omega (arith, within, over.enough) in
-    record { ends = ends_in (ends_of walk) o (ends_last walk o last); total = over.total; is_walk = ends_walk node walk over.total is_walk; longest = subst (IsLongestAt node o) total longest }
+    subst (λ (l : List Op). IsLongWalk node o l × NamesEnds l) (sym same)
+    (record { ends = ends_in (ends_of over.ops) o (ends_last over.ops o last); total = over.total; is_walk = ends_walk node over.ops over.total over.is_walk; longest = subst (IsLongestAt node o) total longest }, ends_named over.ops)

@@ -1,7 +1,9 @@
-ghost use Rattle.std.specs.Prelude.{◌≡◌, ◌∷◌, ◌++◌, [], IfOk, OnOk, if◌then◌else◌};
-ghost use Rattle.cost_bound.specs.Shortened.{is_end, ends_of};
+ghost use Rattle.std.specs.Prelude.{◌≡◌, ◌<◌, ◌∷◌, ◌++◌, [], All, IfOk, OnOk, if◌then◌else◌};
+ghost use Rattle.disp_model.specs.WellFormed.{operation_count};
+ghost use Rattle.cost_bound.specs.Shortened.{is_end, AreEndsOver};
 
 use disp_model::{List, Memory, Op};
+use event_graph::Graph;
 use std::alloc::Global;
 
 /// Whether an operation does not stand between two others of its train.
@@ -24,30 +26,61 @@ fn keep(ends: &mut List<Op>, op: Op, kept: bool) -> Result<(), Memory>
     Ok(())
 }
 
-/// How many operations of a walk are ends.
-fn count_ends(walk: &[Op]) -> usize {
-    let mut count: usize = 0;
+/// How many ends a walk over these numbers has.
+fn count_ends(graph: &Graph, first: u32, rest: &[u32]) -> usize
+    requires first { first < operation_count graph.now.problem.trains }
+    requires rest { All (λ n. n < operation_count graph.now.problem.trains) rest.now }
+{
+    let mut count: usize = 1;
     let mut before = None;
-    for (place, op) in walk.iter().enumerate() {
-        if is_end(before, *op, walk.get(place + 1).copied()) {
+    let mut op = graph.operation(first);
+    for number in rest {
+        let next = graph.operation(*number);
+        if is_end(before, op, Some(next)) {
             count = count.saturating_add(1);
         }
-        before = Some(*op);
+        before = Some(op);
+        op = next;
     }
     count
 }
 
-/// The operations of a walk at which it enters a train or leaves one, in their order. It takes no
-/// more memory than they need, since a search keeps many walks.
-pub(crate) fn ends_of(alloc: Global, walk: &[Op]) -> Result<List<Op>, Memory>
-    ensures { IfOk result (λ ends. ends ≡ ends_of walk.now) }
+/// The ends of a walk over these numbers, with room for so many.
+fn ends_behind(
+    alloc: Global,
+    graph: &Graph,
+    first: u32,
+    rest: &[u32],
+    count: usize,
+) -> Result<List<Op>, Memory>
+    requires first { first < operation_count graph.now.problem.trains }
+    requires rest { All (λ n. n < operation_count graph.now.problem.trains) rest.now }
+    ensures { IfOk result (AreEndsOver graph.now.problem (first ∷ rest.now)) }
 {
-    let mut ends = List::from_vec(Vec::with_capacity(alloc, count_ends(walk))?);
+    let mut ends = List::from_vec(Vec::with_capacity(alloc, count)?);
     let mut before = None;
-    for (place, op) in walk.iter().enumerate() {
-        let next = walk.get(place + 1).copied();
-        keep(&mut ends, *op, is_end(before, *op, next))?;
-        before = Some(*op);
+    let mut op = graph.operation(first);
+    for number in rest {
+        let next = graph.operation(*number);
+        keep(&mut ends, op, is_end(before, op, Some(next)))?;
+        before = Some(op);
+        op = next;
     }
+    ends.push(op)?;
     Ok(ends)
+}
+
+/// The operations of a walk over these numbers at which it enters a train or leaves one, in their
+/// order. It takes no more memory than they need, since a search keeps many walks.
+pub(crate) fn ends_over(alloc: Global, graph: &Graph, numbers: &[u32]) -> Result<List<Op>, Memory>
+    requires { All (λ n. n < operation_count graph.now.problem.trains) numbers.now }
+    ensures { IfOk result (AreEndsOver graph.now.problem numbers.now) }
+{
+    match numbers {
+        [] => Ok(List::new(alloc)),
+        [first, rest @ ..] => {
+            let count = count_ends(graph, *first, rest);
+            ends_behind(alloc, graph, *first, rest, count)
+        }
+    }
 }

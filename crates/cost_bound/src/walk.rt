@@ -1,30 +1,14 @@
-ghost use Rattle.std.specs.Prelude.{◌≡◌, ◌<◌, All, IfOk, map};
-ghost use Rattle.disp_model.specs.WellFormed.{operation_count};
+ghost use Rattle.std.specs.Prelude.{◌≡◌, IfOk};
 ghost use Rattle.disp_model.specs.Numbers.{number_of};
 ghost use Rattle.disp_model.specs.Routes.{IsForced};
 ghost use Rattle.disp_model.specs.declared.train.Op.{Op as OpOf};
-ghost use Rattle.event_windows.specs.Operations.{HasOperation};
 ghost use Rattle.cost_bound.specs.Shortened.{NamesEnds};
 ghost use Rattle.cost_bound.specs.Bounds.{IsLongWalk};
 
-use crate::ends::ends_of;
+use crate::ends::ends_over;
 use disp_model::{List, Memory, Op};
 use event_graph::Graph;
 use std::alloc::Global;
-
-/// The operations of these numbers.
-fn named(alloc: Global, graph: &Graph, numbers: &[u32]) -> Result<Vec<Op>, Memory>
-    requires { All (λ n. n < operation_count graph.now.problem.trains) numbers.now }
-    ensures there { IfOk result (λ ops. All (HasOperation graph.now.problem) ops.items) }
-    ensures numbers { IfOk result
-        (λ ops. map (number_of graph.now.problem) ops.items ≡ numbers.now) }
-{
-    let mut ops = Vec::with_capacity(alloc, numbers.len())?;
-    for number in numbers {
-        ops.push(graph.operation(*number))?;
-    }
-    Ok(ops)
-}
 
 /// A walk to the operation of a number, which is forced, as long as its longest. It names only
 /// where it enters trains and where it leaves them.
@@ -35,8 +19,7 @@ pub(crate) fn walk_to(alloc: Global, graph: &Graph, number: u32) -> Result<List<
     ensures short { IfOk result NamesEnds }
 {
     let numbers = graph.paths().walk(number)?;
-    let walk = named(alloc, graph, &numbers)?;
-    let ends = ends_of(alloc, &walk)?;
+    let ends = ends_over(alloc, graph, &numbers)?;
     Ok(ends)
 }
 
