@@ -1,7 +1,5 @@
-use Rattle.std.proofs.Common.{◌≡◌, ◌∙◌, ◌∷◌, ◌++◌, List, [], None, Some, sym, ap, subst, arith}
+use Rattle.std.proofs.Common.{◌≡◌, ◌∙◌, ◌∷◌, ◌++◌, [], None, sym, ap, subst, arith}
 use Rattle.std.specs.Prelude.{if◌then◌else◌}
-use Rattle.disp_model.specs.declared.train.Op.{Op}
-use Rattle.cost_bound.specs.Shortened.{is_end}
 use Rattle.cost_bound.proofs.Passing.{ArePassed, pass_first, pass_more, pass_last}
 use Rattle.cost_bound.proofs.ends.ends_behind.Goals as goal
 
