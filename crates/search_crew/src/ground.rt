@@ -15,7 +15,7 @@ use search_workers::{Growth, grow, leaf_alone, refused_leaf, target_after};
 use share_bound::KnownShares;
 use std::alloc::Global;
 use train_insertion::{INSERTIONS, target};
-use tree_dives::Guide;
+use tree_dives::{EFFORT, Guide};
 
 /// How many trains are put in for a target where an order of trains is known from the last one.
 const INSERTIONS_AGAIN: u32 = 4000;
@@ -38,12 +38,16 @@ pub(crate) enum Ground<'p> {
     Dead(Leaf),
 }
 
-/// How many trains are put in for a target: fewer where an order of trains is known.
-fn insertions_for(order: &[u32]) -> u32 {
+/// At how many nodes is looked then for better plans near the target.
+const EFFORT_AGAIN: u32 = 8_000;
+
+/// How many trains are put in for a target, and at how many nodes is looked for better ones: fewer
+/// where an order of trains is known.
+fn efforts_for(order: &[u32]) -> (u32, u32) {
     if order.is_empty() {
-        INSERTIONS
+        (INSERTIONS, EFFORT)
     } else {
-        INSERTIONS_AGAIN
+        (INSERTIONS_AGAIN, EFFORT_AGAIN)
     }
 }
 
@@ -57,10 +61,10 @@ fn guide_to(
 ) -> Result<Guide, Memory>
     requires edition { IsOfEdition (node_at problem.now fixings.now []) }
 {
-    let insertions = insertions_for(order.as_slice());
+    let (insertions, effort) = efforts_for(order.as_slice());
     let target = target(alloc, problem, fixings, insertions, order)?;
     let mut guide = Guide::new(alloc, problem, target)?;
-    guide.look_ahead(alloc, problem, fixings)?;
+    guide.look_ahead(alloc, problem, fixings, effort)?;
     Ok(guide)
 }
 

@@ -21,7 +21,7 @@ use node_leaves::Reckoning;
 use share_bound::KnownShares;
 use std::alloc::Global;
 use train_insertion::{INSERTIONS, target};
-use tree_dives::Guide;
+use tree_dives::{EFFORT, Guide};
 
 /// A copy of a leaf, with the bound 0.
 fn copy_alone(alloc: Global, leaf: &Leaf) -> Result<Growth, Memory>
@@ -162,7 +162,7 @@ fn guide_to(alloc: Global, problem: &Problem, fixings: &[Fixing]) -> Result<Guid
     let mut order = Vec::new(alloc);
     let target = target(alloc, problem, fixings, INSERTIONS, &mut order)?;
     let mut guide = Guide::new(alloc, problem, target)?;
-    guide.look_ahead(alloc, problem, fixings)?;
+    guide.look_ahead(alloc, problem, fixings, EFFORT)?;
     Ok(guide)
 }
 

@@ -1,17 +1,17 @@
 /// Numbers that look drawn by chance, the same in each run.
 #[derive(Drop)]
-pub(crate) struct Draw {
+pub struct Draw {
     state: u64,
 }
 
 impl Draw {
     /// The first of the numbers.
-    pub(crate) fn new() -> Draw {
+    pub fn new() -> Draw {
         Draw { state: 1 }
     }
 
     /// The next number, below a count; 0 where the count is 0.
-    pub(crate) fn below(&mut self, count: usize) -> usize {
+    pub fn below(&mut self, count: usize) -> usize {
         self.state = self
             .state
             .wrapping_mul(6364136223846793005)

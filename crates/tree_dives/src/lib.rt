@@ -13,6 +13,7 @@ mod given;
 mod grown;
 mod guide;
 mod leaves;
+mod neighbours;
 mod outlook;
 mod prefer;
 mod rewinding;
@@ -20,6 +21,6 @@ mod stage;
 
 pub use diving::dive;
 pub use given::Dive;
-pub use guide::Guide;
+pub use guide::{EFFORT, Guide};
 pub use rewinding::{rewind, rewind_knowing};
 pub use stage::End;
