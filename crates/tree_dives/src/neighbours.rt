@@ -13,18 +13,22 @@ use train_insertion::{Draw, Target};
 /// How many trains are taken out of a plan at first,
 const FEWEST_OUT: usize = 3;
 
-/// and how many at most: one more each time after so many rounds in which nothing was found.
+/// and how many at most.
 const MOST_OUT: usize = 5;
+
+/// One more is taken out after so many rounds in which nothing was found.
 const ROUNDS_FOR_MORE: usize = 48;
 
-/// After so many rounds in which nothing was found it ends.
+/// After so many of these it ends.
 const ROUNDS_IN_VAIN: usize = 192;
 
-/// Of so many trains that are taken out with one all but one are near it, by and large.
+/// Of so many trains that are drawn beside the first all but one are near it, by and large.
 const NEAR: usize = 8;
 
-/// At how many nodes is looked at most for a first plan, and in each round.
+/// At how many nodes is looked at most for a first plan.
 const FIRST_NODES: u32 = 4096;
+
+/// At how many nodes is looked at most in a round.
 const ROUND_NODES: u32 = 200;
 
 /// How many decisions that are only taken over count as one node.
@@ -160,12 +164,7 @@ fn take_route(problem: &Problem, graph: &mut Graph, target: &Target, op: Op) -> 
 }
 
 /// Has trains take the routes of a plan, but for those that are out.
-fn take_routes(
-    problem: &Problem,
-    graph: &mut Graph,
-    base: &Base,
-    out: &[u32],
-) -> Result<(), Memory>
+fn take_routes(problem: &Problem, graph: &mut Graph, base: &Base, out: &[u32]) -> Result<(), Memory>
     requires { graph.old.problem ≡ problem.now }
     ensures { graph.new.problem ≡ graph.old.problem }
 {
@@ -186,10 +185,7 @@ fn take_order(graph: &mut Graph, last: &mut Option<Op>, op: Op) -> Result<(), Me
     match before {
         Some(before) if before.train != op.train => add(
             graph,
-            Decision::First {
-                a: before,
-                b: op,
-            },
+            Decision::First { a: before, b: op },
         ),
         _ => Ok(()),
     }
@@ -289,11 +285,7 @@ fn first_base(
         one: true,
     };
     let outlook = look_below(alloc, problem, graph, adviser, target, wanted)?;
-    let Outlook {
-        plan,
-        below,
-        ..
-    } = outlook;
+    let Outlook { plan, below, .. } = outlook;
     let Some(plan) = plan else {
         return Ok(None);
     };

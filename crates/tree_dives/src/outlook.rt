@@ -120,12 +120,7 @@ fn put_children(
 {
     let children = children(alloc, problem, choice)?;
     let first = preferred(problem, graph, target, children.as_slice());
-    put_all(
-        waiting,
-        graph.decisions().len(),
-        children.as_slice(),
-        first,
-    )
+    put_all(waiting, graph.decisions().len(), children.as_slice(), first)
 }
 
 impl Outlook {
