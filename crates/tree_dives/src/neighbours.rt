@@ -32,7 +32,7 @@ const FIRST_NODES: u32 = 4096;
 const ROUND_NODES: u32 = 200;
 
 /// How many decisions that are only taken over count as one node.
-const TAKEN_FOR_ONE: usize = 8;
+const TAKEN_FOR_ONE: usize = 16;
 
 /// A plan, what it costs, and the target that it is.
 #[derive(Drop)]
@@ -228,7 +228,8 @@ fn take_orders(
 }
 
 /// Takes some trains out of a plan, and keeps the cheapest plan that is found in which the others
-/// go on as they did, if it is cheaper. Gives how many nodes that took.
+/// go on as they did, if it is cheaper. It goes down to the child that costs least, since along the
+/// plan it would find that one again. Gives how many nodes that took.
 fn try_round(
     alloc: Global,
     problem: &Problem,
@@ -252,7 +253,8 @@ fn try_round(
         nodes: ROUND_NODES,
         one: false,
     };
-    let outlook = look_below(alloc, problem, graph, adviser, &base.target, wanted)?;
+    let cheapest = Target::none(alloc);
+    let outlook = look_below(alloc, problem, graph, adviser, &cheapest, wanted)?;
     let Outlook {
         plan,
         below,
