@@ -1,5 +1,5 @@
 -- What a searcher may hand in.
-use Rattle.std.proofs.Common.{◌≡◌, ◌∙◌, ℕ, ◌≤◌, List, [], ◌∷◌, ◌++◌, length, map, Option, Some, sym, subst}
+use Rattle.std.proofs.Common.{◌≡◌, ◌∙◌, ℕ, ◌≤◌, List, [], ◌∷◌, ◌++◌, length, map, Option, Some, refl, sym, subst}
 use Rattle.std.specs.Prelude.{All}
 use Rattle.disp_model.specs.declared.decision.Choice.{Choice}
 use Rattle.disp_model.specs.declared.entry.Entry.{Entry}
@@ -25,7 +25,8 @@ use Rattle.shared_board.specs.Calls.{IsGrowthOf, IsExaminedFor, IsPlanFor}
 use Rattle.shared_board.specs.Standing.{SameRole}
 use Rattle.search_workers.specs.declared.growth.Growth.{Growth}
 use Rattle.search_workers.specs.declared.growth.Growth.TheVariants as growth
-use Rattle.search_workers.specs.Grown.{IsPlanAt, IsGrownOf}
+use Rattle.near_plans.specs.Plans.{IsPlanAt}
+use Rattle.search_workers.specs.Grown.{IsGrownOf}
 use Rattle.search_crew.specs.Grounds.{IsBestNoMore}
 use Rattle.search_crew.specs.Working.{IsAtWork}
 
@@ -54,6 +55,15 @@ module _ (best other : Option ℕ) (less : IsBestNoMore best other) (rule : Rule
 pub plan_on : (v w : Known Entry Terms) → SameRole v w → (plan : List Event) → IsPlanFor v plan → IsPlanFor w plan
 plan_on v w role plan is = record { terms = is.terms; terms_are = role.terms ∙ is.terms_are; within = is.within }
 
+-- a plan that is valid at a node of the board's problem starts nothing past the horizon
+pub plan_at : (board : Board) (rule : Rule) (edition : ℕ) (pass : Pass) → IsAtWork board rule edition pass → (node : Node) → node.problem ≡ problem_of board
+    → (plan : List Event) → IsPlanAt node plan → IsPlanFor (known pass) plan
+plan_at board rule edition pass at node same plan is = record {
+  terms = at.searcher.terms;
+  terms_are = at.searcher.terms_are;
+  within = subst (λ (p : Problem). All (λ e. e.time ≤ horizon p.trains) plan) (same ∙ sym at.problem) is.within;
+}
+
 module _ (board : Board) (rule : Rule) (pass : Pass) (work : Work) (at : IsAtWork board rule work.edition pass) where
   -- the node of the work under the fixings of its edition
   abbrev pub node : Node
@@ -80,8 +90,4 @@ module _ (board : Board) (rule : Rule) (pass : Pass) (work : Work) (at : IsAtWor
   }
 
   pub plan_of : (plan : List Event) → IsPlanAt node plan → IsPlanFor (known pass) plan
-  plan_of plan is = record {
-    terms = at.searcher.terms;
-    terms_are = at.searcher.terms_are;
-    within = subst (λ (p : Problem). All (λ e. e.time ≤ horizon p.trains) plan) (sym at.problem) is.within;
-  }
+  plan_of plan is = plan_at board rule work.edition pass at node refl plan is

@@ -6,7 +6,7 @@ use crossbeam_deque::{Steal, Stealer, Worker};
 use disp_model::Memory;
 use incumbent_cell::{CellPass, Least};
 use open_nodes::Work;
-use search_workers::{Effort, FOR_PLAN};
+use search_workers::{Effort, FOR_PLAN, Foresight};
 use std::alloc::Global;
 
 /// How many works a searcher has room for.
@@ -28,6 +28,7 @@ const SHARES: u32 = 8;
 pub struct Crew {
     pub(crate) least: Least,
     stealers: Vec<Stealer<Work>>,
+    budget: u32,
 }
 
 /// What one searcher of a crew has for itself: its place in the crew, its pass to the least cost,
@@ -94,13 +95,24 @@ pub fn crew_of(
             works,
         })?;
     }
-    Ok((Crew { least, stealers }, hands))
+    let crew = Crew {
+        least,
+        stealers,
+        budget,
+    };
+    Ok((crew, hands))
 }
 
 impl Crew {
     /// Whether there are others to steal from a searcher.
     pub(crate) fn shares(&self) -> bool {
         self.stealers.len() > 1
+    }
+
+    /// How much the searcher at a place looks for ahead of a search.
+    pub(crate) fn foresight(&self, place: u32) -> Foresight {
+        let count = u32::try_from(self.stealers.len()).unwrap_or(u32::MAX);
+        Foresight::of(place, count, self.budget)
     }
 
     /// A work of some searcher.

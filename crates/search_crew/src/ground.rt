@@ -5,20 +5,18 @@ ghost use Rattle.event_graph.specs.Joined.{IsOfEdition};
 ghost use Rattle.node_leaves.specs.Reckoned.{ReckonsFor};
 ghost use Rattle.search_workers.specs.Grown.{IsGrownOf};
 ghost use Rattle.share_bound.specs.Known.{HoldFor};
-ghost use Rattle.search_crew.specs.Grounds.{IsGround, IsBestNoMore};
+ghost use Rattle.search_crew.specs.Grounds.{IsGround, IsBestNoMore, HasBegun};
 
-use disp_model::{Copied, Fixing, Leaf, Memory, Problem};
+use disp_model::{Copied, Fixing, Leaf, Memory, Plan, Problem};
 use event_graph::Graph;
 use node_leaves::Reckoning;
 use open_nodes::Work;
-use search_workers::{Growth, grow, leaf_alone, refused_leaf, target_after};
+use search_workers::{
+    Foresight, Growth, Guided, grow, guide_ahead, leaf_alone, refused_leaf, target_after,
+};
 use share_bound::KnownShares;
 use std::alloc::Global;
-use train_insertion::{INSERTIONS, target};
-use tree_dives::{EFFORT, Guide};
-
-/// How many trains are put in for a target where an order of trains is known from the last one.
-const INSERTIONS_AGAIN: u32 = 4000;
+use tree_dives::Guide;
 
 /// A graph of an edition, which is moved from work to work, what is known of shares where it is,
 /// and what guides the dives.
@@ -38,56 +36,58 @@ pub(crate) enum Ground<'p> {
     Dead(Leaf),
 }
 
-/// At how many nodes is looked then for better plans near the target.
-const EFFORT_AGAIN: u32 = 8_000;
-
-/// How many trains are put in for a target, and at how many nodes is looked for better ones: fewer
-/// where an order of trains is known.
-fn efforts_for(order: &[u32]) -> (u32, u32) {
-    if order.is_empty() {
-        (INSERTIONS, EFFORT)
-    } else {
-        (INSERTIONS_AGAIN, EFFORT_AGAIN)
-    }
+/// The ground of an edition, and the best plan that was found ahead of its search.
+#[derive(Drop)]
+pub(crate) struct Begun<'p> {
+    pub ground: Ground<'p>,
+    pub plan: Option<Plan>,
 }
 
-/// A guide along a target of a problem under fixings. The target begins with the order of trains of
-/// the last one, and leaves its own.
-fn guide_to(
-    alloc: Global,
-    problem: &Problem,
-    fixings: &[Fixing],
-    order: &mut Vec<u32>,
-) -> Result<Guide, Memory>
-    requires edition { IsOfEdition (node_at problem.now fixings.now []) }
-{
-    let (insertions, effort) = efforts_for(order.as_slice());
-    let target = target(alloc, problem, fixings, insertions, order)?;
-    let mut guide = Guide::new(alloc, problem, target)?;
-    guide.look_ahead(alloc, problem, fixings, effort)?;
-    Ok(guide)
-}
-
-/// The ground of an edition with these fixings. The order of trains is kept from edition to
-/// edition.
-pub(crate) fn ground_of<'p>(
+/// The ground of an edition at whose root a graph is, and a plan if a look ahead finds one. The
+/// order of trains is kept from edition to edition.
+fn begin_at<'p>(
     alloc: Global,
     problem: &'p Problem,
     fixings: &[Fixing],
+    mut graph: Graph<'p>,
+    foresight: Foresight,
     order: &mut Vec<u32>,
-) -> Result<Ground<'p>, Memory>
-    requires { IsOfEdition (node_at problem.now fixings.now []) }
-    ensures { IfOk result (IsGround problem.now fixings.now) }
+) -> Result<Begun<'p>, Memory>
+    requires edition { IsOfEdition (node_at problem.now fixings.now []) }
+    requires root { graph ≡ node_at problem.now fixings.now [] }
+    ensures { IfOk result (HasBegun problem.now fixings.now) }
 {
-    let guide = guide_to(alloc, problem, fixings, order)?;
+    let guided = guide_ahead(alloc, problem, fixings, &mut graph, foresight, order)?;
+    let Guided { guide, plan } = guided;
     let known = KnownShares::new(alloc, problem)?;
-    match Graph::new(alloc, problem, fixings) {
-        Ok(graph) => Ok(Ground::Alive(Alive {
+    Ok(Begun {
+        ground: Ground::Alive(Alive {
             graph,
             known,
             guide,
-        })),
-        Err(no) => Ok(Ground::Dead(refused_leaf(no)?)),
+        }),
+        plan,
+    })
+}
+
+/// The ground of an edition with these fixings, and a plan if a look ahead finds one. The order of
+/// trains is kept from edition to edition.
+pub(crate) fn begin<'p>(
+    alloc: Global,
+    problem: &'p Problem,
+    fixings: &[Fixing],
+    foresight: Foresight,
+    order: &mut Vec<u32>,
+) -> Result<Begun<'p>, Memory>
+    requires { IsOfEdition (node_at problem.now fixings.now []) }
+    ensures { IfOk result (HasBegun problem.now fixings.now) }
+{
+    match Graph::new(alloc, problem, fixings) {
+        Ok(graph) => begin_at(alloc, problem, fixings, graph, foresight, order),
+        Err(no) => Ok(Begun {
+            ground: Ground::Dead(refused_leaf(no)?),
+            plan: None,
+        }),
     }
 }
 

@@ -63,8 +63,8 @@ pub(crate) fn tell(crew: &Crew, hand: &mut Hand, edition: u32, cost: u64)
     }
 }
 
-/// Publishes a plan for an edition, and tells the others.
-fn publish<W: Wait>(
+/// Publishes a plan for an edition, where there is one, and tells the others.
+pub(crate) fn publish<W: Wait>(
     rt: &W,
     alloc: Global,
     board: &Board,
@@ -72,14 +72,17 @@ fn publish<W: Wait>(
     crew: &Crew,
     hand: &mut Hand,
     edition: u32,
-    plan: Plan,
+    plan: Option<Plan>,
 ) -> Result<(), Memory>
     requires board { own_board pass.old ≡ board_of board.now }
-    requires plan { IsPlanFor (known pass.old) plan }
+    requires plan { (found : List Event) → plan ≡ Some found → IsPlanFor (known pass.old) found }
     requires hand { IsHandOf crew.now hand.old }
     ensures on { KeepsOn pass.old pass.new }
     ensures hand { IsSameHand hand.old hand.new }
 {
+    let Some(plan) = plan else {
+        return Ok(());
+    };
     if let CoreReply::Published(cost) = board.publish(rt, alloc, pass, edition, plan)? {
         tell(crew, hand, edition, cost);
     }
@@ -107,10 +110,7 @@ fn hand_in_subtree<W: Wait>(
 {
     let edition = fragment.work.edition;
     put_in(rt, alloc, board, pass, fragment)?;
-    match plan {
-        Some(plan) => publish(rt, alloc, board, pass, crew, hand, edition, plan),
-        None => Ok(()),
-    }
+    publish(rt, alloc, board, pass, crew, hand, edition, plan)
 }
 
 /// Hands in what a work came to.

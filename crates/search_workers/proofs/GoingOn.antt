@@ -27,7 +27,7 @@ use Rattle.dispatch_core.specs.declared.event.CoreReply.TheVariants as reply
 use Rattle.dispatch_core.specs.Replies.{IsTake, IsGrow, IsGiveBack, IsPublish, IsSettle, IsStopReply, Steps}
 use Rattle.dispatch_core.specs.States.{Core, entered, with_nodes}
 use Rattle.search_workers.specs.Searched.{IsOfSearch, CoreGoesOn, IsOfNewest, IsSearchEvent}
-use Rattle.search_workers.specs.Walks.{IsBeside}
+use Rattle.near_plans.specs.Plans.{IsBeside}
 
 -- ---- one step after the other
 

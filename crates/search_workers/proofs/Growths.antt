@@ -1,7 +1,6 @@
 -- What a dive, or a leaf alone, makes of a leaf.
 use Rattle.std.proofs.Common.{◌≡◌, ◌∙◌, ℕ, ◌≤◌, List, [], ◌∷◌, Option, Some, None, get_or, sym, ap, subst, arith}
-use Rattle.std.specs.Prelude.{All, Contains}
-use Rattle.std.proofs.lemmas.List.Elements.{All-contains_itself, All-weaker}
+use Rattle.std.specs.Prelude.{All}
 use Rattle.std.proofs.lemmas.Option.{none-some, same_Some}
 use Rattle.disp_model.specs.declared.plan.Event.{Event}
 use Rattle.disp_model.specs.declared.problem.Problem.{Problem}
@@ -11,7 +10,6 @@ use Rattle.disp_model.specs.declared.tree.TreeNode.TheVariants.{Leaf}
 use Rattle.disp_model.specs.WellFormed.{horizon}
 use Rattle.disp_model.specs.Node.{Node}
 use Rattle.disp_model.specs.Shares.{IsBound}
-use Rattle.disp_laws.proofs.HorizonBounds.{AreSmall, edition_is_small, within_horizon}
 use Rattle.event_graph.specs.Joined.{IsOfEdition}
 use Rattle.node_leaves.specs.declared.leaf.NodeLeaf.TheVariants.{Dead}
 use Rattle.node_leaves.specs.Shown.{IsDeadLeaf}
@@ -23,21 +21,15 @@ use Rattle.tree_dives.proofs.Growing.{keeps, leaf_alone}
 use Rattle.dispatch_core.specs.States.{IsExamined}
 use Rattle.search_workers.specs.declared.growth.Growth.{Growth}
 use Rattle.search_workers.specs.declared.growth.Growth.TheVariants as growth
-use Rattle.search_workers.specs.Grown.{IsPlanAt, IsGrownOf}
+use Rattle.near_plans.specs.Plans.{IsPlanAt}
+use Rattle.near_plans.proofs.Finding.{earliest_within, small_beside}
+use Rattle.search_workers.specs.Grown.{IsGrownOf}
 
--- each event of the earliest plan starts at a longest walk, which is within the horizon
+-- the plan starts nothing past the horizon
 plan_within : (node : Node) (best : Option ℕ) (bounds : List ℕ) (plan : List Event) → IsOfEdition node → EndsInPlan node best bounds plan → All (λ e. e.time ≤ horizon node.problem.trains) plan
-plan_within node best bounds plan (changes, edition, standing) ends =
-    All-weaker (Contains plan) (λ (e : Event). e.time ≤ horizon node.problem.trains) within plan (All-contains_itself plan)
-  where
-    small : AreSmall ends.here.fixings
-    small = subst AreSmall (sym (ends.below.fixings ∙ standing)) (edition_is_small node.problem changes edition)
-
-    within : (e : Event) → Contains plan e → e.time ≤ horizon node.problem.trains
-    within e there =
-        let reached = (ends.earliest.none_else e there).1.reached in
-        subst (λ (p : Problem). e.time ≤ horizon p.trains) ends.below.problem
-        (within_horizon ends.here reached.0 e.time small ends.earliest.no_cycle reached.3)
+plan_within node best bounds plan edition ends =
+    subst (λ (p : Problem). All (λ e. e.time ≤ horizon p.trains) plan) ends.below.problem
+    (earliest_within ends.here plan (small_beside node ends.here edition ends.below.fixings) ends.earliest)
 
 -- a leaf that shows that the node is dead
 pub alone_grows : (rule : Rule) (node : Node) (best : Option ℕ) (allowance bound : ℕ) (leaf : TreeLeaf) → IsDeadLeaf node leaf

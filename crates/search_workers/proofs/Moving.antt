@@ -10,7 +10,6 @@ use Rattle.deeper_nodes.proofs.Tighter.{more_decided}
 use Rattle.deeper_nodes.proofs.Dying.{dead_stays}
 use Rattle.deeper_nodes.proofs.Staying.{leaf_stays}
 use Rattle.node_leaves.specs.Shown.{IsDeadLeaf}
-use Rattle.search_workers.specs.Walks.{IsBeside}
 
 -- a leaf that shows that a node is dead shows it of the nodes below
 pub dead_below : (problem : Problem) (fixings : List Fixing) (decisions more : List Decision) (leaf : TreeLeaf) → IsDeadLeaf (node_at problem fixings decisions) leaf → IsDeadLeaf (node_at problem fixings (decisions ++ more)) leaf
@@ -21,12 +20,6 @@ dead_below problem fixings decisions more leaf is =
       holds = λ verdict. leaf_stays (node_at problem fixings decisions) fixings (decisions ++ more) verdict leaf tighter (is.holds verdict);
       fits = is.fits;
     }
-
-pub beside_beside : (one two three : Node) → IsBeside one two → IsBeside two three → IsBeside one three
-beside_beside one two three first second = record { problem = second.problem ∙ first.problem; fixings = second.fixings ∙ first.fixings }
-
-pub beside_at : (before after : Node) (decisions : List Decision) → after ≡ node_at before.problem before.fixings decisions → IsBeside before after
-beside_at before after decisions is = record { problem = ap (λ (n : Node). n.problem) is; fixings = ap (λ (n : Node). n.fixings) is }
 
 -- where the graph stands at the first so many of the decisions
 module _ (problem : Problem) (fixings : List Fixing) (decisions : List Decision) (k : ℕ) (d : Decision) (lt : k < length decisions) (graph : Node) (at : graph ≡ node_at problem fixings (take k decisions)) where

@@ -1,19 +1,13 @@
 -- What a searcher makes of a work.
-use Rattle.std.specs.Prelude.{◌≡◌, ℕ, ◌≤◌, List, [], ◌∷◌, All, Option, Some}
+use Rattle.std.specs.Prelude.{◌≡◌, ℕ, ◌≤◌, List, [], ◌∷◌, Option, Some}
 use Rattle.disp_model.specs.declared.plan.Event.{Event}
 use Rattle.disp_model.specs.declared.settings.Rule.{Rule}
-use Rattle.disp_model.specs.WellFormed.{horizon}
 use Rattle.disp_model.specs.Node.{Node}
-use Rattle.disp_model.specs.Valid.{IsValid}
+use Rattle.near_plans.specs.Plans.{IsPlanAt}
 use Rattle.tree_growth.specs.Grown.{GrowsBelow, branches}
 use Rattle.dispatch_core.specs.States.{IsExamined}
 use Rattle.search_workers.specs.declared.growth.Growth.{Growth}
 use Rattle.search_workers.specs.declared.growth.Growth.TheVariants as growth
-
--- the plan is valid at the node, and starts nothing past the horizon
-pub record IsPlanAt (node : Node) (plan : List Event) : Type 0 where
-  pub valid : IsValid node.problem node.fixings plan
-  pub within : All (λ e. e.time ≤ horizon node.problem.trains) plan
 
 -- a subtree for the node by no more branches than were allowed, with a plan that is valid there if
 -- one was found; or the node is examined, and this is its bound

@@ -4,11 +4,6 @@ use Rattle.disp_model.specs.declared.tree.Leaf.{Leaf as TreeLeaf}
 use Rattle.disp_model.specs.Node.{Node}
 use Rattle.node_leaves.specs.Shown.{IsDeadLeaf}
 
--- a node of the same problem under the same fixings
-pub record IsBeside (before after : Node) : Type 0 where
-  pub problem : after.problem ≡ before.problem
-  pub fixings : after.fixings ≡ before.fixings
-
 -- the graph is at the node, or a leaf shows that the node is dead
 abbrev pub Arrives : Node → Node → Option TreeLeaf → Type 0
 Arrives node graph None = graph ≡ node

@@ -8,7 +8,7 @@ ghost use Rattle.share_bound.specs.Known.{HoldFor};
 ghost use Rattle.tree_dives.specs.Dives.{IsDive};
 ghost use Rattle.search_workers.specs.declared.growth.Growth.TheVariants.{Subtree};
 ghost use Rattle.search_workers.specs.Grown.{IsGrownOf};
-ghost use Rattle.search_workers.specs.Walks.{IsBeside};
+ghost use Rattle.near_plans.specs.Plans.{IsBeside};
 
 use crate::walk::go_to;
 use disp_model::{Leaf, List, Memory, Plan, Problem, TreeNode};

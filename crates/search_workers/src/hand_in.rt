@@ -59,7 +59,7 @@ fn put_in(alloc: Global, core: &mut Core, fragment: Fragment) -> Result<(), Memo
 }
 
 /// Publishes a plan for the newest edition, where one was found.
-fn publish(alloc: Global, core: &mut Core, plan: Option<Plan>) -> Result<(), Memory>
+pub(crate) fn publish(alloc: Global, core: &mut Core, plan: Option<Plan>) -> Result<(), Memory>
     requires { (found : List Event) → plan ≡ Some found
         → All (λ e. e.time ≤ horizon core.old.problem.trains) found }
     ensures { CoreGoesOn core.old core.new }

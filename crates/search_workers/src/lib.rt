@@ -4,6 +4,7 @@
 //! stopped.
 #![tactic(auto)]
 
+mod ahead;
 mod effort;
 mod growth;
 mod hand_in;
@@ -11,6 +12,7 @@ mod search;
 mod turn;
 mod walk;
 
+pub use ahead::{Foresight, Guided, guide_ahead};
 pub use effort::{Effort, FOR_BOUND, FOR_PLAN};
 pub use growth::{Growth, grow, leaf_alone, target_after};
 pub use search::search_alone;

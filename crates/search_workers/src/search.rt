@@ -2,26 +2,25 @@ ghost use Rattle.std.specs.Prelude.{◌≡◌, [], ◌∷◌, IfOk, OnOk, None, 
 ghost use Rattle.disp_model.specs.declared.tree.TreeNode.TheVariants.{Leaf as LeafNode};
 ghost use Rattle.disp_model.specs.History.{edition_of};
 ghost use Rattle.disp_model.specs.Node.{node_at};
-ghost use Rattle.event_graph.specs.Joined.{IsOfEdition};
 ghost use Rattle.node_leaves.specs.Reckoned.{ReckonsFor};
 ghost use Rattle.node_leaves.specs.Shown.{IsDeadLeaf};
 ghost use Rattle.share_bound.specs.Known.{HoldFor};
 ghost use Rattle.search_workers.specs.declared.growth.Growth.TheVariants.{Subtree};
 ghost use Rattle.search_workers.specs.Searched.{CoreGoesOn, IsClosed, IsOfNewest};
 
+use crate::ahead::{Foresight, Guided, guide_ahead};
 use crate::effort::{Effort, FOR_PLAN};
 use crate::growth::{Growth, grow, leaf_alone, target_after};
-use crate::hand_in::hand_in;
-use crate::turn::{Turn, next_turn};
+use crate::hand_in::{hand_in, publish};
+use crate::turn::{SEARCHER, Turn, next_turn};
 use crate::walk::refused_leaf;
-use disp_model::{Copied, Fixing, Leaf, Memory, Problem, Rule};
+use disp_model::{Copied, Fixing, Leaf, Memory, Problem, Rule, Settings};
 use dispatch_core::Core;
 use event_graph::Graph;
 use node_leaves::Reckoning;
 use share_bound::KnownShares;
 use std::alloc::Global;
-use train_insertion::{INSERTIONS, target};
-use tree_dives::{EFFORT, Guide};
+use tree_dives::Guide;
 
 /// A copy of a leaf, with the bound 0.
 fn copy_alone(alloc: Global, leaf: &Leaf) -> Result<Growth, Memory>
@@ -155,20 +154,35 @@ fn reckon(alloc: Global, problem: &Problem, rule: Rule) -> Result<Reckoning, Mem
     Reckoning::new(alloc, problem, rule)
 }
 
-/// A guide along the target of a problem under fixings.
-fn guide_to(alloc: Global, problem: &Problem, fixings: &[Fixing]) -> Result<Guide, Memory>
-    requires edition { IsOfEdition (node_at problem.now fixings.now []) }
+/// Searches from the root of the newest edition, at which a graph is: publishes the plan that a look
+/// ahead finds, and then goes by rounds.
+fn search_from(
+    alloc: Global,
+    problem: &Problem,
+    settings: Settings,
+    core: &mut Core,
+    graph: &mut Graph,
+    fixings: &[Fixing],
+) -> Result<(), Memory>
+    requires problem { core.old.problem ≡ problem.now }
+    requires settings { core.old.settings ≡ settings }
+    requires newest { IsOfNewest core.old graph.old }
+    requires root { graph.old.decisions ≡ [] }
+    ensures on { CoreGoesOn core.old core.new }
+    ensures closed { OnOk result (IsClosed core.new) }
 {
+    let reckoning = reckon(alloc, problem, settings.rule)?;
+    let foresight = Foresight::of(SEARCHER, 1, settings.budget);
     let mut order = Vec::new(alloc);
-    let target = target(alloc, problem, fixings, INSERTIONS, &mut order)?;
-    let mut guide = Guide::new(alloc, problem, target)?;
-    guide.look_ahead(alloc, problem, fixings, EFFORT)?;
-    Ok(guide)
+    let ahead = guide_ahead(alloc, problem, fixings, graph, foresight, &mut order)?;
+    let Guided { mut guide, plan } = ahead;
+    publish(alloc, core, plan)?;
+    rounds(alloc, problem, &reckoning, core, graph, &mut guide)
 }
 
 /// Searches the newest edition of a core on one thread until it is settled or stopped. The problem
-/// is the core's, and so is the rule by which it branches. It goes down along a target, which is
-/// the best plan once one is found.
+/// and the settings are the core's. It looks ahead for a plan, which it publishes, and then goes
+/// down along that or, once one is found, the best plan.
 ///
 /// # Errors
 ///
@@ -177,20 +191,19 @@ fn guide_to(alloc: Global, problem: &Problem, fixings: &[Fixing]) -> Result<Guid
 pub fn search_alone(
     alloc: Global,
     problem: &Problem,
-    rule: Rule,
+    settings: Settings,
     core: &mut Core,
 ) -> Result<(), Memory>
     requires problem { core.old.problem ≡ problem.now }
-    requires rule { core.old.settings.rule ≡ rule }
+    requires settings { core.old.settings ≡ settings }
     ensures goes_on { CoreGoesOn core.old core.new }
     ensures closed { OnOk result (IsClosed core.new) }
 {
     let _edition = core.edition();
     let fixings = core.fixings(alloc)?;
-    let reckoning = reckon(alloc, problem, rule)?;
-    let mut guide = guide_to(alloc, problem, fixings.as_slice())?;
-    match Graph::new(alloc, problem, fixings.as_slice()) {
-        Ok(mut graph) => rounds(alloc, problem, &reckoning, core, &mut graph, &mut guide),
+    let fixings = fixings.as_slice();
+    match Graph::new(alloc, problem, fixings) {
+        Ok(mut graph) => search_from(alloc, problem, settings, core, &mut graph, fixings),
         Err(no) => rounds_of_dead(alloc, core, &refused_leaf(no)?),
     }
 }

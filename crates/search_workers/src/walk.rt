@@ -3,7 +3,8 @@ ghost use Rattle.disp_model.specs.Node.{Node, node_at, with_decision};
 ghost use Rattle.event_graph.specs.Kept.{IsRefusedAt};
 ghost use Rattle.node_leaves.specs.Shown.{IsDeadLeaf};
 ghost use Rattle.share_bound.specs.Known.{HoldFor};
-ghost use Rattle.search_workers.specs.Walks.{Arrives, IsBeside};
+ghost use Rattle.near_plans.specs.Plans.{IsBeside};
+ghost use Rattle.search_workers.specs.Walks.{Arrives};
 
 use disp_model::{Decision, Leaf, Memory};
 use event_graph::{ExtendNo, Graph};

@@ -10,6 +10,13 @@ impl Draw {
         Draw { state: 1 }
     }
 
+    /// The first of the numbers that are drawn under a number, 0 for those of `new`.
+    pub fn numbered(number: u32) -> Draw {
+        Draw {
+            state: u64::from(number).saturating_add(1),
+        }
+    }
+
     /// The next number, below a count; 0 where the count is 0.
     pub fn below(&mut self, count: usize) -> usize {
         self.state = self

@@ -13,14 +13,13 @@ mod given;
 mod grown;
 mod guide;
 mod leaves;
-mod neighbours;
-mod outlook;
 mod prefer;
 mod rewinding;
 mod stage;
 
 pub use diving::dive;
 pub use given::Dive;
-pub use guide::{EFFORT, Guide};
+pub use guide::Guide;
+pub use prefer::preferred;
 pub use rewinding::{rewind, rewind_knowing};
 pub use stage::End;

@@ -69,7 +69,7 @@ fn cheapest(problem: &Problem, graph: &mut Graph, children: &[Decision]) -> usiz
 
 /// The place of the child that a target takes. Where it takes none, that of the child that costs
 /// least among those that are not dead, the first one of several, or 0. The graph is as before.
-pub(crate) fn preferred(
+pub fn preferred(
     problem: &Problem,
     graph: &mut Graph,
     target: &Target,

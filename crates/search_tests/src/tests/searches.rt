@@ -39,7 +39,7 @@ fn shown_all(alloc: Global, entries: &[Entry]) -> Result<String, Memory> {
 fn searched(rt: &impl Abort, alloc: Global, problem: &Problem, rule: Rule, budget: u32) -> Core {
     let settings = Settings { budget, rule };
     let mut core = Core::new(alloc, problem, settings, 1, 1).expect(rt, "a core");
-    search_alone(alloc, problem, rule, &mut core).expect(rt, "a search");
+    search_alone(alloc, problem, settings, &mut core).expect(rt, "a search");
     core
 }
 
@@ -51,7 +51,7 @@ fn check(rt: &impl Abort, alloc: Global, problem: &Problem, rule: Rule, budget: 
 }
 
 fn check_fork(rt: &impl Abort, alloc: Global, problem: &Problem) {
-    let found = "grown 1\npublished 5\noptimal 5\n";
+    let found = "published 5\ngrown 1\noptimal 5\n";
     check(rt, alloc, problem, Rule::Fixed, 0, "grown 0\nstopped 0 3\n");
     check(rt, alloc, problem, Rule::Fixed, 1, found);
     check(rt, alloc, problem, Rule::Free, 0, "grown 0\nstopped 0 3\n");

@@ -1,27 +1,25 @@
-use Rattle.std.proofs.Common.{◌∙◌, []}
+use Rattle.std.proofs.Common.{◌≡◌, ◌∙◌, [], ap}
 use Rattle.std.proofs.lemmas.Result.{IfOk-at_ok}
-use Rattle.disp_model.specs.Node.{node_at}
+use Rattle.disp_model.specs.Node.{Node, node_at}
 use Rattle.node_leaves.specs.Shown.{IsDeadLeaf}
 use Rattle.search_workers.proofs.Rooted.{root_edition, graph_newest, dead_root}
 use Rattle.search_workers.proofs.search.search_alone.Goals as goal
 
-pub guide_to-requires : goal.guide_to-requires
-guide_to-requires c = record {
-  edition = root_edition c.args.core.now c.edition-edition.ensures.sound c.args.problem.now c.requires.problem c.as_slice.result.now (c.as_slice.ensures.value ∙ c.in_ok-fixings.ensures);
-}
-
 pub new-requires : goal.new-requires
 new-requires c = record {
-  edition = root_edition c.args.core.now c.edition-edition.ensures.sound c.args.problem.now c.requires.problem c.as_slice-2.result.now (c.as_slice-2.ensures.value ∙ c.in_ok-fixings.ensures);
+  edition = root_edition c.args.core.now c.edition-edition.ensures.sound c.args.problem.now c.requires.problem c.as_slice-fixings.result.now (c.as_slice-fixings.ensures.value ∙ c.in_ok-fixings.ensures);
 }
 
-pub rounds-requires-clause-newest : goal.rounds-requires-clause-newest
-rounds-requires-clause-newest c =
-    graph_newest c.args.core.now c.edition-edition.ensures.sound c.args.problem.now c.requires.problem c.as_slice-2.result.now (c.as_slice-2.ensures.value ∙ c.in_ok-fixings.ensures) c.in-Ok.graph c.in-Ok.ensures.ok
+pub search_from-requires-clause-newest : goal.search_from-requires-clause-newest
+search_from-requires-clause-newest c =
+    graph_newest c.args.core.now c.edition-edition.ensures.sound c.args.problem.now c.requires.problem c.as_slice-fixings.result.now (c.as_slice-fixings.ensures.value ∙ c.in_ok-fixings.ensures) c.in-Ok.graph c.in-Ok.ensures.ok
+
+pub search_from-requires-clause-root : goal.search_from-requires-clause-root
+search_from-requires-clause-root c = ap (λ (n : Node). n.decisions) c.in-Ok.ensures.ok
 
 pub rounds_of_dead-requires : goal.rounds_of_dead-requires
 rounds_of_dead-requires c =
-    let root = node_at c.args.problem.now c.as_slice-2.result.now [] in
+    let root = node_at c.args.problem.now c.as_slice-fixings.result.now [] in
     let leaf = c.in_ok-refused_leaf-in-Err.field-0 in
     let dead : IsDeadLeaf root leaf = IfOk-at_ok (IsDeadLeaf root) c.in_ok-refused_leaf-in-Err.was (c.refused_leaf.ensures root c.in-Err.ensures.refused) in
-    record { dead = dead_root c.args.core.now c.edition-edition.ensures.sound c.args.problem.now c.requires.problem c.as_slice-2.result.now (c.as_slice-2.ensures.value ∙ c.in_ok-fixings.ensures) leaf dead }
+    record { dead = dead_root c.args.core.now c.edition-edition.ensures.sound c.args.problem.now c.requires.problem c.as_slice-fixings.result.now (c.as_slice-fixings.ensures.value ∙ c.in_ok-fixings.ensures) leaf dead }

@@ -1,7 +1,9 @@
-ghost use Rattle.std.specs.Prelude.{◌≡◌};
+ghost use Rattle.std.specs.Prelude.{◌≡◌, None as NoPlan, IfOk, IfSome};
+ghost use Rattle.disp_model.specs.declared.settings.Rule.TheVariants.{Free};
+ghost use Rattle.disp_model.specs.Node.{Node};
+ghost use Rattle.free_choices.specs.Picks.{IsPickBy};
+ghost use Rattle.near_plans.specs.Plans.{IsBeside, IsFoundBeside};
 
-use crate::prefer::preferred;
-use crate::rewinding::rewind;
 use branch_rules::{Pick, children};
 use cost_bound::cost;
 use disp_model::{Choice, Decision, Memory, Plan, Problem};
@@ -9,18 +11,45 @@ use event_graph::{ExtendNo, Graph};
 use free_choices::{Adviser, Strategy, pick_free};
 use std::alloc::Global;
 use train_insertion::Target;
+use tree_dives::{preferred, rewind};
+
+/// By what is gone down: the target that is followed, and what the choices are taken by.
+#[derive(Clone, Copy)]
+pub(crate) struct Aim<'a> {
+    pub problem: &'a Problem,
+    pub target: &'a Target,
+    pub strategy: Strategy,
+}
 
 /// What is looked for below a node.
 #[derive(Clone, Copy)]
 pub(crate) struct Wanted {
-    /// By what the choices are taken.
-    pub strategy: Strategy,
     /// What plans are to cost less than.
-    pub below: u64,
+    below: u64,
     /// At how many nodes is looked at most.
-    pub nodes: u32,
+    nodes: u32,
     /// Whether one plan is enough.
-    pub one: bool,
+    one: bool,
+}
+
+impl Wanted {
+    /// Any plan, in so many nodes.
+    pub(crate) fn any(nodes: u32) -> Wanted {
+        Wanted {
+            below: u64::MAX,
+            nodes,
+            one: true,
+        }
+    }
+
+    /// The cheapest plan that is found in so many nodes, if it costs less than this.
+    pub(crate) fn cheaper(below: u64, nodes: u32) -> Wanted {
+        Wanted {
+            below,
+            nodes,
+            one: false,
+        }
+    }
 }
 
 /// A decision that is to be looked at, below so many others.
@@ -46,7 +75,7 @@ pub(crate) struct Outlook {
 
 /// Moves a graph to a decision below so many of those where it is. Says whether it is not refused.
 fn go_to(graph: &mut Graph, waiting: Waiting) -> Result<bool, Memory>
-    ensures { graph.new.problem ≡ graph.old.problem }
+    ensures { IsBeside graph.old graph.new }
 {
     let depth = waiting.depth.min(graph.decisions().len());
     rewind(graph, depth);
@@ -61,23 +90,23 @@ fn go_to(graph: &mut Graph, waiting: Waiting) -> Result<bool, Memory>
 /// graph is as before.
 fn picked(
     alloc: Global,
-    problem: &Problem,
+    aim: Aim,
     graph: &mut Graph,
     adviser: &mut Adviser,
-    strategy: Strategy,
     below: u64,
 ) -> Result<Option<Pick>, Memory>
-    requires { graph.old.problem ≡ problem.now }
-    ensures { graph.new ≡ graph.old }
+    requires { graph.old.problem ≡ aim.problem.now }
+    ensures same { graph.new ≡ graph.old }
+    ensures picked { IfOk result (λ found. IfSome found (IsPickBy Free graph.old)) }
 {
     let None = graph.late() else {
         return Ok(None);
     };
-    if cost(problem, graph) >= below {
+    if cost(aim.problem, graph) >= below {
         return Ok(None);
     }
     adviser.lose();
-    let pick = pick_free(alloc, problem, graph, adviser, strategy)?;
+    let pick = pick_free(alloc, aim.problem, graph, adviser, aim.strategy)?;
     Ok(Some(pick))
 }
 
@@ -109,23 +138,24 @@ fn put_all(
 /// before.
 fn put_children(
     alloc: Global,
-    problem: &Problem,
+    aim: Aim,
     graph: &mut Graph,
-    target: &Target,
     choice: Choice,
     waiting: &mut Vec<Waiting>,
 ) -> Result<(), Memory>
-    requires { graph.old.problem ≡ problem.now }
+    requires { graph.old.problem ≡ aim.problem.now }
     ensures { graph.new ≡ graph.old }
 {
-    let children = children(alloc, problem, choice)?;
-    let first = preferred(problem, graph, target, children.as_slice());
+    let children = children(alloc, aim.problem, choice)?;
+    let first = preferred(aim.problem, graph, aim.target, children.as_slice());
     put_all(waiting, graph.decisions().len(), children.as_slice(), first)
 }
 
 impl Outlook {
     /// Nothing looked at yet, for plans that cost less than this.
-    fn new(alloc: Global, below: u64) -> Outlook {
+    fn new(alloc: Global, below: u64) -> Outlook
+        ensures { result.plan ≡ NoPlan }
+    {
         Outlook {
             waiting: Vec::new(alloc),
             plan: None,
@@ -140,25 +170,25 @@ impl Outlook {
     fn see(
         &mut self,
         alloc: Global,
-        problem: &Problem,
+        aim: Aim,
         graph: &mut Graph,
         adviser: &mut Adviser,
-        target: &Target,
-        strategy: Strategy,
     ) -> Result<(), Memory>
-        requires { graph.old.problem ≡ problem.now }
-        ensures { graph.new ≡ graph.old }
+        requires { graph.old.problem ≡ aim.problem.now }
+        ensures same { graph.new ≡ graph.old }
+        ensures plan { (root : Node) → IsBeside root graph.old
+            → IfSome self.old.plan (IsFoundBeside root) → IfSome self.new.plan (IsFoundBeside root) }
     {
         self.nodes = self.nodes.saturating_add(1);
-        match picked(alloc, problem, graph, adviser, strategy, self.below)? {
+        match picked(alloc, aim, graph, adviser, self.below)? {
             None => Ok(()),
             Some(Pick::Plan(plan)) => {
-                self.below = cost(problem, graph);
+                self.below = cost(aim.problem, graph);
                 self.plan = Some(plan);
                 Ok(())
             }
             Some(Pick::Choice(choice)) => {
-                put_children(alloc, problem, graph, target, choice, &mut self.waiting)
+                put_children(alloc, aim, graph, choice, &mut self.waiting)
             }
         }
     }
@@ -167,24 +197,26 @@ impl Outlook {
     fn step(
         &mut self,
         alloc: Global,
-        problem: &Problem,
+        aim: Aim,
         graph: &mut Graph,
         adviser: &mut Adviser,
-        target: &Target,
-        strategy: Strategy,
         next: Waiting,
     ) -> Result<(), Memory>
-        requires { graph.old.problem ≡ problem.now }
-        ensures { graph.new.problem ≡ graph.old.problem }
+        requires { graph.old.problem ≡ aim.problem.now }
+        ensures beside { IsBeside graph.old graph.new }
+        ensures plan { (root : Node) → IsBeside root graph.old
+            → IfSome self.old.plan (IsFoundBeside root) → IfSome self.new.plan (IsFoundBeside root) }
     {
         if !go_to(graph, next)? {
             return Ok(());
         }
-        self.see(alloc, problem, graph, adviser, target, strategy)
+        self.see(alloc, aim, graph, adviser)
     }
 
     /// The decision to look at next, where something is still wanted.
-    fn next(&mut self, one: bool) -> Option<Waiting> {
+    fn next(&mut self, one: bool) -> Option<Waiting>
+        ensures { self.new.plan ≡ self.old.plan }
+    {
         if one && self.plan.is_some() {
             return None;
         }
@@ -194,27 +226,26 @@ impl Outlook {
     }
 }
 
-/// Looks at the nodes below that of a graph in depth, along a target. It is advice: nothing is
-/// claimed of what it comes to.
+/// Looks at the nodes below that of a graph in depth. A plan that it comes to is valid where the
+/// graph was; nothing is claimed of how good it is.
 pub(crate) fn look_below(
     alloc: Global,
-    problem: &Problem,
+    aim: Aim,
     graph: &mut Graph,
     adviser: &mut Adviser,
-    target: &Target,
     wanted: Wanted,
 ) -> Result<Outlook, Memory>
-    requires { graph.old.problem ≡ problem.now }
-    ensures { graph.new.problem ≡ graph.old.problem }
+    requires { graph.old.problem ≡ aim.problem.now }
+    ensures beside { IsBeside graph.old graph.new }
+    ensures plan { IfOk result (λ outlook. IfSome outlook.plan (IsFoundBeside graph.old)) }
 {
-    let strategy = wanted.strategy;
     let mut outlook = Outlook::new(alloc, wanted.below);
-    outlook.see(alloc, problem, graph, adviser, target, strategy)?;
+    outlook.see(alloc, aim, graph, adviser)?;
     for _ in 1..wanted.nodes {
         let Some(next) = outlook.next(wanted.one) else {
             return Ok(outlook);
         };
-        outlook.step(alloc, problem, graph, adviser, target, strategy, next)?;
+        outlook.step(alloc, aim, graph, adviser, next)?;
     }
     Ok(outlook)
 }

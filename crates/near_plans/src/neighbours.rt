@@ -1,7 +1,8 @@
-ghost use Rattle.std.specs.Prelude.{◌≡◌};
+ghost use Rattle.std.specs.Prelude.{◌≡◌, IfOk, IfSome};
+ghost use Rattle.disp_model.specs.Node.{Node};
+ghost use Rattle.near_plans.specs.Plans.{IsBeside, IsFoundBeside};
 
-use crate::outlook::{Outlook, Wanted, look_below};
-use crate::rewinding::rewind;
+use crate::outlook::{Aim, Outlook, Wanted, look_below};
 use choice_advice::listings_of;
 use cost_bound::cost;
 use disp_model::{Decision, Event, Memory, Op, Plan, Problem};
@@ -9,6 +10,7 @@ use event_graph::{ExtendNo, Graph};
 use free_choices::{Adviser, Strategy};
 use std::alloc::Global;
 use train_insertion::{Draw, Target};
+use tree_dives::rewind;
 
 /// How many trains are taken out of a plan at first,
 const FEWEST_OUT: usize = 3;
@@ -25,9 +27,6 @@ const ROUNDS_IN_VAIN: usize = 192;
 /// Of so many trains that are drawn beside the first all but one are near it, by and large.
 const NEAR: usize = 8;
 
-/// At how many nodes is looked at most for a first plan.
-const FIRST_NODES: u32 = 4096;
-
 /// At how many nodes is looked at most in a round.
 const ROUND_NODES: u32 = 200;
 
@@ -36,10 +35,28 @@ const TAKEN_FOR_ONE: usize = 16;
 
 /// A plan, what it costs, and the target that it is.
 #[derive(Drop)]
-struct Base {
-    plan: Plan,
+pub(crate) struct Base {
+    pub plan: Plan,
     cost: u64,
     target: Target,
+}
+
+impl Base {
+    /// A plan that costs so much.
+    pub(crate) fn of(
+        alloc: Global,
+        problem: &Problem,
+        plan: Plan,
+        cost: u64,
+    ) -> Result<Base, Memory>
+        ensures { IfOk result (λ base. base.plan ≡ plan) }
+    {
+        Ok(Base {
+            target: Target::of_plan(alloc, problem, plan.as_slice())?,
+            cost,
+            plan,
+        })
+    }
 }
 
 /// The operation that starts at an event.
@@ -130,7 +147,7 @@ fn drawn_trains(
 
 /// Adds a decision, where it is not refused.
 fn add(graph: &mut Graph, decision: Decision) -> Result<(), Memory>
-    ensures { graph.new.problem ≡ graph.old.problem }
+    ensures { IsBeside graph.old graph.new }
 {
     match graph.extend(decision) {
         Err(ExtendNo::Memory) => Err(Memory),
@@ -152,7 +169,7 @@ fn parts_at(problem: &Problem, graph: &Graph, op: Op) -> bool
 /// Has a train go on from an operation as a target does.
 fn take_route(problem: &Problem, graph: &mut Graph, target: &Target, op: Op) -> Result<(), Memory>
     requires { graph.old.problem ≡ problem.now }
-    ensures { graph.new.problem ≡ graph.old.problem }
+    ensures { IsBeside graph.old graph.new }
 {
     if !parts_at(problem, graph, op) {
         return Ok(());
@@ -166,7 +183,7 @@ fn take_route(problem: &Problem, graph: &mut Graph, target: &Target, op: Op) -> 
 /// Has trains take the routes of a plan, but for those that are out.
 fn take_routes(problem: &Problem, graph: &mut Graph, base: &Base, out: &[u32]) -> Result<(), Memory>
     requires { graph.old.problem ≡ problem.now }
-    ensures { graph.new.problem ≡ graph.old.problem }
+    ensures { IsBeside graph.old graph.new }
 {
     for event in base.plan.as_slice() {
         if !is_among(out, event.train) {
@@ -178,7 +195,7 @@ fn take_routes(problem: &Problem, graph: &mut Graph, base: &Base, out: &[u32]) -
 
 /// Has an operation come after the one that held a resource last, and hold it.
 fn take_order(graph: &mut Graph, last: &mut Option<Op>, op: Op) -> Result<(), Memory>
-    ensures { graph.new.problem ≡ graph.old.problem }
+    ensures { IsBeside graph.old graph.new }
 {
     let before = *last;
     *last = Some(op);
@@ -198,7 +215,7 @@ fn take_orders_of(
     last: &mut Vec<Option<Op>>,
     op: Op,
 ) -> Result<(), Memory>
-    ensures { graph.new.problem ≡ graph.old.problem }
+    ensures { IsBeside graph.old graph.new }
 {
     for listing in listings_of(problem, op) {
         if let Some(last) = last.get_mut(listing.resource as usize) {
@@ -216,7 +233,7 @@ fn take_orders(
     plan: &[Event],
     out: &[u32],
 ) -> Result<(), Memory>
-    ensures { graph.new.problem ≡ graph.old.problem }
+    ensures { IsBeside graph.old graph.new }
 {
     let mut last = vec![in alloc; None; problem.names.len()]?;
     for event in plan {
@@ -227,9 +244,71 @@ fn take_orders(
     Ok(())
 }
 
+/// Has all trains go on as in a plan, from the root, but for those that are out. Gives for how many
+/// nodes that counts.
+fn take_over(
+    alloc: Global,
+    problem: &Problem,
+    graph: &mut Graph,
+    base: &Base,
+    out: &[u32],
+) -> Result<u32, Memory>
+    requires { graph.old.problem ≡ problem.now }
+    ensures { IsBeside graph.old graph.new }
+{
+    rewind(graph, 0);
+    take_routes(problem, graph, base, out)?;
+    take_orders(alloc, problem, graph, base.plan.as_slice(), out)?;
+    Ok(u32::try_from(graph.decisions().len() / TAKEN_FOR_ONE).unwrap_or(u32::MAX))
+}
+
+/// Looks for the cheapest plan below the node of a graph, if it is cheaper than this one. It goes
+/// down to the child that costs least, since along the plan it would find that one again.
+fn look_for_cheaper(
+    alloc: Global,
+    problem: &Problem,
+    graph: &mut Graph,
+    adviser: &mut Adviser,
+    base: &Base,
+) -> Result<Outlook, Memory>
+    requires { graph.old.problem ≡ problem.now }
+    ensures beside { IsBeside graph.old graph.new }
+    ensures plan { IfOk result (λ outlook. IfSome outlook.plan (IsFoundBeside graph.old)) }
+{
+    let cheapest = Target::none(alloc);
+    let aim = Aim {
+        problem,
+        target: &cheapest,
+        strategy: Strategy::Toll,
+    };
+    let wanted = Wanted::cheaper(base.cost, ROUND_NODES);
+    look_below(alloc, aim, graph, adviser, wanted)
+}
+
+impl Base {
+    /// Becomes the plan that was found, if one was. Gives how many nodes were looked at.
+    fn keep(&mut self, alloc: Global, problem: &Problem, outlook: Outlook) -> Result<u32, Memory>
+        ensures { (root : Node) → IfSome outlook.plan (IsFoundBeside root)
+            → IsFoundBeside root self.old.plan → IsFoundBeside root self.new.plan }
+    {
+        let Outlook {
+            plan,
+            below,
+            nodes,
+            ..
+        } = outlook;
+        match plan {
+            Some(plan) => {
+                *self = Base::of(alloc, problem, plan, below)?;
+                Ok(nodes)
+            }
+            None => Ok(nodes),
+        }
+    }
+}
+
 /// Takes some trains out of a plan, and keeps the cheapest plan that is found in which the others
-/// go on as they did, if it is cheaper. It goes down to the child that costs least, since along the
-/// plan it would find that one again. Gives how many nodes that took.
+/// go on as they did, if it is cheaper. Gives how many nodes that took.
 fn try_round(
     alloc: Global,
     problem: &Problem,
@@ -240,62 +319,15 @@ fn try_round(
     count: usize,
 ) -> Result<u32, Memory>
     requires { graph.old.problem ≡ problem.now }
-    ensures { graph.new.problem ≡ graph.old.problem }
+    ensures beside { IsBeside graph.old graph.new }
+    ensures plan { (root : Node) → IsBeside root graph.old → IsFoundBeside root base.old.plan
+        → IsFoundBeside root base.new.plan }
 {
-    rewind(graph, 0);
     let out = drawn_trains(alloc, problem, base.plan.as_slice(), draw, count)?;
-    take_routes(problem, graph, base, &out)?;
-    take_orders(alloc, problem, graph, base.plan.as_slice(), &out)?;
-    let taken = u32::try_from(graph.decisions().len() / TAKEN_FOR_ONE).unwrap_or(u32::MAX);
-    let wanted = Wanted {
-        strategy: Strategy::Toll,
-        below: base.cost,
-        nodes: ROUND_NODES,
-        one: false,
-    };
-    let cheapest = Target::none(alloc);
-    let outlook = look_below(alloc, problem, graph, adviser, &cheapest, wanted)?;
-    let Outlook {
-        plan,
-        below,
-        nodes,
-        ..
-    } = outlook;
-    if let Some(plan) = plan {
-        base.target = Target::of_plan(alloc, problem, plan.as_slice())?;
-        base.cost = below;
-        base.plan = plan;
-    }
+    let taken = take_over(alloc, problem, graph, base, &out)?;
+    let outlook = look_for_cheaper(alloc, problem, graph, adviser, base)?;
+    let nodes = base.keep(alloc, problem, outlook)?;
     Ok(nodes.saturating_add(taken))
-}
-
-/// The first plan that is found along a target.
-fn first_base(
-    alloc: Global,
-    problem: &Problem,
-    graph: &mut Graph,
-    adviser: &mut Adviser,
-    target: &Target,
-) -> Result<Option<Base>, Memory>
-    requires { graph.old.problem ≡ problem.now }
-    ensures { graph.new.problem ≡ graph.old.problem }
-{
-    let wanted = Wanted {
-        strategy: Strategy::Toll,
-        below: u64::MAX,
-        nodes: FIRST_NODES,
-        one: true,
-    };
-    let outlook = look_below(alloc, problem, graph, adviser, target, wanted)?;
-    let Outlook { plan, below, .. } = outlook;
-    let Some(plan) = plan else {
-        return Ok(None);
-    };
-    Ok(Some(Base {
-        target: Target::of_plan(alloc, problem, plan.as_slice())?,
-        cost: below,
-        plan,
-    }))
 }
 
 /// How many rounds were in vain, after one more.
@@ -310,32 +342,29 @@ fn count_out(rounds: usize) -> usize {
         .min(MOST_OUT)
 }
 
-/// The target that the best plan is which is found near that of a target, from the root of an
-/// edition on which the graph is, in so many nodes. In each round some trains are taken out of the
-/// best plan so far and the best way to put them in again is looked for, the others going on in
-/// their order. It is advice: nothing is claimed of how good it is.
-pub(crate) fn improved(
+/// The best plan that is found near one, in so many nodes, or the first one that costs no more than
+/// the floor.
+fn climbed(
     alloc: Global,
     problem: &Problem,
     graph: &mut Graph,
     adviser: &mut Adviser,
-    target: &Target,
-    effort: u32,
-) -> Result<Option<Target>, Memory>
-    requires { graph.old.problem ≡ problem.now }
-    ensures { graph.new.problem ≡ graph.old.problem }
+    mut base: Base,
+    floor: u64,
+    draws: u32,
+    nodes: u32,
+) -> Result<Base, Memory>
+    requires problem { graph.old.problem ≡ problem.now }
+    requires plan { IsFoundBeside graph.old base.plan }
+    ensures beside { IsBeside graph.old graph.new }
+    ensures plan { IfOk result (λ best. IsFoundBeside graph.old best.plan) }
 {
-    rewind(graph, 0);
-    let floor = cost(problem, graph);
-    let Some(mut base) = first_base(alloc, problem, graph, adviser, target)? else {
-        return Ok(None);
-    };
-    let mut draw = Draw::new();
+    let mut draw = Draw::numbered(draws);
     let mut spent = 0u32;
     let mut rounds = 0;
-    for _ in 0..effort {
-        if spent >= effort || rounds >= ROUNDS_IN_VAIN || base.cost <= floor {
-            return Ok(Some(base.target));
+    for _ in 0..nodes {
+        if spent >= nodes || rounds >= ROUNDS_IN_VAIN || base.cost <= floor {
+            return Ok(base);
         }
         let before = base.cost;
         let count = count_out(rounds);
@@ -343,5 +372,28 @@ pub(crate) fn improved(
         spent = spent.saturating_add(took);
         rounds = in_vain(rounds, base.cost < before);
     }
-    Ok(Some(base.target))
+    Ok(base)
+}
+
+/// The best plan that is found near one of the edition of a graph, in so many nodes, by the draws
+/// of a number. In each round some trains are taken out of the best plan so far and the best way to
+/// put them in again is looked for, the others going on in their order. Nothing is claimed of how
+/// good it is.
+pub(crate) fn improved(
+    alloc: Global,
+    problem: &Problem,
+    graph: &mut Graph,
+    adviser: &mut Adviser,
+    base: Base,
+    draws: u32,
+    nodes: u32,
+) -> Result<Base, Memory>
+    requires problem { graph.old.problem ≡ problem.now }
+    requires plan { IsFoundBeside graph.old base.plan }
+    ensures beside { IsBeside graph.old graph.new }
+    ensures plan { IfOk result (λ best. IsFoundBeside graph.old best.plan) }
+{
+    rewind(graph, 0);
+    let floor = cost(problem, graph);
+    climbed(alloc, problem, graph, adviser, base, floor, draws, nodes)
 }

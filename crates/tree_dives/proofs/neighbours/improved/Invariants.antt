@@ -1,5 +1,0 @@
-use Rattle.std.proofs.Common.{◌≡◌}
-use Rattle.tree_dives.proofs.neighbours.improved.Given as goal
-
-abbrev pub invariant-loop : goal.invariant-loop
-invariant-loop l = l.graph.problem ≡ l.initial.graph.problem
