@@ -1,3 +1,4 @@
+mod ahead;
 mod dives;
 mod leaves;
 mod script;
