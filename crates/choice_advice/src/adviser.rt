@@ -83,7 +83,7 @@ impl Adviser {
             spots: Spots::new(alloc, count, trains)?,
             holders: Holders::of(alloc, problem)?,
             layered,
-            found: Found::new(alloc, count, trains)?,
+            found: Found::new(alloc, count, trains, problem.names.len())?,
         })
     }
 
@@ -148,12 +148,10 @@ impl Adviser {
     /// are then to be looked at.
     fn look_at_holders(&mut self) -> Result<(), Memory> {
         for _ in 0..u64::MAX {
-            let Some(moved) = self.holders.look_at_next()? else {
+            let Some(moved) = self.holders.next_moved() else {
                 return Ok(());
             };
-            for holder in moved.holders {
-                self.found.note_moved(&moved, holder);
-            }
+            self.found.note_moved(&moved)?;
         }
         Ok(())
     }

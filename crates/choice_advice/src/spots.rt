@@ -73,6 +73,9 @@ pub(crate) struct Spots {
     stops: Vec<Vec<Stop>>,
     /// What was known of the operations of the train that was looked at last, in its order.
     before: Vec<Spot>,
+    /// How many looks there were at trains, and at which of them each train was looked at last.
+    turn: u64,
+    turns: Vec<u64>,
 }
 
 impl Spots {
@@ -84,16 +87,41 @@ impl Spots {
         }
         let mut forks = Vec::with_capacity(alloc, trains)?;
         let mut stops = Vec::with_capacity(alloc, trains)?;
+        let mut turns = Vec::with_capacity(alloc, trains)?;
         for _ in 0..trains {
             forks.push(None)?;
             stops.push(Vec::new(alloc))?;
+            turns.push(0)?;
         }
         Ok(Spots {
             each,
             forks,
             stops,
             before: Vec::new(alloc),
+            turn: 0,
+            turns,
         })
+    }
+
+    /// How many looks there were at trains.
+    pub(crate) fn turn(&self) -> u64 {
+        self.turn
+    }
+
+    /// Whether a train was not looked at again since a turn.
+    pub(crate) fn is_as_at(&self, train: u32, turn: u64) -> bool {
+        match self.turns.get(train as usize) {
+            Some(last) => *last <= turn,
+            None => true,
+        }
+    }
+
+    /// Notes that a train is looked at again.
+    fn take_turn(&mut self, train: u32) {
+        self.turn = self.turn.saturating_add(1);
+        if let Some(last) = self.turns.get_mut(train as usize) {
+            *last = self.turn;
+        }
     }
 
     /// What is known of an operation.
@@ -258,6 +286,7 @@ impl Spots {
     ) -> Result<(), Memory> {
         let first = facts.first(train);
         let order = routes.order();
+        self.take_turn(train);
         self.set_aside(order, first)?;
         let rows = routes.rows();
         if let Some(stops) = self.stops.get_mut(train as usize) {
