@@ -157,26 +157,26 @@ impl Clashes {
     }
 
     /// What the orders of two that meet weigh with all that they push.
-    fn pushed_weight(&mut self, view: View, meeting: &Meeting) -> Result<u64, Memory> {
+    fn pushed_weight(&mut self, view: View, meeting: &Meeting) -> u64 {
         let (one, other) = (meeting.one, meeting.other);
         let behind = view.spots.at(one).behind;
-        let there = self.pusher.toll(view, other, meeting.one_until, behind)?;
+        let there = self.pusher.toll(view, other, meeting.one_until, behind);
         let behind = view.spots.at(other).behind;
-        let back = self.pusher.toll(view, one, meeting.other_until, behind)?;
-        Ok(weight(there, back))
+        let back = self.pusher.toll(view, one, meeting.other_until, behind);
+        weight(there, back)
     }
 
     /// The one of those that are kept that comes first by all that its orders push.
-    fn first_pushed(&mut self, view: View) -> Result<Option<Clash>, Memory> {
+    fn first_pushed(&mut self, view: View) -> Option<Clash> {
         let mut found = None;
         for _ in 0..self.first.len() {
             let Some(clash) = self.first.pop() else {
-                return Ok(found);
+                return found;
             };
-            let weight = self.pushed_weight(view, &clash.meeting)?;
+            let weight = self.pushed_weight(view, &clash.meeting);
             found = first_of(found, Clash { weight, ..clash });
         }
-        Ok(found)
+        found
     }
 
     /// The clash that comes first.
@@ -193,7 +193,7 @@ impl Clashes {
             self.look_at(view, seeker, all.as_mut_slice())?;
         }
         if self.first.len() > 1 {
-            return self.first_pushed(view);
+            return Ok(self.first_pushed(view));
         }
         Ok(self.first.pop())
     }
