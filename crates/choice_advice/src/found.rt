@@ -55,6 +55,9 @@ impl Found {
     pub(crate) fn note_moved(&mut self, moved: &Moved) -> Result<(), Memory> {
         self.meetings.look_again(moved)?;
         for holder in moved.holders {
+            if holder.start >= moved.span.until {
+                return Ok(());
+            }
             self.note_holder(moved, holder);
         }
         Ok(())

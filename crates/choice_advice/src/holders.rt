@@ -26,8 +26,8 @@ impl Holder {
 /// A time in which holders of a resource were moved, from one beginning to one end.
 #[derive(Clone, Copy)]
 pub(crate) struct Span {
-    from: u64,
-    until: u64,
+    pub from: u64,
+    pub until: u64,
 }
 
 impl Span {

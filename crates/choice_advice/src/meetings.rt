@@ -1,4 +1,5 @@
-use crate::holders::{Holder, Moved};
+use crate::holders::{Holder, Moved, Span};
+use crate::spots::NEVER;
 use disp_model::Memory;
 use std::alloc::Global;
 
@@ -45,6 +46,8 @@ pub(crate) struct Met {
 #[derive(Drop)]
 pub(crate) struct Meetings {
     each: Vec<Vec<Met>>,
+    /// Those set aside that stay behind others that are looked at again.
+    behind: Vec<Met>,
 }
 
 impl Meeting {
@@ -91,17 +94,46 @@ fn meet(met: &mut Vec<Met>, one: &Holder, later: &[Holder]) -> Result<(), Memory
     Ok(())
 }
 
-/// Keeps how holders meet, in the order in which they start.
-fn meet_all(met: &mut Vec<Met>, holders: &[Holder]) -> Result<(), Memory> {
+/// Keeps how the first holders, up to those that start later than a time, meet later ones.
+fn meet_until(met: &mut Vec<Met>, holders: &[Holder], until: u64) -> Result<(), Memory> {
     let mut later = holders;
     for _ in holders {
         let Some((one, behind)) = later.split_first() else {
             return Ok(());
         };
+        if one.start > until || one.start == NEVER {
+            return Ok(());
+        }
         meet(met, one, behind)?;
         later = behind;
     }
     Ok(())
+}
+
+/// From when on it matters that forced holders have moved in a time: the start of the first holder
+/// that keeps others out then, or that time.
+fn first_start(holders: &[Holder], span: &Span) -> u64 {
+    for holder in holders {
+        if holder.start >= span.from {
+            return span.from;
+        }
+        if holder.forced && holder.until() >= span.from {
+            return holder.start;
+        }
+    }
+    span.from
+}
+
+/// The holders that start no earlier than a time.
+fn holders_from(holders: &[Holder], start: u64) -> &[Holder] {
+    let place = holders.partition_point(|holder| holder.start < start);
+    holders.get(place..).unwrap_or(&[])
+}
+
+/// Those met of which the first one starts later than a time.
+fn met_behind(met: &[Met], time: u64) -> &[Met] {
+    let place = met.partition_point(|met| met.meeting.one_start <= time);
+    met.get(place..).unwrap_or(&[])
 }
 
 impl Meetings {
@@ -111,7 +143,10 @@ impl Meetings {
         for _ in 0..resources {
             each.push(Vec::new(alloc))?;
         }
-        Ok(Meetings { each })
+        Ok(Meetings {
+            each,
+            behind: Vec::new(alloc),
+        })
     }
 
     /// Looks again at how the holders of a resource meet, where a forced one has moved.
@@ -122,8 +157,21 @@ impl Meetings {
         let Some(met) = self.each.get_mut(moved.resource as usize) else {
             return Ok(());
         };
-        met.clear();
-        meet_all(met, moved.holders)
+        if met.len() >= MOST_KEPT {
+            met.clear();
+            return meet_until(met, moved.holders, NEVER);
+        }
+        let start = first_start(moved.holders, &moved.forced);
+        self.behind.clear();
+        self.behind
+            .extend_from_slice(met_behind(met, moved.forced.until))?;
+        let before = met.partition_point(|met| met.meeting.one_start < start);
+        met.truncate(before);
+        let holders = holders_from(moved.holders, start);
+        meet_until(met, holders, moved.forced.until)?;
+        met.extend_from_slice(&self.behind)?;
+        met.truncate(MOST_KEPT);
+        Ok(())
     }
 
     /// How those meet that list each resource.
