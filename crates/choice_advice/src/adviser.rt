@@ -8,10 +8,12 @@ use crate::holders::Holders;
 use crate::layers::has_layers;
 use crate::links::Links;
 use crate::listed::listings_of;
-use crate::spots::Spots;
+use crate::spots::{Rows, Spots};
 use crate::view::View;
 use disp_model::{Memory, Op, Problem};
 use event_graph::Graph;
+use incremental_paths::Paths;
+use route_sets::Routes;
 use std::alloc::Global;
 
 /// What is looked for first among the open choices.
@@ -83,7 +85,7 @@ impl Adviser {
             spots: Spots::new(alloc, count, trains)?,
             holders: Holders::of(alloc, problem)?,
             layered,
-            found: Found::new(alloc, count, trains)?,
+            found: Found::new(alloc, count, trains, problem.names.len())?,
         })
     }
 
@@ -126,6 +128,20 @@ impl Adviser {
         Ok(())
     }
 
+    /// Looks at what a node says of the operations of a train. Gives the rows of those that may be
+    /// held otherwise than before.
+    fn look_along(&mut self, routes: &Routes, paths: &Paths, train: u32) -> Result<Rows, Memory> {
+        if !self.changes.take_decided(train) {
+            return self.spots.look_along(&self.facts, routes, paths, train);
+        }
+        let rows = self.spots.look_at(&self.facts, routes, paths, train)?;
+        let layers = has_layers(&self.spots, routes, self.facts.first(train));
+        if let Some(layered) = self.layered.get_mut(train as usize) {
+            *layered = layers;
+        }
+        Ok(rows)
+    }
+
     /// Looks at a train again.
     fn look_at(&mut self, problem: &Problem, graph: &Graph, train: u32) -> Result<(), Memory>
         requires { graph.now.problem ≡ problem.now }
@@ -134,26 +150,20 @@ impl Adviser {
             return Ok(());
         }
         let routes = graph.routes(train);
-        self.spots
-            .look_at(&self.facts, routes, graph.paths(), train)?;
+        let rows = self.look_along(routes, graph.paths(), train)?;
         self.found.forget(train);
-        let layers = has_layers(&self.spots, routes, self.facts.first(train));
-        if let Some(layered) = self.layered.get_mut(train as usize) {
-            *layered = layers;
-        }
-        self.note_moved(problem, routes.order(), train)
+        let order = routes.order().get(rows.from..rows.until);
+        self.note_moved(problem, order.unwrap_or(&[]), train)
     }
 
     /// Looks again at the resources of which a holder has moved, and notes the trains whose forks
     /// are then to be looked at.
     fn look_at_holders(&mut self) -> Result<(), Memory> {
         for _ in 0..u64::MAX {
-            let Some(moved) = self.holders.look_at_next()? else {
+            let Some(moved) = self.holders.next_moved() else {
                 return Ok(());
             };
-            for holder in moved.holders {
-                self.found.note_moved(&moved, holder);
-            }
+            self.found.note_moved(&moved)?;
         }
         Ok(())
     }

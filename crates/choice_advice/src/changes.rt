@@ -4,6 +4,7 @@ use crate::spots::{NEVER, length_of};
 use disp_model::{Decision, Memory};
 use incremental_paths::{Arc, Paths};
 use std::alloc::Global;
+use std::mem;
 
 /// The trains that are to be looked at again: those with an operation that starts at another time
 /// than at the node that was looked at last, or whose routes may be others.
@@ -15,6 +16,8 @@ pub(crate) struct Changes {
     waiting: Vec<u32>,
     stale: Vec<bool>,
     trains: Vec<u32>,
+    /// Whether the routes of each train may be others than when it was looked at last.
+    decided: Vec<bool>,
 }
 
 /// The train whose routes a decision is about.
@@ -39,9 +42,11 @@ impl Changes {
             waiting: Vec::new(alloc),
             stale: Vec::with_capacity(alloc, trains)?,
             trains: Vec::with_capacity(alloc, trains)?,
+            decided: Vec::with_capacity(alloc, trains)?,
         };
         for train in 0..trains {
             changes.stale.push(true)?;
+            changes.decided.push(true)?;
             changes
                 .trains
                 .push(u32::try_from(train).unwrap_or(u32::MAX))?;
@@ -66,9 +71,20 @@ impl Changes {
         for decision in decisions {
             if let Some(train) = train_of(*decision) {
                 self.note(train)?;
+                if let Some(decided) = self.decided.get_mut(train as usize) {
+                    *decided = true;
+                }
             }
         }
         Ok(())
+    }
+
+    /// Whether the routes of a train may be others than when this was asked last.
+    pub(crate) fn take_decided(&mut self, train: u32) -> bool {
+        match self.decided.get_mut(train as usize) {
+            Some(decided) => mem::replace(decided, false),
+            None => true,
+        }
     }
 
     /// Takes arcs away until so many are left, and notes where they led to.

@@ -1,4 +1,4 @@
-use crate::meetings::Meeting;
+use crate::meetings::{Meeting, Met, Weighed};
 use crate::tolls::{most_toll, toll};
 use crate::view::View;
 
@@ -77,21 +77,66 @@ pub(crate) fn sink(clashes: &mut [Clash]) {
     }
 }
 
-/// What the orders of two that meet weigh by their own trains; none where that is less than what is
-/// known.
-pub(crate) fn own_weight(view: View, meeting: &Meeting, known: u64) -> Option<u64> {
+/// What the orders of two that meet weigh at most by their own trains.
+fn most_weight(view: View, meeting: &Meeting) -> Weighed {
     let one = most_toll(view.spots, meeting.one, meeting.other_until);
     let other = most_toll(view.spots, meeting.other, meeting.one_until);
-    if weight(one, other) < known {
-        return None;
+    Weighed {
+        weight: weight(one, other),
+        exact: false,
+        turn: view.spots.turn(),
     }
+}
+
+/// What the orders of two that meet weigh by their own trains.
+fn exact_weight(view: View, meeting: &Meeting) -> Weighed {
     let one = toll(view.facts, view.spots, meeting.one, meeting.other_until);
     let other = toll(view.facts, view.spots, meeting.other, meeting.one_until);
-    let found = weight(one, other);
-    if found < known { None } else { Some(found) }
+    Weighed {
+        weight: weight(one, other),
+        exact: true,
+        turn: view.spots.turn(),
+    }
+}
+
+/// What is known of how much the orders of two that meet weigh, as long as neither train was looked
+/// at again.
+fn weighed_before(view: View, met: &Met) -> Option<Weighed> {
+    let weighed = met.weighed?;
+    if view.spots.is_as_at(met.one_train, weighed.turn)
+        && view.spots.is_as_at(met.other_train, weighed.turn)
+    {
+        Some(weighed)
+    } else {
+        None
+    }
+}
+
+/// What the orders of two that meet weigh, or at most weigh where that is less than what is known.
+fn weighed_up_to(view: View, met: &Met, known: u64) -> Weighed {
+    let weighed = match weighed_before(view, met) {
+        Some(weighed) => weighed,
+        None => most_weight(view, &met.meeting),
+    };
+    if weighed.exact || weighed.weight < known {
+        return weighed;
+    }
+    exact_weight(view, &met.meeting)
+}
+
+/// What the orders of two that meet weigh by their own trains; none where that is less than what is
+/// known.
+pub(crate) fn own_weight(view: View, met: &mut Met, known: u64) -> Option<u64> {
+    let weighed = weighed_up_to(view, met, known);
+    met.weighed = Some(weighed);
+    if weighed.weight < known {
+        None
+    } else {
+        Some(weighed.weight)
+    }
 }
 
 /// What the orders of two that meet weigh where one of them leaves no plan, and otherwise nothing.
-pub(crate) fn dead_weight(view: View, meeting: &Meeting) -> u64 {
-    own_weight(view, meeting, MOST_DEARER).unwrap_or(0)
+pub(crate) fn dead_weight(view: View, met: &mut Met) -> u64 {
+    own_weight(view, met, MOST_DEARER).unwrap_or(0)
 }

@@ -1,5 +1,5 @@
 use crate::clash::{Clash, dead_weight, first_of, own_weight, sink, weight};
-use crate::meetings::Meeting;
+use crate::meetings::{Meeting, Meetings, Met};
 use crate::pusher::Pusher;
 use crate::seeker::Seeker;
 use crate::spots::NEVER;
@@ -91,15 +91,15 @@ impl Clashes {
     }
 
     /// What the orders of two that meet weigh; none where that is too little.
-    fn weight(&self, view: View, meeting: &Meeting) -> Option<u64> {
+    fn weight(&self, view: View, met: &mut Met) -> Option<u64> {
         if self.by == By::Time {
-            return Some(dead_weight(view, meeting));
+            return Some(dead_weight(view, met));
         }
         let known = match self.first.last() {
             Some(last) if self.first.len() >= MOST_PUSHED => last.weight,
             _ => 0,
         };
-        own_weight(view, meeting, known)
+        own_weight(view, met, known)
     }
 
     /// Whether it is asked of two that meet if one order of theirs closes a cycle.
@@ -122,16 +122,14 @@ impl Clashes {
     }
 
     /// Looks at two that meet.
-    fn take(&mut self, view: View, seeker: &mut Seeker, meeting: &Meeting) -> Result<(), Memory> {
+    fn take(&mut self, view: View, seeker: &mut Seeker, met: &mut Met) -> Result<(), Memory> {
+        let meeting = met.meeting;
         let (one, other) = (meeting.one, meeting.other);
         if self.asks() && (closes(view, seeker, one, other) || closes(view, seeker, other, one)) {
-            return self.keep_alone(*meeting);
+            return self.keep_alone(meeting);
         }
-        match self.weight(view, meeting) {
-            Some(weight) => self.keep(Clash {
-                weight,
-                meeting: *meeting,
-            }),
+        match self.weight(view, met) {
+            Some(weight) => self.keep(Clash { weight, meeting }),
             None => Ok(()),
         }
     }
@@ -146,44 +144,39 @@ impl Clashes {
     }
 
     /// Looks at all that meet on a resource.
-    fn look_at(
-        &mut self,
-        view: View,
-        seeker: &mut Seeker,
-        meetings: &[Meeting],
-    ) -> Result<(), Memory> {
-        for meeting in meetings {
+    fn look_at(&mut self, view: View, seeker: &mut Seeker, all: &mut [Met]) -> Result<(), Memory> {
+        for met in all.iter_mut() {
             if self.closes {
                 return Ok(());
             }
-            if self.counts(view, seeker, meeting) {
-                self.take(view, seeker, meeting)?;
+            if self.counts(view, seeker, &met.meeting) {
+                self.take(view, seeker, met)?;
             }
         }
         Ok(())
     }
 
     /// What the orders of two that meet weigh with all that they push.
-    fn pushed_weight(&mut self, view: View, meeting: &Meeting) -> Result<u64, Memory> {
+    fn pushed_weight(&mut self, view: View, meeting: &Meeting) -> u64 {
         let (one, other) = (meeting.one, meeting.other);
         let behind = view.spots.at(one).behind;
-        let there = self.pusher.toll(view, other, meeting.one_until, behind)?;
+        let there = self.pusher.toll(view, other, meeting.one_until, behind);
         let behind = view.spots.at(other).behind;
-        let back = self.pusher.toll(view, one, meeting.other_until, behind)?;
-        Ok(weight(there, back))
+        let back = self.pusher.toll(view, one, meeting.other_until, behind);
+        weight(there, back)
     }
 
     /// The one of those that are kept that comes first by all that its orders push.
-    fn first_pushed(&mut self, view: View) -> Result<Option<Clash>, Memory> {
+    fn first_pushed(&mut self, view: View) -> Option<Clash> {
         let mut found = None;
         for _ in 0..self.first.len() {
             let Some(clash) = self.first.pop() else {
-                return Ok(found);
+                return found;
             };
-            let weight = self.pushed_weight(view, &clash.meeting)?;
+            let weight = self.pushed_weight(view, &clash.meeting);
             found = first_of(found, Clash { weight, ..clash });
         }
-        Ok(found)
+        found
     }
 
     /// The clash that comes first.
@@ -191,15 +184,16 @@ impl Clashes {
         &mut self,
         view: View,
         seeker: &mut Seeker,
+        meetings: &mut Meetings,
         by: By,
         touching: bool,
     ) -> Result<Option<Clash>, Memory> {
         self.begin(by, touching);
-        for resource in view.holders.each() {
-            self.look_at(view, seeker, resource.meetings())?;
+        for all in meetings.each_mut().iter_mut() {
+            self.look_at(view, seeker, all.as_mut_slice())?;
         }
         if self.first.len() > 1 {
-            return self.first_pushed(view);
+            return Ok(self.first_pushed(view));
         }
         Ok(self.first.pop())
     }

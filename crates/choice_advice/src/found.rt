@@ -7,15 +7,18 @@ use crate::facts::Facts;
 use crate::forks::{Fork, Forks};
 use crate::holders::{Holder, Moved};
 use crate::layers::Crossings;
+use crate::meetings::Meetings;
 use crate::seeker::Seeker;
 use crate::view::View;
 use crate::ways::Ways;
 use disp_model::Memory;
 use std::alloc::Global;
 
-/// What an adviser has found of forks and of crossings, and room for looks at clashes and ways.
+/// What an adviser has found of meetings, of forks and of crossings, and room for looks at clashes
+/// and ways.
 #[derive(Drop)]
 pub(crate) struct Found {
+    meetings: Meetings,
     clashes: Clashes,
     forks: Forks,
     crossings: Crossings,
@@ -24,9 +27,15 @@ pub(crate) struct Found {
 }
 
 impl Found {
-    /// Nothing found yet of so many operations of so many trains.
-    pub(crate) fn new(alloc: Global, count: usize, trains: usize) -> Result<Found, Memory> {
+    /// Nothing found yet of so many operations of so many trains and so many resources.
+    pub(crate) fn new(
+        alloc: Global,
+        count: usize,
+        trains: usize,
+        resources: usize,
+    ) -> Result<Found, Memory> {
         Ok(Found {
+            meetings: Meetings::new(alloc, resources)?,
             clashes: Clashes::new(alloc, count)?,
             forks: Forks::new(alloc, count, trains)?,
             crossings: Crossings::new(alloc, count, trains)?,
@@ -41,8 +50,21 @@ impl Found {
         self.crossings.forget(train);
     }
 
+    /// Looks again at how the holders of a resource meet of which some have moved, and notes what
+    /// is to be looked at again of each.
+    pub(crate) fn note_moved(&mut self, moved: &Moved) -> Result<(), Memory> {
+        self.meetings.look_again(moved)?;
+        for holder in moved.holders {
+            if holder.start >= moved.span.until {
+                return Ok(());
+            }
+            self.note_holder(moved, holder);
+        }
+        Ok(())
+    }
+
     /// Notes what is to be looked at again of a holder of a resource of which some have moved.
-    pub(crate) fn note_moved(&mut self, moved: &Moved, holder: &Holder) {
+    fn note_holder(&mut self, moved: &Moved, holder: &Holder) {
         if holder.forced {
             return;
         }
@@ -56,7 +78,8 @@ impl Found {
 
     /// The clash that comes first.
     fn first_clash(&mut self, view: View, by: By, touching: bool) -> Result<Option<Clash>, Memory> {
-        self.clashes.find(view, &mut self.seeker, by, touching)
+        let (seeker, meetings) = (&mut self.seeker, &mut self.meetings);
+        self.clashes.find(view, seeker, meetings, by, touching)
     }
 
     /// The fork that comes first.

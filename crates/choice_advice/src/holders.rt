@@ -1,4 +1,3 @@
-use crate::meetings::Meeting;
 use crate::spots::{NEVER, Spot};
 use disp_model::{Listing, Memory, Problem};
 use std::alloc::Global;
@@ -27,8 +26,8 @@ impl Holder {
 /// A time in which holders of a resource were moved, from one beginning to one end.
 #[derive(Clone, Copy)]
 pub(crate) struct Span {
-    from: u64,
-    until: u64,
+    pub from: u64,
+    pub until: u64,
 }
 
 impl Span {
@@ -45,7 +44,7 @@ impl Span {
     }
 
     /// Whether there is such a time.
-    fn is_some(&self) -> bool {
+    pub(crate) fn is_some(&self) -> bool {
         self.from < self.until
     }
 
@@ -58,6 +57,7 @@ impl Span {
 /// The holders of a resource of which some have moved.
 #[derive(Clone, Copy)]
 pub(crate) struct Moved<'a> {
+    pub resource: u32,
     pub holders: &'a [Holder],
     /// When those were held, before or now, that have moved.
     pub span: Span,
@@ -65,14 +65,10 @@ pub(crate) struct Moved<'a> {
     pub forced: Span,
 }
 
-/// How many meetings on a resource are kept at most.
-const MOST_KEPT: usize = 512;
-
-/// The operations that list a resource, as they start, and how they meet.
+/// The operations that list a resource, as they start.
 #[derive(Drop)]
-pub(crate) struct Resource {
+struct Resource {
     holders: Vec<Holder>,
-    meetings: Vec<Meeting>,
     /// Whether it is to be looked at again.
     stale: bool,
     /// When holders have moved since it was looked at, and when forced ones have.
@@ -146,41 +142,6 @@ fn note_move(span: &mut Span, forced: &mut Span, before: &Holder, now: &Holder) 
 }
 
 impl Resource {
-    /// The operations that list it, as they start.
-    pub(crate) fn holders(&self) -> &[Holder] {
-        self.holders.as_slice()
-    }
-
-    /// How they meet.
-    pub(crate) fn meetings(&self) -> &[Meeting] {
-        self.meetings.as_slice()
-    }
-
-    /// Keeps how the holder at a place meets later ones.
-    fn meet_from(&mut self, place: usize) -> Result<(), Memory> {
-        let Some(one) = self.holders.get(place) else {
-            return Ok(());
-        };
-        if !one.forced {
-            return Ok(());
-        }
-        for later in place.saturating_add(1)..self.holders.len() {
-            let Some(other) = self.holders.get(later) else {
-                return Ok(());
-            };
-            if one.until() < other.start || self.meetings.len() >= MOST_KEPT {
-                return Ok(());
-            }
-            if !other.forced || other.train == one.train {
-                continue;
-            }
-            if let Some(meeting) = Meeting::of(one, other) {
-                self.meetings.push(meeting)?;
-            }
-        }
-        Ok(())
-    }
-
     /// Has an operation be held as it is now.
     fn move_to(&mut self, number: u32, spot: Spot) {
         let holders = self.holders.as_mut_slice();
@@ -199,23 +160,15 @@ impl Resource {
     }
 
     /// When its holders have moved since it was asked last.
-    fn take_moved(&mut self) -> Moved {
+    fn take_moved(&mut self, resource: u32) -> Moved {
         let span = mem::replace(&mut self.span, Span::NOTHING);
         let forced = mem::replace(&mut self.forced, Span::NOTHING);
         Moved {
+            resource,
             holders: self.holders.as_slice(),
             span,
             forced,
         }
-    }
-
-    /// Looks again at how its holders meet.
-    fn look(&mut self) -> Result<(), Memory> {
-        self.meetings.clear();
-        for place in 0..self.holders.len() {
-            self.meet_from(place)?;
-        }
-        Ok(())
     }
 }
 
@@ -226,7 +179,6 @@ impl Holders {
         for _ in problem.names.as_slice() {
             each.push(Resource {
                 holders: Vec::new(alloc),
-                meetings: Vec::new(alloc),
                 stale: false,
                 span: Span::NOTHING,
                 forced: Span::NOTHING,
@@ -277,31 +229,18 @@ impl Holders {
         Ok(())
     }
 
-    /// Gives a resource of which a holder has moved, and looks again at how its holders meet where
-    /// a forced one has.
-    pub(crate) fn look_at_next(&mut self) -> Result<Option<Moved>, Memory> {
-        let Some(number) = self.stale.pop() else {
-            return Ok(None);
-        };
-        let Some(resource) = self.each.get_mut(number as usize) else {
-            return Ok(None);
-        };
+    /// Gives a resource of which a holder has moved; it has not any more then.
+    pub(crate) fn next_moved(&mut self) -> Option<Moved> {
+        let number = self.stale.pop()?;
+        let resource = self.each.get_mut(number as usize)?;
         resource.stale = false;
-        if resource.forced.is_some() {
-            resource.look()?;
-        }
-        Ok(Some(resource.take_moved()))
-    }
-
-    /// Each resource.
-    pub(crate) fn each(&self) -> &[Resource] {
-        self.each.as_slice()
+        Some(resource.take_moved(number))
     }
 
     /// The holders of a resource.
     pub(crate) fn of_resource(&self, resource: u32) -> &[Holder] {
         match self.each.get(resource as usize) {
-            Some(resource) => resource.holders(),
+            Some(resource) => resource.holders.as_slice(),
             None => &[],
         }
     }

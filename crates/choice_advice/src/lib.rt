@@ -19,6 +19,7 @@ mod links;
 mod listed;
 mod meetings;
 mod pusher;
+mod queue;
 mod seeker;
 mod spots;
 mod tolls;

@@ -1,4 +1,10 @@
-use crate::holders::Holder;
+use crate::holders::{Holder, Moved, Span};
+use crate::spots::NEVER;
+use disp_model::Memory;
+use std::alloc::Global;
+
+/// How many meetings on a resource are kept at most.
+const MOST_KEPT: usize = 512;
 
 /// Two forced operations, of two trains, that hold a resource at a time, or of which one ends when
 /// the other starts.
@@ -17,9 +23,36 @@ pub(crate) struct Meeting {
     pub touches: bool,
 }
 
+/// What is known of how much the orders of two that meet weigh.
+#[derive(Clone, Copy)]
+pub(crate) struct Weighed {
+    pub weight: u64,
+    /// Whether they weigh just that; no more otherwise.
+    pub exact: bool,
+    /// The turn at which that was found.
+    pub turn: u64,
+}
+
+/// Two that meet, their trains, and what is known of how much their orders weigh.
+#[derive(Clone, Copy)]
+pub(crate) struct Met {
+    pub meeting: Meeting,
+    pub one_train: u32,
+    pub other_train: u32,
+    pub weighed: Option<Weighed>,
+}
+
+/// How the operations that list a resource meet, for each resource.
+#[derive(Drop)]
+pub(crate) struct Meetings {
+    each: Vec<Vec<Met>>,
+    /// Those set aside that stay behind others that are looked at again.
+    behind: Vec<Met>,
+}
+
 impl Meeting {
     /// Two holders of which the second starts no earlier, where they meet.
-    pub(crate) fn of(one: &Holder, other: &Holder) -> Option<Meeting> {
+    fn of(one: &Holder, other: &Holder) -> Option<Meeting> {
         let overlaps = one.start < other.until() && other.start < one.until();
         if !overlaps && other.start != one.end {
             return None;
@@ -34,5 +67,115 @@ impl Meeting {
             other_until: other.until(),
             touches: !overlaps,
         })
+    }
+}
+
+/// Keeps how a holder meets later ones.
+fn meet(met: &mut Vec<Met>, one: &Holder, later: &[Holder]) -> Result<(), Memory> {
+    if !one.forced {
+        return Ok(());
+    }
+    for other in later {
+        if one.until() < other.start || met.len() >= MOST_KEPT {
+            return Ok(());
+        }
+        if !other.forced || other.train == one.train {
+            continue;
+        }
+        if let Some(meeting) = Meeting::of(one, other) {
+            met.push(Met {
+                meeting,
+                one_train: one.train,
+                other_train: other.train,
+                weighed: None,
+            })?;
+        }
+    }
+    Ok(())
+}
+
+/// Keeps how the first holders, up to those that start later than a time, meet later ones.
+fn meet_until(met: &mut Vec<Met>, holders: &[Holder], until: u64) -> Result<(), Memory> {
+    let mut later = holders;
+    for _ in holders {
+        let Some((one, behind)) = later.split_first() else {
+            return Ok(());
+        };
+        if one.start > until || one.start == NEVER {
+            return Ok(());
+        }
+        meet(met, one, behind)?;
+        later = behind;
+    }
+    Ok(())
+}
+
+/// From when on it matters that forced holders have moved in a time: the start of the first holder
+/// that keeps others out then, or that time.
+fn first_start(holders: &[Holder], span: &Span) -> u64 {
+    for holder in holders {
+        if holder.start >= span.from {
+            return span.from;
+        }
+        if holder.forced && holder.until() >= span.from {
+            return holder.start;
+        }
+    }
+    span.from
+}
+
+/// The holders that start no earlier than a time.
+fn holders_from(holders: &[Holder], start: u64) -> &[Holder] {
+    let place = holders.partition_point(|holder| holder.start < start);
+    holders.get(place..).unwrap_or(&[])
+}
+
+/// Those met of which the first one starts later than a time.
+fn met_behind(met: &[Met], time: u64) -> &[Met] {
+    let place = met.partition_point(|met| met.meeting.one_start <= time);
+    met.get(place..).unwrap_or(&[])
+}
+
+impl Meetings {
+    /// No meetings yet on so many resources.
+    pub(crate) fn new(alloc: Global, resources: usize) -> Result<Meetings, Memory> {
+        let mut each = Vec::with_capacity(alloc, resources)?;
+        for _ in 0..resources {
+            each.push(Vec::new(alloc))?;
+        }
+        Ok(Meetings {
+            each,
+            behind: Vec::new(alloc),
+        })
+    }
+
+    /// Looks again at how the holders of a resource meet, where a forced one has moved.
+    pub(crate) fn look_again(&mut self, moved: &Moved) -> Result<(), Memory> {
+        if !moved.forced.is_some() {
+            return Ok(());
+        }
+        let Some(met) = self.each.get_mut(moved.resource as usize) else {
+            return Ok(());
+        };
+        if met.len() >= MOST_KEPT {
+            met.clear();
+            return meet_until(met, moved.holders, NEVER);
+        }
+        let start = first_start(moved.holders, &moved.forced);
+        self.behind.clear();
+        self.behind
+            .extend_from_slice(met_behind(met, moved.forced.until))?;
+        let before = met.partition_point(|met| met.meeting.one_start < start);
+        met.truncate(before);
+        let holders = holders_from(moved.holders, start);
+        meet_until(met, holders, moved.forced.until)?;
+        met.extend_from_slice(&self.behind)?;
+        met.truncate(MOST_KEPT);
+        Ok(())
+    }
+
+    /// How those meet that list each resource.
+    pub(crate) fn each_mut(&mut self) -> &mut [Vec<Met>] {
+        self.each.as_mut_slice()
     }
 }

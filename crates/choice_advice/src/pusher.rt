@@ -1,11 +1,10 @@
 use crate::links::Links;
+use crate::queue::Queue;
 use crate::spots::{NEVER, length_of};
 use crate::view::View;
 use disp_model::Memory;
 use incremental_paths::Paths;
 use std::alloc::Global;
-use std::cmp::Reverse;
-use std::collections::BinaryHeap;
 
 /// When an operation starts that is pushed, and in which look it was.
 #[derive(Clone, Copy)]
@@ -20,15 +19,7 @@ pub(crate) struct Pusher {
     each: Vec<Pushed>,
     look: u64,
     /// The operations that are pushed and push on, by their places in the order of the arcs.
-    waiting: BinaryHeap<(Reverse<u32>, u32)>,
-}
-
-/// The place of an operation in the order of the arcs.
-fn place_of(paths: &Paths, number: u32) -> u32 {
-    if number as usize >= paths.size() {
-        return u32::MAX;
-    }
-    paths.place(number)
+    waiting: Queue,
 }
 
 impl Pusher {
@@ -41,7 +32,7 @@ impl Pusher {
         Ok(Pusher {
             each,
             look: 0,
-            waiting: BinaryHeap::new(alloc),
+            waiting: Queue::new(alloc, count)?,
         })
     }
 
@@ -71,62 +62,50 @@ impl Pusher {
     }
 
     /// Pushes an operation to a time, where it starts earlier.
-    fn push(&mut self, paths: &Paths, number: u32, time: u64) -> Result<(), Memory> {
-        if time > length_of(paths, number) && self.delay(number, time) {
-            let place = place_of(paths, number);
-            self.waiting.push((Reverse(place), number))?;
+    fn push(&mut self, paths: &Paths, number: u32, time: u64) {
+        if number as usize >= paths.size() {
+            return;
         }
-        Ok(())
+        if time > paths.length(number) && self.delay(number, time) {
+            self.waiting.put(paths.place(number) as usize, number);
+        }
     }
 
     /// Pushes those to which arcs lead from an operation that starts at a time.
-    fn push_on(
-        &mut self,
-        links: &Links,
-        paths: &Paths,
-        number: u32,
-        time: u64,
-    ) -> Result<(), Memory> {
+    fn push_on(&mut self, links: &Links, paths: &Paths, number: u32, time: u64) {
         let mut place = links.last(number);
         for _ in 0..links.len() {
             let Some(link) = links.at(place) else {
-                return Ok(());
+                return;
             };
-            self.push(paths, link.to, time.saturating_add(link.length))?;
+            self.push(paths, link.to, time.saturating_add(link.length));
             place = link.before;
         }
-        Ok(())
     }
 
     /// How much more all trains cost where an operation starts only at a time; never where one of
     /// them may not start so late, or where that pushes an operation that is to come before.
-    pub(crate) fn toll(
-        &mut self,
-        view: View,
-        number: u32,
-        time: u64,
-        before: u32,
-    ) -> Result<u64, Memory> {
+    pub(crate) fn toll(&mut self, view: View, number: u32, time: u64, before: u32) -> u64 {
         let paths = view.graph.paths();
         self.look = self.look.saturating_add(1);
         self.waiting.clear();
-        self.push(paths, number, time)?;
+        self.push(paths, number, time);
         let mut toll = 0u64;
         for _ in 0..self.each.len() {
-            let Some((_, number)) = self.waiting.pop() else {
-                return Ok(toll);
+            let Some(number) = self.waiting.take() else {
+                return toll;
             };
             if number == before {
-                return Ok(NEVER);
+                return NEVER;
             }
             let time = self.time(number);
             let start = length_of(paths, number);
             let Some(rise) = view.facts.rise(number, start, time) else {
-                return Ok(NEVER);
+                return NEVER;
             };
             toll = toll.saturating_add(rise);
-            self.push_on(view.links, paths, number, time)?;
+            self.push_on(view.links, paths, number, time);
         }
-        Ok(toll)
+        toll
     }
 }

@@ -51,8 +51,16 @@ pub(crate) struct Stop {
     pub start: u64,
     /// The least time up to it from the first forced one of its train.
     pub sum: u64,
-    /// How much more it and those behind it may cost.
+    /// How much more it may cost, and it and those behind it.
+    own: Most,
     pub most: Most,
+}
+
+/// Rows of a train's routes, from one on up to another.
+#[derive(Clone, Copy)]
+pub(crate) struct Rows {
+    pub from: usize,
+    pub until: usize,
 }
 
 /// When a forced operation starts.
@@ -73,6 +81,9 @@ pub(crate) struct Spots {
     stops: Vec<Vec<Stop>>,
     /// What was known of the operations of the train that was looked at last, in its order.
     before: Vec<Spot>,
+    /// How many looks there were at trains, and at which of them each train was looked at last.
+    turn: u64,
+    turns: Vec<u64>,
 }
 
 impl Spots {
@@ -84,16 +95,41 @@ impl Spots {
         }
         let mut forks = Vec::with_capacity(alloc, trains)?;
         let mut stops = Vec::with_capacity(alloc, trains)?;
+        let mut turns = Vec::with_capacity(alloc, trains)?;
         for _ in 0..trains {
             forks.push(None)?;
             stops.push(Vec::new(alloc))?;
+            turns.push(0)?;
         }
         Ok(Spots {
             each,
             forks,
             stops,
             before: Vec::new(alloc),
+            turn: 0,
+            turns,
         })
+    }
+
+    /// How many looks there were at trains.
+    pub(crate) fn turn(&self) -> u64 {
+        self.turn
+    }
+
+    /// Whether a train was not looked at again since a turn.
+    pub(crate) fn is_as_at(&self, train: u32, turn: u64) -> bool {
+        match self.turns.get(train as usize) {
+            Some(last) => *last <= turn,
+            None => true,
+        }
+    }
+
+    /// Notes that a train is looked at again.
+    fn take_turn(&mut self, train: u32) {
+        self.turn = self.turn.saturating_add(1);
+        if let Some(last) = self.turns.get_mut(train as usize) {
+            *last = self.turn;
+        }
     }
 
     /// What is known of an operation.
@@ -120,10 +156,12 @@ impl Spots {
         }
     }
 
-    /// Has an operation be reached no later than a time.
+    /// Has an operation be reached no later than a time, if some routes only have it.
     fn reach(&mut self, number: u32, time: u64) {
         if let Some(spot) = self.each.get_mut(number as usize) {
-            spot.start = spot.start.min(time);
+            if !spot.forced {
+                spot.start = spot.start.min(time);
+            }
         }
     }
 
@@ -158,7 +196,7 @@ impl Spots {
         };
         let mut most = Most::NOTHING;
         for stop in stops.iter_mut().rev() {
-            most = most.with(&stop.most);
+            most = most.with(&stop.own);
             stop.most = most;
         }
     }
@@ -168,11 +206,13 @@ impl Spots {
         if !facts.matters(number) {
             return Ok(());
         }
+        let most = facts.most_at(number, spot.start);
         let stop = Stop {
             number,
             start: spot.start,
             sum: spot.sum,
-            most: facts.most_at(number, spot.start),
+            own: most,
+            most,
         };
         if let Some(stops) = self.stops.get_mut(spot.train as usize) {
             stops.push(stop)?;
@@ -237,7 +277,8 @@ impl Spots {
         Ok(())
     }
 
-    /// Whether an operation at a place of its train's order is held otherwise than before.
+    /// Whether an operation at a place among those that were looked at last is held otherwise than
+    /// before.
     pub(crate) fn has_moved(&self, place: usize, number: u32) -> bool {
         let spot = self.at(number);
         match self.before.get(place) {
@@ -248,16 +289,121 @@ impl Spots {
         }
     }
 
-    /// Looks at a train again.
+    /// The rows of a train's operations, its routes as before, that may start or end at another
+    /// time: from behind the last forced one that does not up to the first forced one that does.
+    fn moved_rows(&self, routes: &Routes, paths: &Paths, first: u32) -> Rows {
+        let order = routes.order();
+        let mut rows = Rows { from: 0, until: 0 };
+        let mut before = order.len();
+        let mut number = first.saturating_add(order.last().copied().unwrap_or(0));
+        for _ in order {
+            let spot = self.at(number);
+            let row = spot.row as usize;
+            if spot.start != length_of(paths, number) {
+                rows.until = rows.until.max(before);
+                rows.from = 0;
+            } else if rows.until > 0 && rows.from == 0 {
+                rows.from = row.saturating_add(1);
+            }
+            let Some(next) = spot.next else {
+                return rows;
+            };
+            before = row.saturating_add(1);
+            number = next;
+        }
+        rows
+    }
+
+    /// Has a forced operation start and end as the arcs ask for.
+    fn move_forced(&mut self, facts: &Facts, paths: &Paths, number: u32) {
+        let Some(spot) = self.each.get_mut(number as usize) else {
+            return;
+        };
+        spot.start = length_of(paths, number);
+        spot.end = if spot.behind == number {
+            spot.start.saturating_add(facts.min(number))
+        } else {
+            length_of(paths, spot.behind)
+        };
+        if !facts.matters(number) {
+            return;
+        }
+        let Some(stops) = self.stops.get_mut(spot.train as usize) else {
+            return;
+        };
+        if let Some(stop) = stops.get_mut(spot.stops as usize) {
+            stop.start = spot.start;
+            stop.own = facts.most_at(number, spot.start);
+        }
+    }
+
+    /// Keeps what is known of some of a train's operations, and forgets when those are reached that
+    /// are not forced.
+    fn forget_starts(&mut self, order: &[u32], first: u32) -> Result<(), Memory> {
+        self.before.clear();
+        for op in order {
+            let number = first.saturating_add(*op);
+            let Some(spot) = self.each.get_mut(number as usize) else {
+                return Ok(());
+            };
+            self.before.push(*spot)?;
+            if !spot.forced {
+                spot.start = NEVER;
+            }
+        }
+        Ok(())
+    }
+
+    /// Has the operation at a row of its train's routes start and end as those before it ask for.
+    fn move_at(&mut self, facts: &Facts, paths: &Paths, first: u32, number: u32, next: &[u32]) {
+        let spot = self.at(number);
+        if spot.forced {
+            self.move_forced(facts, paths, number);
+            if spot.behind != number {
+                return;
+            }
+        } else if let Some(spot) = self.each.get_mut(number as usize) {
+            spot.end = spot.start.saturating_add(facts.min(number));
+        }
+        self.reach_from(facts, first, number, next);
+    }
+
+    /// Looks again at a train whose routes are as before. Gives the rows of the operations that may
+    /// start or end at another time.
+    pub(crate) fn look_along(
+        &mut self,
+        facts: &Facts,
+        routes: &Routes,
+        paths: &Paths,
+        train: u32,
+    ) -> Result<Rows, Memory> {
+        let first = facts.first(train);
+        let order = routes.order();
+        let rows = self.moved_rows(routes, paths, first);
+        self.take_turn(train);
+        let moved = order.get(rows.from..rows.until).unwrap_or(&[]);
+        self.forget_starts(moved, first)?;
+        for row in (rows.from..rows.until).rev() {
+            if let (Some(op), Some(next)) = (order.get(row), routes.rows().get(row)) {
+                let number = first.saturating_add(*op);
+                self.move_at(facts, paths, first, number, next.as_slice());
+            }
+        }
+        self.add_up(train);
+        Ok(rows)
+    }
+
+    /// Looks at a train again. Gives the rows of its operations.
     pub(crate) fn look_at(
         &mut self,
         facts: &Facts,
         routes: &Routes,
         paths: &Paths,
         train: u32,
-    ) -> Result<(), Memory> {
+    ) -> Result<Rows, Memory> {
         let first = facts.first(train);
         let order = routes.order();
+        self.take_turn(train);
         self.set_aside(order, first)?;
         let rows = routes.rows();
         if let Some(stops) = self.stops.get_mut(train as usize) {
@@ -300,6 +446,9 @@ impl Spots {
         if let Some(place) = self.forks.get_mut(train as usize) {
             *place = fork;
         }
-        Ok(())
+        Ok(Rows {
+            from: 0,
+            until: order.len(),
+        })
     }
 }
