@@ -107,6 +107,7 @@ impl Adviser {
         };
         self.changes.note_decided(more)?;
         self.changes.unlink(&mut self.links, left)?;
+        self.links.begin_turn();
         self.changes.link(&mut self.links, arcs)?;
         self.course.go_down(more, arcs.len())?;
         self.changes.spread(&self.facts, &self.links, graph.paths())
@@ -117,12 +118,12 @@ impl Adviser {
         let first = self.facts.first(train);
         for (place, op) in order.iter().enumerate() {
             let number = first.saturating_add(*op);
-            if !self.spots.has_moved(place, number) {
+            let Some(start) = self.spots.moved_from(place, number) else {
                 continue;
-            }
+            };
             let spot = self.spots.at(number);
             for listing in listings_of(problem, Op { train, op: *op }) {
-                self.holders.move_to(listing.resource, number, spot)?;
+                self.holders.move_to(listing.resource, number, start, spot)?;
             }
         }
         Ok(())

@@ -99,40 +99,29 @@ fn exact_weight(view: View, meeting: &Meeting) -> Weighed {
     }
 }
 
-/// What is known of how much the orders of two that meet weigh, as long as neither train was looked
-/// at again.
-fn weighed_before(view: View, met: &Met) -> Option<Weighed> {
-    let weighed = met.weighed?;
-    if view.spots.is_as_at(met.one_train, weighed.turn)
-        && view.spots.is_as_at(met.other_train, weighed.turn)
-    {
-        Some(weighed)
-    } else {
-        None
+/// What is known of how much the orders of two that meet weigh, or what they weigh at most.
+fn weighed(view: View, met: &mut Met) -> Weighed {
+    if !met.is_as_at(view.spots, met.weighed.turn) {
+        met.weighed = most_weight(view, &met.meeting);
     }
-}
-
-/// What the orders of two that meet weigh, or at most weigh where that is less than what is known.
-fn weighed_up_to(view: View, met: &Met, known: u64) -> Weighed {
-    let weighed = match weighed_before(view, met) {
-        Some(weighed) => weighed,
-        None => most_weight(view, &met.meeting),
-    };
-    if weighed.exact || weighed.weight < known {
-        return weighed;
-    }
-    exact_weight(view, &met.meeting)
+    met.weighed
 }
 
 /// What the orders of two that meet weigh by their own trains; none where that is less than what is
 /// known.
 pub(crate) fn own_weight(view: View, met: &mut Met, known: u64) -> Option<u64> {
-    let weighed = weighed_up_to(view, met, known);
-    met.weighed = Some(weighed);
-    if weighed.weight < known {
+    let mut found = weighed(view, met);
+    if found.weight < known {
+        return None;
+    }
+    if !found.exact {
+        found = exact_weight(view, &met.meeting);
+        met.weighed = found;
+    }
+    if found.weight < known {
         None
     } else {
-        Some(weighed.weight)
+        Some(found.weight)
     }
 }
 

@@ -1,3 +1,4 @@
+use crate::asking::Asking;
 use crate::clash::{Clash, dead_weight, first_of, own_weight, sink, weight};
 use crate::meetings::{Meeting, Meetings, Met};
 use crate::pusher::Pusher;
@@ -20,12 +21,6 @@ pub(crate) enum By {
     Time,
 }
 
-/// Whether the order of one operation before another would close a cycle.
-fn closes(view: View, seeker: &mut Seeker, one: u32, other: u32) -> bool {
-    let behind = view.spots.at(one).behind;
-    view.leads(seeker, other, behind)
-}
-
 /// Whether arcs ask for the order of one operation before another.
 fn is_asked(view: View, seeker: &mut Seeker, one: u32, other: u32) -> bool {
     let behind = view.spots.at(one).behind;
@@ -44,6 +39,7 @@ pub(crate) struct Clashes {
     /// Whether one order of the first one closes a cycle, so that the other one is left.
     closes: bool,
     asked: u32,
+    asking: Asking,
 }
 
 impl Clashes {
@@ -56,16 +52,18 @@ impl Clashes {
             touching: false,
             closes: false,
             asked: 0,
+            asking: Asking::new(alloc),
         })
     }
 
     /// Begins a look.
-    fn begin(&mut self, by: By, touching: bool) {
+    fn begin(&mut self, view: View, by: By, touching: bool) -> Result<(), Memory> {
         self.first.clear();
         self.by = by;
         self.touching = touching;
         self.closes = false;
         self.asked = 0;
+        self.asking.begin(view)
     }
 
     /// How many of those that come first are kept.
@@ -123,13 +121,14 @@ impl Clashes {
 
     /// Looks at two that meet.
     fn take(&mut self, view: View, seeker: &mut Seeker, met: &mut Met) -> Result<(), Memory> {
-        let meeting = met.meeting;
-        let (one, other) = (meeting.one, meeting.other);
-        if self.asks() && (closes(view, seeker, one, other) || closes(view, seeker, other, one)) {
-            return self.keep_alone(meeting);
+        if self.asks() && self.asking.closes(view, seeker, met) {
+            return self.keep_alone(met.meeting);
         }
         match self.weight(view, met) {
-            Some(weight) => self.keep(Clash { weight, meeting }),
+            Some(weight) => self.keep(Clash {
+                weight,
+                meeting: met.meeting,
+            }),
             None => Ok(()),
         }
     }
@@ -188,7 +187,7 @@ impl Clashes {
         by: By,
         touching: bool,
     ) -> Result<Option<Clash>, Memory> {
-        self.begin(by, touching);
+        self.begin(view, by, touching)?;
         for all in meetings.each_mut().iter_mut() {
             self.look_at(view, seeker, all.as_mut_slice())?;
         }

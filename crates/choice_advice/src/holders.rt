@@ -124,9 +124,12 @@ fn rise(holders: &mut [Holder], place: usize) {
     }
 }
 
-/// The place of an operation among holders.
-fn place_of(holders: &[Holder], number: u32) -> Option<usize> {
-    holders.iter().position(|holder| holder.number == number)
+/// The place of an operation that starts at a time among holders.
+fn place_of(holders: &[Holder], number: u32, start: u64) -> Option<usize> {
+    let first = holders.partition_point(|holder| holder.start < start);
+    let there = holders.get(first..)?;
+    let place = there.iter().position(|holder| holder.number == number)?;
+    Some(first.saturating_add(place))
 }
 
 /// Notes when a holder was held before, and when it is now.
@@ -142,10 +145,10 @@ fn note_move(span: &mut Span, forced: &mut Span, before: &Holder, now: &Holder) 
 }
 
 impl Resource {
-    /// Has an operation be held as it is now.
-    fn move_to(&mut self, number: u32, spot: Spot) {
+    /// Has an operation that started at a time be held as it is now.
+    fn move_to(&mut self, number: u32, start: u64, spot: Spot) {
         let holders = self.holders.as_mut_slice();
-        let Some(place) = place_of(holders, number) else {
+        let Some(place) = place_of(holders, number, start) else {
             return;
         };
         if let Some(holder) = holders.get_mut(place) {
@@ -216,12 +219,18 @@ impl Holders {
         Ok(())
     }
 
-    /// Has an operation that lists a resource be held as it is now.
-    pub(crate) fn move_to(&mut self, resource: u32, number: u32, spot: Spot) -> Result<(), Memory> {
+    /// Has an operation that lists a resource, and started at a time, be held as it is now.
+    pub(crate) fn move_to(
+        &mut self,
+        resource: u32,
+        number: u32,
+        start: u64,
+        spot: Spot,
+    ) -> Result<(), Memory> {
         let Some(place) = self.each.get_mut(resource as usize) else {
             return Ok(());
         };
-        place.move_to(number, spot);
+        place.move_to(number, start, spot);
         if !place.stale {
             place.stale = true;
             self.stale.push(resource)?;

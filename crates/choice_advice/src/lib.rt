@@ -6,6 +6,7 @@
 #![tactic(auto)]
 
 mod adviser;
+mod asking;
 mod changes;
 mod clash;
 mod clashes;

@@ -5,7 +5,7 @@ use std::alloc::Global;
 /// An arc, and the one that was kept before it from the same operation.
 #[derive(Clone, Copy)]
 pub(crate) struct Link {
-    from: u32,
+    pub from: u32,
     pub to: u32,
     /// How much later the operation `to` starts, at least.
     pub length: u64,
@@ -18,6 +18,9 @@ pub(crate) struct Link {
 pub(crate) struct Links {
     last: Vec<Option<u32>>,
     each: Vec<Link>,
+    /// How many of them were there at the turn before this one, and are there still.
+    kept: usize,
+    turn: u64,
 }
 
 impl Links {
@@ -30,7 +33,25 @@ impl Links {
         Ok(Links {
             last,
             each: Vec::new(alloc),
+            kept: 0,
+            turn: 0,
         })
+    }
+
+    /// Begins a turn: all arcs that are kept from now on are new in it.
+    pub(crate) fn begin_turn(&mut self) {
+        self.kept = self.each.len();
+        self.turn = self.turn.saturating_add(1);
+    }
+
+    /// How many turns there were.
+    pub(crate) fn turn(&self) -> u64 {
+        self.turn
+    }
+
+    /// The arcs that are new in this turn.
+    pub(crate) fn fresh(&self) -> &[Link] {
+        self.each.get(self.kept..).unwrap_or(&[])
     }
 
     /// How many arcs there are.

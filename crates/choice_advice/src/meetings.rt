@@ -1,5 +1,5 @@
 use crate::holders::{Holder, Moved, Span};
-use crate::spots::NEVER;
+use crate::spots::{NEVER, Spots};
 use disp_model::Memory;
 use std::alloc::Global;
 
@@ -23,7 +23,7 @@ pub(crate) struct Meeting {
     pub touches: bool,
 }
 
-/// What is known of how much the orders of two that meet weigh.
+/// How much the orders of two that meet weigh, as long as their trains are not looked at again.
 #[derive(Clone, Copy)]
 pub(crate) struct Weighed {
     pub weight: u64,
@@ -33,13 +33,44 @@ pub(crate) struct Weighed {
     pub turn: u64,
 }
 
-/// Two that meet, their trains, and what is known of how much their orders weigh.
+impl Weighed {
+    /// Of a turn before any train was looked at.
+    const NOTHING: Weighed = Weighed {
+        weight: NEVER,
+        exact: false,
+        turn: 0,
+    };
+}
+
+/// When it was found that no order of two that meet closes a cycle: the turn of the trains, and that
+/// of the arcs.
+#[derive(Clone, Copy)]
+pub(crate) struct Asked {
+    pub turn: u64,
+    pub arcs: u64,
+}
+
+impl Asked {
+    /// Before any train was looked at.
+    pub(crate) const NOTHING: Asked = Asked { turn: 0, arcs: 0 };
+}
+
+/// Two that meet, their trains, and what is known of how much their orders weigh and of whether one
+/// of them closes a cycle.
 #[derive(Clone, Copy)]
 pub(crate) struct Met {
     pub meeting: Meeting,
     pub one_train: u32,
     pub other_train: u32,
-    pub weighed: Option<Weighed>,
+    pub weighed: Weighed,
+    pub asked: Asked,
+}
+
+impl Met {
+    /// Whether neither train was looked at again since a turn.
+    pub(crate) fn is_as_at(&self, spots: &Spots, turn: u64) -> bool {
+        spots.is_as_at(self.one_train, turn) && spots.is_as_at(self.other_train, turn)
+    }
 }
 
 /// How the operations that list a resource meet, for each resource.
@@ -87,7 +118,8 @@ fn meet(met: &mut Vec<Met>, one: &Holder, later: &[Holder]) -> Result<(), Memory
                 meeting,
                 one_train: one.train,
                 other_train: other.train,
-                weighed: None,
+                weighed: Weighed::NOTHING,
+                asked: Asked::NOTHING,
             })?;
         }
     }

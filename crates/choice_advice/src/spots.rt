@@ -277,15 +277,15 @@ impl Spots {
         Ok(())
     }
 
-    /// Whether an operation at a place among those that were looked at last is held otherwise than
-    /// before.
-    pub(crate) fn has_moved(&self, place: usize, number: u32) -> bool {
+    /// When an operation at a place among those that were looked at last started before, if it is
+    /// held otherwise now.
+    pub(crate) fn moved_from(&self, place: usize, number: u32) -> Option<u64> {
         let spot = self.at(number);
-        match self.before.get(place) {
-            Some(before) => {
-                before.start != spot.start || before.end != spot.end || before.forced != spot.forced
-            }
-            None => true,
+        let before = self.before.get(place)?;
+        if before.start != spot.start || before.end != spot.end || before.forced != spot.forced {
+            Some(before.start)
+        } else {
+            None
         }
     }
 
