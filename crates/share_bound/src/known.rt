@@ -57,8 +57,9 @@ pub struct KnownShare {
 /// How many shares of a train are kept beside the last one.
 const MOST_EARLIER: usize = 7;
 
-/// Of each train the share that was reckoned last, if one is known, by the routes that are allowed
-/// at the node of a graph. It is the share at the node where the bases of the train are the same.
+/// Of each train shares that were reckoned, if some are known, by the routes that are allowed at the
+/// node of a graph. One of them is the share at the node where the bases of the train are the same:
+/// a search comes back to bases that it left a few nodes before.
 #[derive(Drop)]
 pub struct KnownShares {
     pub(crate) each: Vec<Option<KnownShare>>,
