@@ -1,7 +1,8 @@
 -- What is known of trains holds with a decision more that is not about them, and without it.
 use Rattle.std.proofs.Common.{◌≡◌, ◌≢◌, ◌∙◌, ◌<◌, ◌++◌, ℕ, zero, suc, List, [], ◌∷◌, Option, Some, None, length, refl, sym, ap, subst, inl, inr}
-use Rattle.std.specs.Prelude.{slice_set, slice_index_or, IfSome}
-use Rattle.std.proofs.lemmas.Option.{none-some, same_Some}
+use Rattle.std.specs.Prelude.{⊤, All, OnOk, Result, Ok, Err, slice_get, slice_set, slice_index_or, IfSome}
+use Rattle.std.proofs.lemmas.Option.{none-some, same_Some, slice_get_within, get_or_from_slice_get}
+use Rattle.std.proofs.lemmas.List.Elements.{All-weaker, All-get_or, All-set}
 use Rattle.std.proofs.lemmas.List.{get_or-set_same, get_or-set_other, get_or_default, length-set}
 use Rattle.disp_model.specs.declared.decision.Decision.{Decision}
 use Rattle.disp_model.specs.Node.{Node, with_decision}
@@ -9,9 +10,12 @@ use Rattle.disp_model.specs.Shares.{IsReach, IsShareOver}
 use Rattle.train_orders.proofs.Places.{same_number}
 use Rattle.event_arcs.specs.Owned.{train_of_decision}
 use Rattle.event_arcs.proofs.Extending.{allowed_before, allowed_still}
+use Rattle.share_bound.specs.declared.known.ShareOver.{ShareOver}
 use Rattle.share_bound.specs.declared.known.KnownShare.{KnownShare}
 use Rattle.share_bound.specs.declared.known.KnownShares.{KnownShares}
-use Rattle.share_bound.specs.Known.{known_of, HoldsFor, HoldFor, IsAboutNone, IsCurrentShare, IsShareCurrent}
+use Rattle.share_bound.specs.Times.{base_in}
+use Rattle.share_bound.specs.Leasts.{IsFittedShare}
+use Rattle.share_bound.specs.Known.{known_of, HoldsOver, HoldsFor, HoldFor, IsAboutNone, AreBasesOf, IsCurrentOver, IsCurrentShare, IsShareCurrent, IsPlaceOf}
 
 -- ---- one train, whose routes the decision is not about
 
@@ -69,24 +73,62 @@ module _ (node : Node) (decision : Decision) (t : ℕ) (other : train_of_decisio
       least = λ route allowed. is.least route (allowed_still node decision t route other allowed);
     }
 
+    fitted_below : (base : ℕ → ℕ) (found : ℕ) → IsFittedShare node t base found
+        → IsFittedShare (with_decision node decision) t base found
+    fitted_below base found is = record {
+      share = is.share;
+      share_is = share_below base is.share is.share_is;
+      found_is = is.found_is;
+    }
+
+    fitted_above : (base : ℕ → ℕ) (found : ℕ)
+        → IsFittedShare (with_decision node decision) t base found → IsFittedShare node t base found
+    fitted_above base found is = record {
+      share = is.share;
+      share_is = share_above base is.share is.share_is;
+      found_is = is.found_is;
+    }
+
+    over_below : (one : ShareOver) → HoldsOver node t one
+        → HoldsOver (with_decision node decision) t one
+    over_below one holds = record {
+      share = fitted_below (base_in one.bases.items) one.share holds.share;
+      shows = λ showing is listing listed.
+          let before = holds.shows showing is listing listed in
+          record {
+            share = fitted_below (base_in listing.bases.items) listing.share before.share;
+            long = before.long;
+            within = before.within;
+          };
+    }
+
+    over_above : (one : ShareOver) → HoldsOver (with_decision node decision) t one
+        → HoldsOver node t one
+    over_above one holds = record {
+      share = fitted_above (base_in one.bases.items) one.share holds.share;
+      shows = λ showing is listing listed.
+          let before = holds.shows showing is listing listed in
+          record {
+            share = fitted_above (base_in listing.bases.items) listing.share before.share;
+            long = before.long;
+            within = before.within;
+          };
+    }
+
     holds_below : (known : KnownShare) → HoldsFor node t known
         → HoldsFor (with_decision node decision) t known
-    holds_below known is = record {
-      share = record {
-        share = is.share.share;
-        share_is = share_below _ is.share.share is.share.share_is;
-        found_is = is.share.found_is;
-      };
+    holds_below known holds = record {
+      last = over_below known.last holds.last;
+      earlier = All-weaker (HoldsOver node t) (HoldsOver (with_decision node decision) t) over_below
+          known.earlier.items holds.earlier;
     }
 
     holds_above : (known : KnownShare) → HoldsFor (with_decision node decision) t known
         → HoldsFor node t known
-    holds_above known is = record {
-      share = record {
-        share = is.share.share;
-        share_is = share_above _ is.share.share is.share.share_is;
-        found_is = is.share.found_is;
-      };
+    holds_above known holds = record {
+      last = over_above known.last holds.last;
+      earlier = All-weaker (HoldsOver (with_decision node decision) t) (HoldsOver node t) over_above
+          known.earlier.items holds.earlier;
     }
 
 -- ---- all of which something is known
@@ -203,3 +245,43 @@ pub read_known : (each : List (Option KnownShare)) (t : ℕ) (read : Option Know
     (one : KnownShare) → t < length each → read ≡ slice_index_or each t read → read ≡ Some one
     → known_of each t ≡ Some one
 read_known each t read one there is some = get_or_default each t None read there ∙ sym is ∙ some
+
+-- nothing is put in place of what was known of one
+pub none_holds : (node : Node) (old new : KnownShares) (u : ℕ) → u < length old.each.items
+    → new.each.items ≡ slice_set old.each.items u None → HoldFor node old → HoldFor node new
+none_holds node old new u there is hold = put_holds node old new u None there is
+    (same_length old.each.items new.each.items u None is) hold (λ one some. absurd (none-some one some))
+
+-- an earlier share and the last one in each other's place
+pub recalled : (node : Node) (t : ℕ) (old new : KnownShare) (read : List ShareOver) (place : ℕ)
+    → read ≡ old.earlier.items → IsPlaceOf node t read place → HoldsFor node t old
+    → slice_get old.earlier.items place ≡ Some new.last
+    → new.earlier.items ≡ slice_set old.earlier.items place old.last → IsCurrentShare node t new
+recalled node t old new read place same found holds last earlier = record {
+  bases = subst (λ (one : ShareOver). AreBasesOf node t one.bases.items)
+      (same_Some found.one new.last (sym found.one_is ∙ ap (λ (l : List ShareOver). slice_get l place) same
+      ∙ last)) found.bases;
+  holds = record {
+    last = subst (HoldsOver node t)
+        (get_or_from_slice_get old.earlier.items place new.last new.last last)
+        (All-get_or (HoldsOver node t) old.earlier.items place new.last
+        (slice_get_within old.earlier.items place new.last last) holds.earlier);
+    earlier = subst (All (HoldsOver node t)) (sym earlier)
+        (All-set (HoldsOver node t) old.earlier.items place old.last holds.last holds.earlier);
+  };
+}
+
+-- a share that is new, behind which the last one is an earlier one
+pub added : {E : Type 0} (node : Node) (t : ℕ) (share : ShareOver) (new : KnownShare)
+    (result : Result ⊤ E)
+    → IsCurrentOver node t share → new.last ≡ share
+    → OnOk result (All (HoldsOver node t) new.earlier.items)
+    → OnOk result (IsCurrentShare node t new)
+added node t share new (Ok done) current last earlier = record {
+  bases = subst (λ (one : ShareOver). AreBasesOf node t one.bases.items) (sym last) current.bases;
+  holds = record {
+    last = subst (HoldsOver node t) (sym last) current.holds;
+    earlier = earlier;
+  };
+}
+added node t share new (Err failed) current last earlier = earlier

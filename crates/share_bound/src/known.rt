@@ -1,4 +1,4 @@
-ghost use Rattle.std.specs.Prelude.{ℕ, ◌≡◌, ◌<◌, ◌↔◌, IsTrue, IfOk, IfSome, OnOk, MatchOption, Some, length, slice_set};
+ghost use Rattle.std.specs.Prelude.{ℕ, ◌≡◌, ◌<◌, ◌↔◌, All, IsTrue, IfOk, IfSome, OnOk, MatchOption, Some, length, slice_get, slice_set};
 ghost use Rattle.disp_model.specs.declared.settings.Rule.TheVariants.{Free};
 ghost use Rattle.disp_model.specs.Node.{Node, with_decision};
 ghost use Rattle.disp_model.specs.Valid.{train_at};
@@ -7,7 +7,8 @@ ghost use Rattle.event_arcs.specs.Owned.{train_of_decision};
 ghost use Rattle.share_bound.specs.declared.known.KnownShare.{KnownShare as KnownShareOf};
 ghost use Rattle.share_bound.specs.Bases.{AreBasesTo, IsShareWithin};
 ghost use Rattle.problem_facts.specs.Components.{AreOwnOf};
-ghost use Rattle.share_bound.specs.Known.{known_of, HoldsFor, HoldFor, IsAboutNone, IsCurrentShare, IsShareCurrent};
+ghost use Rattle.share_bound.specs.declared.known.TheConstants.{MOST_EARLIER};
+ghost use Rattle.share_bound.specs.Known.{known_of, AreBasesOf, HoldsOver, HoldsFor, HoldFor, IsAboutNone, IsCurrentOver, IsCurrentShare, IsShareCurrent, IsPlaceOf, Shows};
 
 use crate::bases::{bases_in, bases_of};
 use crate::shares::{share_over, train_of};
@@ -18,15 +19,47 @@ use problem_facts::OwnComponents;
 use std::alloc::Global;
 use std::mem;
 
-/// The share of a train over bases of its operations.
+/// How a leaf shows at least a part of a train's share that lists the train: by walks to so many of
+/// its operations, which show these bases, and the share over them.
 #[derive(Drop)]
-pub struct KnownShare {
+pub struct Listing {
     pub bases: Vec<u64>,
     pub share: u64,
+    pub walks: usize,
 }
 
-/// Of each train the share that was reckoned last, if one is known, by the routes that are allowed
-/// at the node of a graph. It is the share at the node where the bases of the train are the same.
+/// How a leaf shows the share of a train.
+#[derive(Drop)]
+pub enum LeafPart {
+    /// By walks to so many of its components.
+    Beside(usize),
+    /// By the train, which is listed.
+    Listed(Listing),
+}
+
+/// The share of a train over bases of its operations, and how a leaf shows it, if that is known.
+#[derive(Drop)]
+pub struct ShareOver {
+    pub bases: Vec<u64>,
+    pub share: u64,
+    pub showing: Option<LeafPart>,
+}
+
+/// Shares of a train over bases of its operations: the one that was asked for last, and some that
+/// were asked for earlier.
+#[derive(Drop)]
+pub struct KnownShare {
+    pub last: ShareOver,
+    pub(crate) earlier: Vec<ShareOver>,
+    pub(crate) next: usize,
+}
+
+/// How many shares of a train are kept beside the last one.
+const MOST_EARLIER: usize = 7;
+
+/// Of each train shares that were reckoned, if some are known, by the routes that are allowed at the
+/// node of a graph. One of them is the share at the node where the bases of the train are the same:
+/// a search comes back to bases that it left a few nodes before.
 #[derive(Drop)]
 pub struct KnownShares {
     pub(crate) each: Vec<Option<KnownShare>>,
@@ -48,13 +81,12 @@ fn are_bases(graph: &Graph, train: u32, bases: &[u64]) -> bool
     are_same(bases_in(graph, train, bases.len()), bases)
 }
 
-impl KnownShare {
-    /// Whether it is the share of a train at the node of a graph of the problem.
+impl ShareOver {
+    /// Whether these are the bases of a train at the node of a graph of the problem.
     fn is_current(&self, problem: &Problem, graph: &Graph, train: u32) -> bool
         requires node { graph.now.problem ≡ problem.now }
         requires train { train < length problem.now.trains }
-        ensures { IsTrue result → HoldsFor graph.now train self.now
-            → IsCurrentShare graph.now train self.now }
+        ensures { IsTrue result → AreBasesOf graph.now train self.now.bases.items }
     {
         if self.bases.len() != train_of(problem, train).len() {
             return false;
@@ -69,16 +101,147 @@ impl KnownShare {
         components: &OwnComponents,
         graph: &Graph,
         train: u32,
-    ) -> Result<KnownShare, Memory>
+    ) -> Result<ShareOver, Memory>
         requires node { graph.now.problem ≡ problem.now }
         requires own { AreOwnOf problem.now components.now }
         requires train { train < length problem.now.trains }
-        ensures { IfOk result (IsCurrentShare graph.now train) }
+        ensures { IfOk result (IsCurrentOver graph.now train) }
     {
         let count = train_of(problem, train).len();
         let bases = bases_of(alloc, graph, train, count)?;
         let share = share_over(alloc, problem, components, graph, train, &bases)?;
-        Ok(KnownShare { bases, share })
+        Ok(ShareOver {
+            bases,
+            share,
+            showing: None,
+        })
+    }
+}
+
+/// Where among shares of a train one is over its bases at the node of a graph of the problem.
+fn place_of(problem: &Problem, graph: &Graph, train: u32, shares: &[ShareOver]) -> Option<usize>
+    requires node { graph.now.problem ≡ problem.now }
+    requires train { train < length problem.now.trains }
+    ensures { IfSome result (IsPlaceOf graph.now train shares.now) }
+{
+    for place in 0..shares.len() {
+        if shares[place].is_current(problem, graph, train) {
+            return Some(place);
+        }
+    }
+    None
+}
+
+/// Puts a share behind others, or where there are as many as are kept in one's place.
+fn put_among(shares: &mut Vec<ShareOver>, place: usize, share: ShareOver) -> Result<(), Memory>
+    requires { place < MOST_EARLIER }
+    ensures { (node : Node) (t : ℕ) → All (HoldsOver node t) shares.old.items
+        → HoldsOver node t share → OnOk result (All (HoldsOver node t) shares.new.items) }
+{
+    if shares.len() < MOST_EARLIER {
+        shares.push(share)?;
+        return Ok(());
+    }
+    shares[place] = share;
+    Ok(())
+}
+
+impl KnownShare {
+    /// Puts one of the earlier shares and the last one in each other's place.
+    fn recall(&mut self, place: usize)
+        requires { place < length self.old.earlier.items }
+        ensures last { slice_get self.old.earlier.items place ≡ Some self.new.last }
+        ensures earlier { self.new.earlier.items
+            ≡ slice_set self.old.earlier.items place self.old.last }
+    {
+        mem::swap(&mut self.last, &mut self.earlier[place]);
+    }
+
+    /// Puts a share in the place of the last one, which is one of the earlier ones then.
+    fn add(&mut self, share: ShareOver) -> Result<(), Memory>
+        ensures last { self.new.last ≡ share }
+        ensures earlier { (node : Node) (t : ℕ) → HoldsFor node t self.old
+            → OnOk result (All (HoldsOver node t) self.new.earlier.items) }
+    {
+        let place = self.next % MOST_EARLIER;
+        self.next = place + 1;
+        let last = mem::replace(&mut self.last, share);
+        put_among(&mut self.earlier, place, last)
+    }
+
+    /// Has the share of a train at the node of a graph of the problem be the last one.
+    fn turn(
+        &mut self,
+        alloc: Global,
+        problem: &Problem,
+        components: &OwnComponents,
+        graph: &Graph,
+        train: u32,
+    ) -> Result<(), Memory>
+        requires node { graph.now.problem ≡ problem.now }
+        requires own { AreOwnOf problem.now components.now }
+        requires train { train < length problem.now.trains }
+        requires holds { HoldsFor graph.now train self.old }
+        ensures { OnOk result (IsCurrentShare graph.now train self.new) }
+    {
+        if let Some(place) = place_of(problem, graph, train, &self.earlier) {
+            self.recall(place);
+            return Ok(());
+        }
+        let share = ShareOver::of(alloc, problem, components, graph, train)?;
+        self.add(share)
+    }
+}
+
+/// What is known of a train where the last share is the one at the node of a graph of the problem.
+fn renewed(
+    alloc: Global,
+    problem: &Problem,
+    components: &OwnComponents,
+    graph: &Graph,
+    train: u32,
+    known: Option<KnownShare>,
+) -> Result<KnownShare, Memory>
+    requires node { graph.now.problem ≡ problem.now }
+    requires own { AreOwnOf problem.now components.now }
+    requires train { train < length problem.now.trains }
+    requires known { IfSome known (HoldsFor graph.now train) }
+    ensures { IfOk result (IsCurrentShare graph.now train) }
+{
+    match known {
+        Some(known) => {
+            let mut known = known;
+            known.turn(alloc, problem, components, graph, train)?;
+            Ok(known)
+        }
+        None => Ok(KnownShare {
+            last: ShareOver::of(alloc, problem, components, graph, train)?,
+            earlier: Vec::new(alloc),
+            next: 0,
+        }),
+    }
+}
+
+/// What is known of a train, with how a leaf shows the last share.
+fn shown(known: KnownShare, showing: LeafPart) -> KnownShare
+    ensures bases { result.last.bases ≡ known.last.bases }
+    ensures holds { (node : Node) (t : ℕ) → HoldsFor node t known
+        → Shows node t known.last.bases.items showing → HoldsFor node t result }
+{
+    let KnownShare {
+        last,
+        earlier,
+        next,
+    } = known;
+    let ShareOver { bases, share, .. } = last;
+    KnownShare {
+        last: ShareOver {
+            bases,
+            share,
+            showing: Some(showing),
+        },
+        earlier,
+        next,
     }
 }
 
@@ -107,7 +270,7 @@ impl KnownShares {
         ensures { IsTrue result → IsShareCurrent graph.now train self.now }
     {
         match &self.each[train as usize] {
-            Some(known) => known.is_current(problem, graph, train),
+            Some(known) => known.last.is_current(problem, graph, train),
             None => false,
         }
     }
@@ -157,7 +320,8 @@ impl KnownShares {
         if self.knows(problem, graph, train) {
             return Ok(());
         }
-        let known = KnownShare::of(alloc, problem, components, graph, train)?;
+        let was = self.put(train, None);
+        let known = renewed(alloc, problem, components, graph, train, was)?;
         self.keep(graph, train, known);
         Ok(())
     }
@@ -171,6 +335,21 @@ impl KnownShares {
         match &self.each[train as usize] {
             Some(known) => known,
             None => unreachable!(),
+        }
+    }
+
+    /// Keeps how a leaf shows the share of a train at the node of a graph, which is known.
+    pub fn show(&mut self, graph: &Graph, train: u32, showing: LeafPart)
+        requires train { train < length graph.now.problem.trains }
+        requires known { HoldFor graph.now self.old }
+        requires current { IsShareCurrent graph.now train self.old }
+        requires shows { (one : KnownShareOf) → known_of self.old.each.items train ≡ Some one
+            → Shows graph.now train one.last.bases.items showing }
+        ensures known { HoldFor graph.now self.new }
+        ensures current { IsShareCurrent graph.now train self.new }
+    {
+        if let Some(known) = self.put(train, None) {
+            self.keep(graph, train, shown(known, showing));
         }
     }
 
@@ -191,7 +370,7 @@ impl KnownShares {
         ensures share { IfOk result (IsShareWithin graph.now train) }
     {
         self.renew(alloc, problem, components, graph, train)?;
-        Ok(self.of_train(train).share)
+        Ok(self.of_train(train).last.share)
     }
 
     /// The bound of a node of the problem under the free rule, as `free_cost` says it. Only shares

@@ -17,7 +17,7 @@ mod times;
 
 pub use bases::{base_of, bases_of};
 pub use free::{FreeBound, free_bound};
-pub use known::{KnownShare, KnownShares};
+pub use known::{KnownShare, KnownShares, LeafPart, Listing, ShareOver};
 pub use prices::cost_of;
 pub use shares::{free_cost, share, share_over, train_of};
 pub use shown::{ShownShare, shown_share};

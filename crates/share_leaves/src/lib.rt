@@ -6,6 +6,7 @@
 //! of `share_bound` is given.
 #![tactic(auto)]
 
+mod kept;
 mod listed;
 mod needed;
 mod short;

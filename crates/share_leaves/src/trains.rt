@@ -1,16 +1,18 @@
 ghost use Rattle.std.specs.Prelude.{◌≡◌, ◌+◌, ◌<◌, IfOk, OnOk, length};
-ghost use Rattle.disp_model.specs.Valid.{train_at};
-ghost use Rattle.share_bound.specs.Bases.{AddUpTo, AreBasesTo, IsShareWithin};
+ghost use Rattle.share_bound.specs.Bases.{AddUpTo};
 ghost use Rattle.problem_facts.specs.Components.{AreOwnOf};
-ghost use Rattle.share_leaves.specs.Listed.{AreListed};
-ghost use Rattle.share_bound.specs.Known.{HoldFor, IsCurrentShare};
+ghost use Rattle.share_leaves.specs.Listed.{AreListed, HoldsLow};
+ghost use Rattle.share_bound.specs.declared.known.Listing.{Listing as ListingOf};
+ghost use Rattle.share_bound.specs.declared.known.LeafPart.TheVariants.{Listed as ListedAs};
+ghost use Rattle.share_bound.specs.Known.{AreBasesOf, HoldFor, HoldsListing, HoldsOver, IsShareCurrent, Shows};
 
-use crate::listed::{ShownBases, shown_bases};
+use crate::kept::{count_wanted, kept};
+use crate::listed::walks_to;
 use crate::needed::deciding;
 use disp_model::{Component, List, Memory, Problem, TrainWalks};
 use event_graph::Graph;
 use problem_facts::OwnComponents;
-use share_bound::{KnownShare, KnownShares, cost_of, share_over, train_of};
+use share_bound::{KnownShares, LeafPart, Listing, ShareOver, cost_of, share_over, train_of};
 use std::alloc::Global;
 
 /// Trains with walks that show their shares, and what these come to at least.
@@ -47,23 +49,20 @@ fn forced_cost(graph: &Graph, components: &[Component], train: u32, lengths: &[u
     forced
 }
 
-/// Lists a train with the walks that its share needs, by the lengths of its operations.
-fn show(
+/// How a leaf lists a train, by the lengths of its operations.
+fn listing_of(
     alloc: Global,
     problem: &Problem,
     components: &OwnComponents,
     graph: &Graph,
     train: u32,
     lengths: &[u64],
-    listed: &mut Listed,
-) -> Result<(), Memory>
+) -> Result<Listing, Memory>
     requires node { graph.now.problem ≡ problem.now }
     requires own { AreOwnOf problem.now components.now }
     requires train { train < length problem.now.trains }
-    requires lengths { AreBasesTo graph.now train (length (train_at graph.now.problem train))
-        lengths.now }
-    requires before { AreListed graph.now train listed.old }
-    ensures { OnOk result (AreListed graph.now (train + 1) listed.new) }
+    requires lengths { AreBasesOf graph.now train lengths.now }
+    ensures { IfOk result (HoldsListing graph.now train lengths.now) }
 {
     let operations = train_of(problem, train);
     let routes = graph.routes(train);
@@ -76,40 +75,126 @@ fn show(
         routes.rows(),
         lengths,
     )?;
-    let ShownBases { bases, walks } = shown_bases(alloc, graph, train, lengths, &wanted)?;
+    let bases = kept(alloc, graph, train, lengths, &wanted)?;
     let share = share_over(alloc, problem, components, graph, train, &bases)?;
-    listed.trains.push(TrainWalks { train, walks })?;
-    listed.cost = listed.cost.saturating_add(share);
-    Ok(())
+    let walks = count_wanted(graph, train, &wanted);
+    Ok(Listing {
+        bases,
+        share,
+        walks,
+    })
 }
 
-/// The share of a train, which is listed where its forced components cost less.
-fn list(
+/// How a leaf shows the share of a train: it lists the train where its forced components cost less.
+fn part_of(
     alloc: Global,
     problem: &Problem,
     components: &OwnComponents,
     graph: &Graph,
     train: u32,
-    known: &KnownShare,
-    listed: &mut Listed,
-) -> Result<u64, Memory>
+    known: &ShareOver,
+) -> Result<LeafPart, Memory>
     requires node { graph.now.problem ≡ problem.now }
     requires own { AreOwnOf problem.now components.now }
     requires train { train < length problem.now.trains }
-    requires known { IsCurrentShare graph.now train known.now }
-    requires before { AreListed graph.now train listed.old }
-    ensures share { IfOk result (IsShareWithin graph.now train) }
-    ensures listed { OnOk result (AreListed graph.now (train + 1) listed.new) }
+    requires bases { AreBasesOf graph.now train known.now.bases.items }
+    ensures { IfOk result (Shows graph.now train known.now.bases.items) }
 {
     let lengths = known.bases.as_slice();
-    let share = known.share;
     let forced = forced_cost(graph, components.of_train(train), train, lengths);
-    if share <= forced.cost {
-        listed.beside = listed.beside.saturating_add(forced.count);
-        return Ok(share);
+    if known.share <= forced.cost {
+        return Ok(LeafPart::Beside(forced.count));
     }
-    show(alloc, problem, components, graph, train, lengths, listed)?;
-    Ok(share)
+    let listing = listing_of(alloc, problem, components, graph, train, lengths)?;
+    Ok(LeafPart::Listed(listing))
+}
+
+/// Has it be known how a leaf shows the share of a train, which is known.
+fn prepare(
+    alloc: Global,
+    problem: &Problem,
+    components: &OwnComponents,
+    graph: &Graph,
+    train: u32,
+    known: &mut KnownShares,
+) -> Result<(), Memory>
+    requires node { graph.now.problem ≡ problem.now }
+    requires own { AreOwnOf problem.now components.now }
+    requires train { train < length problem.now.trains }
+    requires known { HoldFor graph.now known.old }
+    requires current { IsShareCurrent graph.now train known.old }
+    ensures known { HoldFor graph.now known.new }
+    ensures current { OnOk result (IsShareCurrent graph.now train known.new) }
+{
+    let current = &known.of_train(train).last;
+    if current.showing.is_some() {
+        return Ok(());
+    }
+    let part = part_of(alloc, problem, components, graph, train, current)?;
+    known.show(graph, train, part);
+    Ok(())
+}
+
+/// Lists a train with the walks that its share needs.
+fn show(
+    alloc: Global,
+    graph: &Graph,
+    train: u32,
+    listing: &Listing,
+    listed: &mut Listed,
+) -> Result<(), Memory>
+    requires train { train < length graph.now.problem.trains }
+    requires holds { HoldsLow graph.now train listing.now }
+    requires before { AreListed graph.now train listed.old }
+    ensures { OnOk result (AreListed graph.now (train + 1) listed.new) }
+{
+    let walks = walks_to(alloc, graph, train, &listing.bases, listing.walks)?;
+    listed.trains.push(TrainWalks { train, walks })?;
+    listed.cost = listed.cost.saturating_add(listing.share);
+    Ok(())
+}
+
+/// Lists a train, where a leaf is to show its share so.
+fn list_part(
+    alloc: Global,
+    graph: &Graph,
+    train: u32,
+    part: &LeafPart,
+    listed: &mut Listed,
+) -> Result<(), Memory>
+    requires train { train < length graph.now.problem.trains }
+    requires holds { (listing : ListingOf) → part.now ≡ ListedAs listing
+        → HoldsLow graph.now train listing }
+    requires before { AreListed graph.now train listed.old }
+    ensures { OnOk result (AreListed graph.now (train + 1) listed.new) }
+{
+    match part {
+        LeafPart::Listed(listing) => show(alloc, graph, train, listing, listed),
+        LeafPart::Beside(walks) => {
+            listed.beside = listed.beside.saturating_add(*walks);
+            Ok(())
+        }
+    }
+}
+
+/// Lists a train, where it is known that a leaf is to show its share so.
+fn list(
+    alloc: Global,
+    graph: &Graph,
+    train: u32,
+    known: &ShareOver,
+    listed: &mut Listed,
+) -> Result<(), Memory>
+    requires train { train < length graph.now.problem.trains }
+    requires bases { AreBasesOf graph.now train known.now.bases.items }
+    requires holds { HoldsOver graph.now train known.now }
+    requires before { AreListed graph.now train listed.old }
+    ensures { OnOk result (AreListed graph.now (train + 1) listed.new) }
+{
+    match &known.showing {
+        Some(part) => list_part(alloc, graph, train, part, listed),
+        None => Ok(()),
+    }
 }
 
 /// The shares of all trains together, and those trains whose share is more than their forced
@@ -146,16 +231,10 @@ pub(crate) fn list_trains(
     for train in 0..problem.trains.len() {
         let train = train as u32;
         known.renew(alloc, problem, components, graph, train)?;
-        let current = known.of_train(train);
-        let share = list(
-            alloc,
-            problem,
-            components,
-            graph,
-            train,
-            current,
-            &mut listed,
-        )?;
+        prepare(alloc, problem, components, graph, train, known)?;
+        let current = &known.of_train(train).last;
+        list(alloc, graph, train, current, &mut listed)?;
+        let share = current.share;
         total += share;
     }
     Ok(Shares { listed, total })

@@ -15,5 +15,8 @@ returns-in-Some c = λ is.
       there = there;
       one = c.in-Some.known;
       known_is = known;
-      current = c.is_current.ensures is (c.requires.known.each t c.in-Some.known known);
+      current = record {
+        bases = c.is_current.ensures is;
+        holds = c.requires.known.each t c.in-Some.known known;
+      };
     }

@@ -17,3 +17,12 @@ returns-in-Some-clause-below c = λ node hold.
 pub returns-in-None-clause-below : goal.returns-in-None-clause-below
 returns-in-None-clause-below c = λ node hold.
     none_below node c.args.decision c.args.self.now c.in-None.ensures hold
+
+pub returns-in-Some-clause-same : goal.returns-in-Some-clause-same
+returns-in-Some-clause-same c = λ node hold.
+    let old = c.args.self.now in
+    let new = c.put.new.self in
+    let u = c.in-Some.train in
+    put_holds node old new u None c.in-Some.ensures.0 c.put.ensures.new
+    (same_length old.each.items new.each.items u None c.put.ensures.new) hold
+    (λ one is. absurd (none-some one is))

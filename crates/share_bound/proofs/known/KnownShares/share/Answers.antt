@@ -11,5 +11,5 @@ returns-clause-share c =
     let known = c.of_train.result.now in
     let current = current_one node t c.renew.new.self known c.in_ok-renew.ensures.current
     c.of_train.ensures in
-    share_of_bases node t (length (train_at node.problem t)) known.bases.items known.bases.items
-    known.share current.bases refl refl current.share
+    share_of_bases node t (length (train_at node.problem t)) known.last.bases.items
+    known.last.bases.items known.last.share current.bases refl refl current.holds.last.share

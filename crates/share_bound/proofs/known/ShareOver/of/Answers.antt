@@ -2,7 +2,7 @@ use Rattle.std.proofs.Common.{ℕ, List, length, ap, arith}
 use Rattle.std.specs.Prelude.{slice_index}
 use Rattle.event_arcs.proofs.Shortness.{horizon_small}
 use Rattle.share_bound.proofs.Sharing.{each_base}
-use Rattle.share_bound.proofs.known.KnownShare.of.Goals as goal
+use Rattle.share_bound.proofs.known.ShareOver.of.Goals as goal
 
 pub share_over-requires-clause-bases : goal.share_over-requires-clause-bases
 share_over-requires-clause-bases c o =
