@@ -61,7 +61,10 @@ fn first_plan(
     };
     let outlook = look_below(alloc, aim, graph, adviser, Wanted::any(FIRST_NODES))?;
     let Outlook {
-        plan, below, whole, ..
+        plan,
+        below,
+        whole,
+        ..
     } = outlook;
     let Some(plan) = plan else {
         return Ok(First {

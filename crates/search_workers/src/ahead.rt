@@ -100,7 +100,11 @@ pub fn guide_ahead(
     ensures same { graph.new ≡ graph.old }
     ensures plan { IfOk result (λ guided. IfSome guided.plan (IsPlanAt graph.old)) }
 {
-    let Foresight { insertions, nodes, draws } = foresight.after(order.as_slice());
+    let Foresight {
+        insertions,
+        nodes,
+        draws,
+    } = foresight.after(order.as_slice());
     let target = target(alloc, problem, fixings, insertions, order)?;
     let ahead = look_ahead(alloc, problem, graph, &target, draws, nodes)?;
     let Ahead { plan, dead_by_time } = ahead;

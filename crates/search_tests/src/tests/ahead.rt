@@ -70,7 +70,14 @@ fn the_best_plan_is_found_ahead(rt: HostRuntime) -> Result<(), Fail> {
     let trains = two_trains(rt.alloc()).expect(&rt, "two trains");
     let fork = forked(rt.alloc()).expect(&rt, "a fork");
     check_along(&rt, rt.alloc(), &trains, 100, "18");
-    check(&rt, rt.alloc(), &trains, &Target::none(rt.alloc()), 100, "18");
+    check(
+        &rt,
+        rt.alloc(),
+        &trains,
+        &Target::none(rt.alloc()),
+        100,
+        "18",
+    );
     check(&rt, rt.alloc(), &fork, &Target::none(rt.alloc()), 100, "5");
     Ok(())
 }
