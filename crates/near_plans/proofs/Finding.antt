@@ -1,5 +1,5 @@
 -- Plans that are found at nodes beside each other.
-use Rattle.std.proofs.Common.{◌≡◌, ◌∙◌, ℕ, ◌≤◌, List, refl, sym, ap, subst}
+use Rattle.std.proofs.Common.{◌≡◌, ◌∙◌, ◌≤◌, List, refl, sym, ap, subst}
 use Rattle.std.specs.Prelude.{All, Contains, Option, Some, IfSome}
 use Rattle.std.proofs.lemmas.Option.{IfSome_then}
 use Rattle.std.proofs.lemmas.List.Elements.{All-contains_itself, All-weaker}
@@ -9,7 +9,7 @@ use Rattle.disp_model.specs.declared.problem.Problem.{Problem}
 use Rattle.disp_model.specs.WellFormed.{horizon}
 use Rattle.disp_model.specs.Node.{Node, node_at}
 use Rattle.disp_model.specs.Valid.{IsValid}
-use Rattle.disp_model.specs.Earliest.{IsEarliest, PicksNone}
+use Rattle.disp_model.specs.Earliest.{IsEarliest}
 use Rattle.disp_laws.proofs.EarliestPlans.{one_earliest}
 use Rattle.disp_laws.proofs.HorizonBounds.{AreSmall, edition_is_small, within_horizon}
 use Rattle.disp_model.specs.declared.settings.Rule.TheVariants.{Free}

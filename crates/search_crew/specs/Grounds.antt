@@ -1,9 +1,7 @@
 -- Where works of an edition are grown.
 use Rattle.std.specs.Prelude.{◌≡◌, ℕ, List, [], Option, IfSome}
-use Rattle.disp_model.specs.declared.entry.Entry.{Entry}
 use Rattle.disp_model.specs.declared.fixing.Fixing.{Fixing}
 use Rattle.disp_model.specs.declared.problem.Problem.{Problem}
-use Rattle.disp_model.specs.History.{newest, fixings_after}
 use Rattle.disp_model.specs.Node.{node_at}
 use Rattle.event_graph.specs.Joined.{IsOfEdition}
 use Rattle.near_plans.specs.Plans.{IsPlanAt}

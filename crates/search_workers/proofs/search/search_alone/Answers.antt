@@ -1,4 +1,4 @@
-use Rattle.std.proofs.Common.{◌≡◌, ◌∙◌, [], ap}
+use Rattle.std.proofs.Common.{◌∙◌, [], ap}
 use Rattle.std.proofs.lemmas.Result.{IfOk-at_ok}
 use Rattle.disp_model.specs.Node.{Node, node_at}
 use Rattle.node_leaves.specs.Shown.{IsDeadLeaf}

@@ -1,5 +1,3 @@
-use Rattle.std.proofs.Common.{[], sym, subst}
-use Rattle.event_graph.specs.Joined.{IsOfEdition}
 use Rattle.event_graph.proofs.Rooting.{of_no_changes}
 use Rattle.search_tests.proofs.tests.ahead.root.Goals as goal
 
