@@ -84,7 +84,7 @@ struct Looked {
 /// What is known of a train's crossings.
 #[derive(Clone, Copy)]
 struct Known {
-    /// Whether the one that comes first is known.
+    /// Whether the one that comes first is known, but for those that are to be looked at again.
     current: bool,
     /// It, if there is one.
     first: Option<Crossing>,
@@ -99,12 +99,35 @@ impl Known {
         first: None,
         turn: 0,
     };
+
+    /// What is known with a crossing that was looked at again.
+    fn with(&self, crossing: Crossing) -> Known {
+        let Some(first) = self.first else {
+            return Known {
+                first: Some(crossing),
+                ..*self
+            };
+        };
+        if first.number != crossing.number {
+            return Known {
+                first: first_of(self.first, crossing),
+                ..*self
+            };
+        }
+        Known {
+            current: !first.is_before(&crossing),
+            first: Some(crossing),
+            turn: self.turn,
+        }
+    }
 }
 
 /// The crossings of the trains, as far as they are known.
 #[derive(Drop)]
 pub(crate) struct Crossings {
     trains: Vec<Known>,
+    /// Of each train the operations that are to be looked at again.
+    changed: Vec<Vec<u32>>,
     /// Of each operation what was found of it.
     looked: Vec<Looked>,
 }
@@ -122,10 +145,12 @@ impl Crossings {
     pub(crate) fn new(alloc: Global, count: usize, trains: usize) -> Result<Crossings, Memory> {
         let mut crossings = Crossings {
             trains: Vec::with_capacity(alloc, trains)?,
+            changed: Vec::with_capacity(alloc, trains)?,
             looked: Vec::with_capacity(alloc, count)?,
         };
         for _ in 0..trains {
             crossings.trains.push(Known::NOTHING)?;
+            crossings.changed.push(Vec::new(alloc))?;
         }
         for _ in 0..count {
             crossings.looked.push(Looked {
@@ -146,12 +171,24 @@ impl Crossings {
 
     /// Notes that the crossing at an operation of a train is to be looked at again.
     pub(crate) fn forget_at(&mut self, train: u32, number: u32) {
-        if let Some(known) = self.trains.get_mut(train as usize) {
-            known.current = false;
+        let Some(looked) = self.looked.get_mut(number as usize) else {
+            return;
+        };
+        if looked.crossing.is_none() {
+            return;
         }
-        if let Some(looked) = self.looked.get_mut(number as usize) {
-            looked.crossing = None;
+        looked.crossing = None;
+        let Some(changed) = self.changed.get_mut(train as usize) else {
+            return;
+        };
+        if changed.push(number).is_err() {
+            self.forget(train);
         }
+    }
+
+    /// An operation of a train that is to be looked at again; it is not any more then.
+    fn take_changed(&mut self, train: u32) -> Option<u32> {
+        self.changed.get_mut(train as usize)?.pop()
     }
 
     /// What is known of a train's crossings.
@@ -204,18 +241,39 @@ impl Crossings {
         found
     }
 
+    /// What is known of a train's crossings, with one that is looked at again.
+    fn renew(&mut self, view: View, known: Known, number: u32) -> Known {
+        if !known.current {
+            return known;
+        }
+        let spot = view.spots.at(number);
+        let crossing = self.at(view, number, spot, known.turn);
+        known.with(crossing)
+    }
+
+    /// What is known of a train's crossings, with those that are looked at again.
+    fn renewed(&mut self, view: View, train: u32) -> Known {
+        let mut known = self.of_train(train);
+        for _ in 0..self.looked.len() {
+            let Some(number) = self.take_changed(train) else {
+                return known;
+            };
+            known = self.renew(view, known, number);
+        }
+        known
+    }
+
     /// The first crossing of a train, by what is known of it or by a look.
     fn of_routes(&mut self, view: View, routes: &Routes, train: u32) -> Option<Crossing> {
-        let known = self.of_train(train);
-        if known.current {
-            return known.first;
-        }
-        let first = self.first_in_train(view, routes, train);
-        if let Some(known) = self.trains.get_mut(train as usize) {
+        let mut known = self.renewed(view, train);
+        if !known.current {
+            known.first = self.first_in_train(view, routes, train);
             known.current = true;
-            known.first = first;
         }
-        first
+        if let Some(kept) = self.trains.get_mut(train as usize) {
+            *kept = known;
+        }
+        known.first
     }
 
     /// The crossing that comes first, of trains whose forks stand in layers.
