@@ -1,7 +1,7 @@
 #!/usr/bin/env bash
 # Microseconds for an order added and taken back, for a decided successor added and taken back, for a node's cost,
-# and for its bound with walks, on problems of 10, 40 and 160 trains of 40 operations each over 60 blocks, in one
-# run:
+# and for its bound with walks; and how many lengths an order changes, and how many operations the walks name. On
+# problems of 10, 40 and 160 trains of 40 operations each over 60 blocks, in one run:
 #     bench/graph.sh [TRAINS]..
 # First along a dive as a search makes it, from the root until all orders of neighbours on a block are decided; then on a
 # graph that no search would make, in which half of all orders of operations that meet are decided. The problems are made
@@ -14,7 +14,7 @@ if [ ${#sizes[@]} = 0 ]; then sizes=(10 40 160); fi
 crates=(plain_values disp_model disp_laws json_claims fault_counts disp_outside incremental_paths timed_paths
     train_graphs displib_reader problem_facts train_orders route_marks route_sets event_windows event_arcs event_graph cost_bound)
 open_scratch graph_bench "$(for crate in "${crates[@]}"; do grep "^$crate[: ]" "$(dirname "$0")/../crates.txt"; done)
-graph_bench: disp_model disp_outside displib_reader event_graph cost_bound" "${crates[@]}"
+graph_bench: disp_model disp_outside displib_reader incremental_paths event_graph cost_bound" "${crates[@]}"
 add_libraries "${crates[@]}"
 python3 - "${sizes[@]}" <<'PYTHON'
 import json, random, sys
@@ -228,6 +228,55 @@ fn add_each(graph: &mut Graph, decisions: &[Decision]) -> u32
     added
 }
 
+/// In how many places two lists of lengths differ.
+fn differing(before: &[u64], after: &[u64]) -> u32 {
+    let mut count = 0u32;
+    for (place, length) in before.iter().enumerate() {
+        if after.get(place) != Some(length) {
+            count = count.saturating_add(1);
+        }
+    }
+    count
+}
+
+/// How many lengths change where a decision is added; none where it is refused.
+fn changed_by(graph: &mut Graph, decision: Decision, before: &mut Vec<u64>) -> io::Result<u32>
+    ensures { graph.new.problem ≡ graph.old.problem }
+{
+    before.clear();
+    before.extend_from_slice(graph.paths().lengths())?;
+    match graph.extend(decision) {
+        Ok(()) => Ok(differing(before.as_slice(), graph.paths().lengths())),
+        Err(_) => Ok(0),
+    }
+}
+
+/// How many lengths change where those that are not refused are added one after the other.
+fn changed_by_each(alloc: Global, graph: &mut Graph, decisions: &[Decision]) -> io::Result<u32>
+    ensures { graph.new.problem ≡ graph.old.problem }
+{
+    let mut before = Vec::new(alloc);
+    let mut changed = 0u32;
+    for decision in decisions {
+        changed = changed.saturating_add(changed_by(graph, *decision, &mut before)?);
+    }
+    Ok(changed)
+}
+
+/// How many operations the walks of a node's bound name.
+fn named(alloc: Global, problem: &Problem, graph: &Graph) -> u64
+    requires { graph.now.problem ≡ problem.now }
+{
+    let Ok(found) = bound(alloc, problem, graph) else {
+        return 0;
+    };
+    let mut count = 0u64;
+    for walk in found.walks.as_slice() {
+        count = count.saturating_add(walk.walk.as_slice().len() as u64);
+    }
+    count
+}
+
 /// Adds those that are not refused, each after it was added and taken back.
 fn try_and_add_each(graph: &mut Graph, decisions: &[Decision]) -> u32
     ensures { graph.new.problem ≡ graph.old.problem }
@@ -241,7 +290,13 @@ fn try_and_add_each(graph: &mut Graph, decisions: &[Decision]) -> u32
     added
 }
 
-fn dive_times(rt: &(impl Clock + Print + AllocGlobal), problem: &Problem, graph: &mut Graph, twice: &mut Graph) -> io::Result<()>
+fn dive_times(
+    rt: &(impl Clock + Print + AllocGlobal),
+    problem: &Problem,
+    graph: &mut Graph,
+    twice: &mut Graph,
+    counted: &mut Graph,
+) -> io::Result<()>
     ensures { graph.new.problem ≡ graph.old.problem }
 {
     let orders = neighbours(rt.alloc(), problem)?;
@@ -251,7 +306,8 @@ fn dive_times(rt: &(impl Clock + Print + AllocGlobal), problem: &Problem, graph:
     let start = Instant::now(rt)?;
     let tried = try_and_add_each(twice, &orders);
     let both = per(start.elapsed(rt)?, tried);
-    println!(rt; "    {decided} orders of neighbours: added in {once:.2} each; added, taken back and added in {both:.2}")
+    let changed = f64::from(changed_by_each(rt.alloc(), counted, &orders)?) / f64::from(decided);
+    println!(rt; "    {decided} orders of neighbours: added in {once:.2} each, which changes {changed:.1} lengths; added, taken back and added in {both:.2}")
 }
 
 fn order_times(rt: &(impl Clock + Print + AllocGlobal), problem: &Problem, graph: &mut Graph) -> io::Result<()>
@@ -287,7 +343,8 @@ fn cost_times(rt: &(impl Clock + Print + AllocGlobal), problem: &Problem, graph:
     let start = Instant::now(rt)?;
     let second = bounds(rt.alloc(), problem, graph);
     let bounding = per(start.elapsed(rt)?, ROUNDS);
-    println!(rt; "    cost in {costing:.2}, bound in {bounding:.2} ({first}, {second})")
+    let named = named(rt.alloc(), problem, graph);
+    println!(rt; "    cost in {costing:.2}, bound in {bounding:.2}, with walks that name {named} operations ({first}, {second})")
 }
 
 fn root<'p>(alloc: Global, problem: &'p Problem) -> Option<Graph<'p>>
@@ -310,7 +367,10 @@ fn measure(rt: &(impl Clock + Print + AllocGlobal), trains: u32, bytes: &[u8]) -
     let Some(mut twice) = root(rt.alloc(), &problem) else {
         return println!(rt; "no graph");
     };
-    dive_times(rt, &problem, &mut graph, &mut twice)?;
+    let Some(mut counted) = root(rt.alloc(), &problem) else {
+        return println!(rt; "no graph");
+    };
+    dive_times(rt, &problem, &mut graph, &mut twice, &mut counted)?;
     route_times(rt, &problem, &mut graph)?;
     cost_times(rt, &problem, &graph)?;
     let Some(mut graph) = root(rt.alloc(), &problem) else {
@@ -335,8 +395,8 @@ for trains in "${sizes[@]}"; do
     echo "    run(rt, $trains, \"$PWD/problem$trains.json\")?;" >> src/main.rt
 done
 printf '    Ok(())\n}\n' >> src/main.rt
-mkdir -p proofs/{try_each,add_each,try_and_add_each,root}
-for call in try_each add_each try_and_add_each; do
+mkdir -p proofs/{try_each,add_each,try_and_add_each,changed_by_each,root}
+for call in try_each add_each try_and_add_each changed_by_each; do
     cat > proofs/$call/Invariants.antt <<PROOF
 use Rattle.std.proofs.Common.{◌≡◌}
 use Rattle.graph_bench.proofs.$call.Given as goal
