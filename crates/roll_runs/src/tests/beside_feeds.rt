@@ -17,6 +17,10 @@ pub(crate) const SEARCHER: u32 = 256;
 pub(crate) const ONE_BLOCK: &str =
     r#"{"trains":[[{"min_duration":10,"resources":[{"resource":"r"}],"successors":[1]},{}],[{"min_duration":4,"resources":[{"resource":"r"}],"successors":[1]},{}]],"objective":[{"type":"op_delay","train":0,"operation":1,"coeff":1},{"type":"op_delay","train":1,"operation":1,"coeff":1}]}"#;
 
+/// What is printed of the best plan where nothing is fixed.
+pub(crate) const BEST: &str =
+    "plan 0 18 {\"events\":[{\"operation\":0,\"time\":0,\"train\":1},{\"operation\":1,\"time\":4,\"train\":1},{\"operation\":0,\"time\":4,\"train\":0},{\"operation\":1,\"time\":14,\"train\":0}],\"objective_value\":18}\n";
+
 /// What is printed for the searcher where the train of 10 has started first.
 pub(crate) const STARTED_FIRST: &str =
     "plan 1 24 {\"events\":[{\"operation\":0,\"time\":0,\"train\":0},{\"operation\":1,\"time\":10,\"train\":0},{\"operation\":0,\"time\":10,\"train\":1},{\"operation\":1,\"time\":14,\"train\":1}],\"objective_value\":24}\nsettled 1 optimal 24\n";
@@ -68,7 +72,7 @@ fn a_line_is_answered_while_a_searcher_has_a_work(rt: HostRuntime) -> Result<(),
     assert!(rt; gate.has_work.was_seen(), "the feed gave up");
     assert!(rt; gate.is_answered.was_seen(), "the searcher gave up");
     let journal = format!(in rt.alloc();
-        "feed 0 line 1 started 0 0 0 accepted 1\n{STARTED_FIRST}"
+        "{BEST}feed 0 line 1 started 0 0 0 accepted 1\n{STARTED_FIRST}"
     )?;
     assert_eq!(rt; written.as_slice(), journal.as_bytes());
     assert_eq!(rt; done.status, 0);

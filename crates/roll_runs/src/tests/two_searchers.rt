@@ -3,9 +3,7 @@ use super::holds::Sign;
 use disp_model::Entry;
 use disp_outside::{Gate, Point};
 use dispatch_cli::{Done, dispatch};
-use instance_maker::make;
 use outside_in_memory::{SteadyShelf, SteadySink};
-use problem_text::write_problem;
 use std::sync::Wait;
 use std::sync::atomic::AtomicU64;
 use std::sync::atomic::Ordering::SeqCst;
@@ -61,15 +59,17 @@ impl Gate for Sharing {
     }
 }
 
-/// `solve` with two searchers and a budget of 500 on the problem of 0 for 200 trains, of which a
-/// plan needs 100 decisions.
+/// Eight trains on one block, for 10 each: what one of them costs by itself says little of what all
+/// cost, so that much is to be branched.
+const EIGHT: &str =
+    r#"{"trains":[[{"min_duration":10,"resources":[{"resource":"r"}],"successors":[1]},{}],[{"min_duration":10,"resources":[{"resource":"r"}],"successors":[1]},{}],[{"min_duration":10,"resources":[{"resource":"r"}],"successors":[1]},{}],[{"min_duration":10,"resources":[{"resource":"r"}],"successors":[1]},{}],[{"min_duration":10,"resources":[{"resource":"r"}],"successors":[1]},{}],[{"min_duration":10,"resources":[{"resource":"r"}],"successors":[1]},{}],[{"min_duration":10,"resources":[{"resource":"r"}],"successors":[1]},{}],[{"min_duration":10,"resources":[{"resource":"r"}],"successors":[1]},{}]],"objective":[{"type":"op_delay","train":0,"operation":1,"coeff":1},{"type":"op_delay","train":1,"operation":1,"coeff":1},{"type":"op_delay","train":2,"operation":1,"coeff":1},{"type":"op_delay","train":3,"operation":1,"coeff":1},{"type":"op_delay","train":4,"operation":1,"coeff":1},{"type":"op_delay","train":5,"operation":1,"coeff":1},{"type":"op_delay","train":6,"operation":1,"coeff":1},{"type":"op_delay","train":7,"operation":1,"coeff":1}]}"#;
+
+/// `solve` with two searchers and a budget of 500 on that problem.
 fn run(rt: &(impl Threads + Wait + Sync + AllocGlobal), gate: &Sharing) -> Result<Done, Fail> {
     let alloc = rt.alloc();
     let words = words_of(alloc, &["solve", "p", "--workers", "2", "--budget", "500"])?;
-    let problem = make(alloc, 0, 200)?;
-    let text = write_problem(alloc, &problem)?;
     let mut shelf = SteadyShelf::new(alloc);
-    shelf.place("p", text.as_slice())?;
+    shelf.place("p", EIGHT.as_bytes())?;
     let mut out = SteadySink::new(alloc);
     Ok(dispatch(rt, alloc, &words, &mut shelf, &mut out, gate))
 }
