@@ -15,11 +15,10 @@ pub struct Change {
     pub before: u64,
 }
 
-/// The changes of lengths since the last call of `clear`, as far as there is room, and the nodes of
+/// The changes of lengths since the last call of `clear`, as far as there is memory, and the nodes of
 /// all of them. Beside them, as advice, which arcs gave nodes their lengths.
 #[derive(Debug, Drop)]
 pub struct Changes {
-    room: usize,
     entries: Vec<Change>,
     lost: bool,
     grown: NodeSet,
@@ -35,12 +34,11 @@ impl Model for Changes {
 }
 
 impl Changes {
-    /// No changes, and room for as many as there are nodes.
+    /// No changes, and room at first for as many as there are nodes.
     pub fn new(alloc: Global, nodes: usize) -> Result<Self, AllocError>
         ensures { IfOk result (λ changes. changes ≡ nothing_told nodes) }
     {
         Ok(Changes {
-            room: nodes,
             entries: Vec::with_capacity(alloc, nodes)?,
             lost: false,
             grown: NodeSet::new(alloc, nodes)?,
@@ -100,7 +98,7 @@ impl Changes {
         self.lost
     }
 
-    /// Tells of a change, where there is room, and in any case of its node.
+    /// Tells of a change, where there is memory, and in any case of its node.
     pub fn tell(&mut self, node: u32, before: u64)
         requires { node < self.old.grown.size }
         ensures still { self.new.lost ≡ false → self.old.lost ≡ false }
@@ -114,13 +112,13 @@ impl Changes {
         self.keep(Change { node, before });
     }
 
-    // Keeps the change, where there is room.
+    // Keeps the change, where there is memory.
     fn keep(&mut self, change: Change)
         ensures still { self.new.lost ≡ false → self.old.lost ≡ false }
         ensures told { self.new.lost ≡ false → self.new.entries ≡ self.old.entries ++ change ∷ [] }
         ensures grown { self.new.grown ≡ self.old.grown }
     {
-        if self.entries.len() == self.room || self.entries.push(change).is_err() {
+        if self.entries.push(change).is_err() {
             self.lost = true;
         }
     }

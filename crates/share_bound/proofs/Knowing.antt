@@ -15,7 +15,7 @@ use Rattle.share_bound.specs.declared.known.KnownShare.{KnownShare}
 use Rattle.share_bound.specs.declared.known.KnownShares.{KnownShares}
 use Rattle.share_bound.specs.Times.{base_in}
 use Rattle.share_bound.specs.Leasts.{IsFittedShare}
-use Rattle.share_bound.specs.Known.{known_of, HoldsOver, HoldsFor, HoldFor, IsAboutNone, AreBasesOf, IsCurrentOver, IsCurrentShare, IsShareCurrent, IsPlaceOf}
+use Rattle.share_bound.specs.Known.{known_of, HoldsOver, HoldsFor, HoldFor, IsAboutNone, AreBasesOf, IsCurrentOver, IsCurrentShare, IsShareCurrent, IsPlaceOfShare}
 
 -- ---- one train, whose routes the decision is not about
 
@@ -254,7 +254,7 @@ none_holds node old new u there is hold = put_holds node old new u None there is
 
 -- an earlier share and the last one in each other's place
 pub recalled : (node : Node) (t : ℕ) (old new : KnownShare) (read : List ShareOver) (place : ℕ)
-    → read ≡ old.earlier.items → IsPlaceOf node t read place → HoldsFor node t old
+    → read ≡ old.earlier.items → IsPlaceOfShare node t read place → HoldsFor node t old
     → slice_get old.earlier.items place ≡ Some new.last
     → new.earlier.items ≡ slice_set old.earlier.items place old.last → IsCurrentShare node t new
 recalled node t old new read place same found holds last earlier = record {

@@ -26,8 +26,8 @@ pub record HoldsListing (node : Node) (t : ℕ) (bases : List ℕ) (listing : Li
   pub within : (o : ℕ) → slice_index listing.bases.items o ≤ slice_index bases o
 
 -- the same where the train is listed
-abbrev pub Shows : Node → ℕ → List ℕ → LeafPart → Type 0
-Shows node t bases showing = (listing : Listing) → showing ≡ Listed listing
+abbrev pub ShowsShare : Node → ℕ → List ℕ → LeafPart → Type 0
+ShowsShare node t bases showing = (listing : Listing) → showing ≡ Listed listing
     → HoldsListing node t bases listing
 
 -- the share of the train over the bases, by the routes that are allowed at the node, and how a leaf
@@ -35,7 +35,7 @@ Shows node t bases showing = (listing : Listing) → showing ≡ Listed listing
 pub record HoldsOver (node : Node) (t : ℕ) (one : ShareOver) : Type 0 where
   pub share : IsFittedShare node t (base_in one.bases.items) one.share
   pub shows : (showing : LeafPart) → one.showing ≡ Some showing
-      → Shows node t one.bases.items showing
+      → ShowsShare node t one.bases.items showing
 
 -- the same of all that is known of the train
 pub record HoldsFor (node : Node) (t : ℕ) (known : KnownShare) : Type 0 where
@@ -63,7 +63,7 @@ pub record IsCurrentOver (node : Node) (t : ℕ) (one : ShareOver) : Type 0 wher
   pub holds : HoldsOver node t one
 
 -- a place of a share that is over the bases at the node
-pub record IsPlaceOf (node : Node) (t : ℕ) (shares : List ShareOver) (place : ℕ) : Type 0 where
+pub record IsPlaceOfShare (node : Node) (t : ℕ) (shares : List ShareOver) (place : ℕ) : Type 0 where
   pub there : place < length shares
   pub one : ShareOver
   pub one_is : slice_get shares place ≡ Some one

@@ -8,7 +8,7 @@ ghost use Rattle.share_bound.specs.declared.known.KnownShare.{KnownShare as Know
 ghost use Rattle.share_bound.specs.Bases.{AreBasesTo, IsShareWithin};
 ghost use Rattle.problem_facts.specs.Components.{AreOwnOf};
 ghost use Rattle.share_bound.specs.declared.known.TheConstants.{MOST_EARLIER};
-ghost use Rattle.share_bound.specs.Known.{known_of, AreBasesOf, HoldsOver, HoldsFor, HoldFor, IsAboutNone, IsCurrentOver, IsCurrentShare, IsShareCurrent, IsPlaceOf, Shows};
+ghost use Rattle.share_bound.specs.Known.{known_of, AreBasesOf, HoldsOver, HoldsFor, HoldFor, IsAboutNone, IsCurrentOver, IsCurrentShare, IsShareCurrent, IsPlaceOfShare, ShowsShare};
 
 use crate::bases::{bases_in, bases_of};
 use crate::shares::{share_over, train_of};
@@ -122,7 +122,7 @@ impl ShareOver {
 fn place_of(problem: &Problem, graph: &Graph, train: u32, shares: &[ShareOver]) -> Option<usize>
     requires node { graph.now.problem ≡ problem.now }
     requires train { train < length problem.now.trains }
-    ensures { IfSome result (IsPlaceOf graph.now train shares.now) }
+    ensures { IfSome result (IsPlaceOfShare graph.now train shares.now) }
 {
     for place in 0..shares.len() {
         if shares[place].is_current(problem, graph, train) {
@@ -226,7 +226,7 @@ fn renewed(
 fn shown(known: KnownShare, showing: LeafPart) -> KnownShare
     ensures bases { result.last.bases ≡ known.last.bases }
     ensures holds { (node : Node) (t : ℕ) → HoldsFor node t known
-        → Shows node t known.last.bases.items showing → HoldsFor node t result }
+        → ShowsShare node t known.last.bases.items showing → HoldsFor node t result }
 {
     let KnownShare {
         last,
@@ -344,7 +344,7 @@ impl KnownShares {
         requires known { HoldFor graph.now self.old }
         requires current { IsShareCurrent graph.now train self.old }
         requires shows { (one : KnownShareOf) → known_of self.old.each.items train ≡ Some one
-            → Shows graph.now train one.last.bases.items showing }
+            → ShowsShare graph.now train one.last.bases.items showing }
         ensures known { HoldFor graph.now self.new }
         ensures current { IsShareCurrent graph.now train self.new }
     {

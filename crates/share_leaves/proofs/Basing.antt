@@ -16,7 +16,7 @@ use Rattle.cost_bound.specs.Bounds.{IsLongWalk}
 use Rattle.cost_bound.proofs.Walking.{walk_there}
 use Rattle.cost_bound.proofs.Bounding.{ops_fit}
 use Rattle.share_bound.proofs.Showing.{walks_end, greatest_same, greatest_other}
-use Rattle.share_leaves.specs.Listed.{AreKept, KeepsTo, AreLowBases, ShowsBases}
+use Rattle.share_leaves.specs.Listed.{AreLengthsKept, KeepsTo, AreLowBases, ShowsBases}
 
 module _ (bases : List ℕ) (base count : ℕ) (long : length bases ≡ count) where
   pub kept_at : (o : ℕ) → o < count → slice_index (bases ++ base ∷ []) o ≡ slice_index bases o
@@ -57,7 +57,7 @@ kept_more lengths kept new count base pushed low before = record {
 }
 
 pub kept_all : (lengths kept : List ℕ) (count : ℕ) → length lengths ≡ count
-    → KeepsTo lengths count kept → AreKept lengths kept
+    → KeepsTo lengths count kept → AreLengthsKept lengths kept
 kept_all lengths kept count long to = record {
   long = to.long ∙ sym long;
   within = λ o. elim (cases_lt o count) [

@@ -11,7 +11,7 @@ use Rattle.share_bound.specs.Known.{AreBasesOf}
 use Rattle.share_leaves.specs.declared.trains.Listed.{Listed}
 
 -- lengths of operations, or 0 in the place of some
-pub record AreKept (lengths kept : List ℕ) : Type 0 where
+pub record AreLengthsKept (lengths kept : List ℕ) : Type 0 where
   pub long : length kept ≡ length lengths
   pub within : (o : ℕ) → slice_index kept o ≤ slice_index lengths o
 
@@ -24,7 +24,7 @@ pub record KeepsTo (lengths : List ℕ) (count : ℕ) (kept : List ℕ) : Type 0
 pub record AreLowBases (node : Node) (t : ℕ) (bases : List ℕ) : Type 0 where
   pub lengths : List ℕ
   pub are : AreBasesOf node t lengths
-  pub kept : AreKept lengths bases
+  pub kept : AreLengthsKept lengths bases
 
 -- the share of the train over bases that are no more than its own
 pub record HoldsLow (node : Node) (t : ℕ) (listing : Listing) : Type 0 where

@@ -1,5 +1,5 @@
 ghost use Rattle.std.specs.Prelude.{◌≡◌, ◌<◌, ◌≤◌, ◌^◌, IfOk, length};
-ghost use Rattle.share_leaves.specs.Listed.{AreKept};
+ghost use Rattle.share_leaves.specs.Listed.{AreLengthsKept};
 
 use disp_model::Memory;
 use event_graph::Graph;
@@ -49,7 +49,7 @@ pub(crate) fn kept(
 ) -> Result<Vec<u64>, Memory>
     requires train { train < length graph.now.problem.trains }
     requires fits { length lengths.now < 2 ^ 32 }
-    ensures { IfOk result (λ kept. AreKept lengths.now kept.items) }
+    ensures { IfOk result (λ kept. AreLengthsKept lengths.now kept.items) }
 {
     let mut kept = Vec::with_capacity(alloc, lengths.len())?;
     for number in 0..lengths.len() {
