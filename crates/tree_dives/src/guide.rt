@@ -40,6 +40,11 @@ impl Guide {
         self.left = TIME_DIVES_FIRST;
     }
 
+    /// What the dives follow.
+    pub fn target(&self) -> &Target {
+        &self.target
+    }
+
     /// Makes this the target.
     pub fn aim_at(&mut self, target: Target) {
         self.target = target;
