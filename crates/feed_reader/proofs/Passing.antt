@@ -9,7 +9,7 @@ use Rattle.shared_board.specs.Board.{known, lines}
 use Rattle.shared_board.specs.Onward.{entries_by, PassGoesOn}
 use Rattle.feed_reader.specs.declared.read.Reading.{Reading}
 use Rattle.feed_reader.specs.declared.read.Reading.TheVariants as reading
-use Rattle.feed_reader.specs.Answered.{AnswersAs, AnswersNext, IsReadTo, one_too_many}
+use Rattle.feed_reader.specs.Answered.{AnsweredSome, AnswersAs, AnswersNext, IsReadTo, one_too_many}
 use Rattle.feed_reader.proofs.Answering.{Lines, read_more, ends_read, ends_failed, ends_full}
 
 module _ (first mid last : Pass) (on : PassGoesOn first mid) (count : ℕ) (told left : Option Lines)
@@ -26,6 +26,12 @@ module _ (first mid last : Pass) (on : PassGoesOn first mid) (count : ℕ) (told
   still : (r : Reading) → Quiet (known mid).caller → IfSome told (λ all. AnswersAs (known first).caller all (entries_by (known first).caller (known mid).seen) r)
       → IfSome told (λ all. AnswersAs (known first).caller all (entries_by (known first).caller (known last).seen) r)
   still r quiet is = subst (λ (es : List Entry). IfSome told (λ all. AnswersAs (known first).caller all es r)) (sym (of_first Quiet quiet)) is
+
+  -- what is left is behind the entries so far, where no line was taken and nothing came behind them
+  pub left_behind : (next : Option Lines) → next ≡ left → Quiet (known mid).caller → AnsweredSome (known first).caller told next (entries_by (known first).caller (known last).seen)
+  left_behind next same quiet =
+      subst (λ (es : List Entry). AnsweredSome (known first).caller told next es) (sym (of_first Quiet quiet))
+      (subst (λ (l : Option Lines). AnsweredSome (known first).caller told l (entries_by (known first).caller (known mid).seen)) (sym same) to.answered)
 
   -- the line that was read is one of them
   pub one_read : (next : Option Lines) → AnswersNext (known mid).caller (lines mid + 1) left next (entries_by (known mid).caller (known mid).seen) (entries_by (known mid).caller (known last).seen)

@@ -4,7 +4,7 @@ ghost use Rattle.disp_outside.specs.Lines.{NoneLeft};
 ghost use Rattle.shared_board.specs.Board.{board_of, own_board, known, lines};
 ghost use Rattle.shared_board.specs.Calls.{IsFeed};
 ghost use Rattle.shared_board.specs.Onward.{entries_by, PassGoesOn};
-ghost use Rattle.feed_reader.specs.Answered.{AnswersAs, AnswersNext, IsReadTo, one_too_many};
+ghost use Rattle.feed_reader.specs.Answered.{AnsweredSome, AnswersAs, AnswersNext, IsReadTo, one_too_many};
 
 use crate::enter::{enter_text, enter_unread};
 use disp_model::{MOST_LINES, Memory, Unasked};
@@ -62,6 +62,7 @@ fn read_next<W: Wait, F: Feed, G: Gate>(
     ensures no { IfErr result (λ no. (entries_by (known pass.old).caller (known pass.new).seen
         ≡ entries_by (known pass.old).caller (known pass.old).seen)) }
     ensures why { (result ≡ Err Reading.Ended → ⊥) × (result ≡ Err Reading.TooMany → ⊥) }
+    ensures left { result ≡ Err Reading.Failed → F.lines feed.new ≡ F.lines feed.old }
     ensures failed { IsErrOf result Reading.Failed ↔ (F.faults feed.old < F.faults feed.new) }
     ensures counted { F.faults feed.old ≤ F.faults feed.new }
     ensures name { F.name feed.new ≡ F.name feed.old }
@@ -105,6 +106,7 @@ fn read_end<W: Wait, F: Feed>(
     ensures quiet { (result ≡ Reading.TooMany → ⊥)
         → entries_by (known pass.old).caller (known pass.new).seen
         ≡ entries_by (known pass.old).caller (known pass.old).seen }
+    ensures left { result ≡ Reading.Failed → F.lines feed.new ≡ F.lines feed.old }
     ensures failed { (result ≡ Reading.Failed) ↔ (F.faults feed.old < F.faults feed.new) }
     ensures counted { F.faults feed.old ≤ F.faults feed.new }
     ensures name { F.name feed.new ≡ F.name feed.old }
@@ -143,6 +145,11 @@ pub fn read_lines<W: Wait, F: Feed, G: Gate>(
     ensures on { PassGoesOn pass.old pass.new }
     ensures answered { IfSome (F.lines feed.old) (λ told. AnswersAs (known pass.old).caller told
         (entries_by (known pass.old).caller (known pass.new).seen) result) }
+
+    // Before a fault no line is lost.
+    ensures left { result ≡ Reading.Failed
+        → AnsweredSome (known pass.old).caller (F.lines feed.old) (F.lines feed.new)
+        (entries_by (known pass.old).caller (known pass.new).seen) }
 
     // A fault is told exactly where it is counted.
     ensures failed { (result ≡ Reading.Failed) ↔ (F.faults feed.old < F.faults feed.new) }

@@ -69,6 +69,7 @@ pub fn join_readers<S: Shelf>(
         ≡ (S.state shelf.old).putting name }
     ensures held { (name : List ℕ) → (S.state shelf.new).holds name
         ≡ (S.state shelf.old).holds name }
+    ensures still_known { (name : List ℕ) → S.knows shelf.old name → S.knows shelf.new name }
     ensures closed { S.open_feeds shelf.new
         ≡ S.open_feeds shelf.old - length readers.items }
 {

@@ -14,6 +14,7 @@ pub fn close_feeds<S: Shelf>(shelf: &mut S, feeds: Vec<S::Feed>)
         ≡ (S.state shelf.old).putting name }
     ensures held { (name : List ℕ) → (S.state shelf.new).holds name
         ≡ (S.state shelf.old).holds name }
+    ensures still_known { (name : List ℕ) → S.knows shelf.old name → S.knows shelf.new name }
     ensures closed { S.open_feeds shelf.new
         ≡ S.open_feeds shelf.old - length feeds.items }
 {
@@ -33,6 +34,7 @@ pub(crate) fn close_readers<S: Shelf>(shelf: &mut S, readers: Vec<Reader<S::Feed
         ≡ (S.state shelf.old).putting name }
     ensures held { (name : List ℕ) → (S.state shelf.new).holds name
         ≡ (S.state shelf.old).holds name }
+    ensures still_known { (name : List ℕ) → S.knows shelf.old name → S.knows shelf.new name }
     ensures closed { S.open_feeds shelf.new
         ≡ S.open_feeds shelf.old - length readers.items }
 {

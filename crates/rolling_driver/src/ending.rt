@@ -35,6 +35,7 @@ fn print_rest<W: Wait, S: Shelf, O: Sink>(
         (outside (S.state shelf.new) (O.state out.new)) printed result }
     ensures readings { (name : List ℕ) → (S.state shelf.new).reading name
         ≡ (S.state shelf.old).reading name }
+    ensures still_known { (name : List ℕ) → S.knows shelf.old name → S.knows shelf.new name }
     ensures feeds { S.open_feeds shelf.new ≡ S.open_feeds shelf.old }
 {
     match printed {
@@ -64,6 +65,7 @@ pub(crate) fn end_run<W: Wait, S: Shelf, O: Sink>(
         (option_map (λ prefix. prefix.now) trees.entry) first readers.items searchers.items printed
         (outside (S.state shelf.old) (O.state out.old))
         (outside (S.state shelf.new) (O.state out.new)) result.0 result.1 }
+    ensures still_known { (name : List ℕ) → S.knows shelf.old name → S.knows shelf.new name }
     ensures closed { S.open_feeds shelf.new
         ≡ S.open_feeds shelf.old - length readers.items }
 {

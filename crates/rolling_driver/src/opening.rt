@@ -40,6 +40,7 @@ fn close_left<S: Shelf>(shelf: &mut S, left: Left<S::Feed>)
         ≡ (S.state shelf.old).putting name }
     ensures held { (name : List ℕ) → (S.state shelf.new).holds name
         ≡ (S.state shelf.old).holds name }
+    ensures still_known { (name : List ℕ) → S.knows shelf.old name → S.knows shelf.new name }
     ensures closed { S.open_feeds shelf.new
         ≡ S.open_feeds shelf.old - length (feeds_of left) }
 {
@@ -105,6 +106,7 @@ pub(crate) fn open_run<S: Shelf>(
     ensures opened { IfOk result
         (IsOpened S.Feed.has_ended S.Feed.faults problem.now settings workers feeds.items) }
     ensures same { OnOk result (shelf.new ≡ shelf.old) }
+    ensures still_known { (name : List ℕ) → S.knows shelf.old name → S.knows shelf.new name }
     ensures closed { OnErr result
         (S.open_feeds shelf.new ≡ S.open_feeds shelf.old - length feeds.items) }
     ensures counts { OnErr result ((name : List ℕ) → (S.state shelf.new).reading name

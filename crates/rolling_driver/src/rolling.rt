@@ -1,4 +1,4 @@
-ghost use Rattle.std.specs.Prelude.{◌≡◌, ◌≤◌, ◌-◌, All, IfOk, OnErr, length, option_map};
+ghost use Rattle.std.specs.Prelude.{◌≡◌, ◌≤◌, ◌-◌, ℕ, List, All, IfOk, OnErr, length, option_map};
 ghost use Rattle.disp_model.specs.declared.limits.TheConstants.{MOST_CALLERS};
 ghost use Rattle.text_puts.specs.Outside.{outside};
 ghost use Rattle.rolling_driver.specs.Opened.{AreNew};
@@ -53,6 +53,7 @@ pub fn roll<R: Threads + Wait + Sync, S: Shelf, O: Sink, G: Gate>(
     ensures refused { OnErr result (
         outside (S.state shelf.new) (O.state out.new)
         ≡ outside (S.state shelf.old) (O.state out.old)) }
+    ensures still_known { (name : List ℕ) → S.knows shelf.old name → S.knows shelf.new name }
     ensures closed { S.open_feeds shelf.new
         ≡ S.open_feeds shelf.old - length feeds.items }
 {

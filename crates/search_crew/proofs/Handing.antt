@@ -1,8 +1,8 @@
 -- What a searcher may hand in.
-use Rattle.std.proofs.Common.{◌≡◌, ◌∙◌, ℕ, ◌≤◌, List, [], ◌∷◌, ◌++◌, map, Option, refl, sym, subst}
+use Rattle.std.proofs.Common.{◌≡◌, ◌∙◌, ℕ, ◌≤◌, List, [], ◌∷◌, ◌++◌, map, Option, refl, sym, subst, arith}
 use Rattle.std.specs.Prelude.{All}
 use Rattle.disp_model.specs.declared.decision.Choice.{Choice}
-use Rattle.disp_model.specs.declared.entry.Entry.{Entry}
+use Rattle.disp_model.specs.declared.fixing.Fixing.{Fixing}
 use Rattle.disp_model.specs.declared.plan.Event.{Event}
 use Rattle.disp_model.specs.declared.problem.Problem.{Problem}
 use Rattle.disp_model.specs.declared.settings.Rule.{Rule}
@@ -12,17 +12,18 @@ use Rattle.disp_model.specs.WellFormed.{horizon}
 use Rattle.disp_model.specs.History.{fixings_after}
 use Rattle.disp_model.specs.Node.{Node, node_at, with_decision}
 use Rattle.disp_model.specs.Trees.{children_of}
+use Rattle.disp_model.specs.Valid.{IsValid}
 use Rattle.open_nodes.specs.declared.work.Fragment.{Fragment}
 use Rattle.open_nodes.specs.declared.work.Work.{Work}
 use Rattle.tree_growth.specs.Grown.{Helps, GrowsBelow, branches}
 use Rattle.dispatch_core.specs.States.{IsExamined}
-use Rattle.turn_lock.specs.Known.{Known}
 use Rattle.shared_board.specs.declared.board.Board.{Board}
 use Rattle.shared_board.specs.declared.pass.Pass.{Pass}
-use Rattle.shared_board.specs.declared.terms.Terms.{Terms}
 use Rattle.shared_board.specs.Board.{problem_of, known}
 use Rattle.shared_board.specs.Calls.{IsGrowthOf, IsExaminedFor, IsPlanFor}
-use Rattle.shared_board.specs.Standing.{SameRole}
+use Rattle.shared_board.specs.Onward.{PassGoesOn}
+use Rattle.shared_board.proofs.Onward.{newest_up}
+use Rattle.shared_board.proofs.Owing.{fixings_on}
 use Rattle.search_workers.specs.declared.growth.Growth.{Growth}
 use Rattle.search_workers.specs.declared.growth.Growth.TheVariants as growth
 use Rattle.near_plans.specs.Plans.{IsPlanAt}
@@ -52,17 +53,27 @@ module _ (best other : Option ℕ) (less : IsBestNoMore best other) (rule : Rule
 
 -- ---- what the board asks
 
-pub plan_on : (v w : Known Entry Terms) → SameRole v w → (plan : List Event) → IsPlanFor v plan → IsPlanFor w plan
-plan_on v w role plan is = record { terms = is.terms; terms_are = role.terms ∙ is.terms_are; within = is.within }
-
--- a plan that is valid at a node of the board's problem starts nothing past the horizon
-pub plan_at : (board : Board) (rule : Rule) (edition : ℕ) (pass : Pass) → IsAtWork board rule edition pass → (node : Node) → node.problem ≡ problem_of board
-    → (plan : List Event) → IsPlanAt node plan → IsPlanFor (known pass) plan
-plan_at board rule edition pass at node same plan is = record {
-  terms = at.searcher.terms;
-  terms_are = at.searcher.terms_are;
-  within = subst (λ (p : Problem). All (λ e. e.time ≤ horizon p.trains) plan) (same ∙ sym at.problem) is.within;
+-- a plan of an edition stays one while the pass sees more
+pub plan_on : (before after : Pass) → PassGoesOn before after → (edition : ℕ) (plan : List Event) → IsPlanFor (known before) edition plan → IsPlanFor (known after) edition plan
+plan_on before after on edition plan is = record {
+  terms = is.terms;
+  terms_are = on.role.terms ∙ is.terms_are;
+  edition = let within = is.edition in let up = newest_up (known after).seen (known before).seen on.starts in omega arith;
+  valid = subst (λ (f : List Fixing). IsValid is.terms.problem f plan) (sym (fixings_on (known after).seen (known before).seen edition on.starts is.edition)) is.valid;
+  within = is.within;
 }
+
+-- a plan that is valid at a node of the board's problem under an edition's fixings is one of that edition
+pub plan_at : (board : Board) (rule : Rule) (edition : ℕ) (pass : Pass) → IsAtWork board rule edition pass → (node : Node)
+    → node ≡ node_at (problem_of board) (fixings_after edition (known pass).seen) node.decisions → (plan : List Event) → IsPlanAt node plan → IsPlanFor (known pass) edition plan
+plan_at board rule edition pass at node same plan is =
+    let here = subst (λ (n : Node). IsPlanAt n plan) same is in record {
+      terms = at.searcher.terms;
+      terms_are = at.searcher.terms_are;
+      edition = at.edition_is;
+      valid = subst (λ (p : Problem). IsValid p (fixings_after edition (known pass).seen) plan) (sym at.problem) here.valid;
+      within = subst (λ (p : Problem). All (λ e. e.time ≤ horizon p.trains) plan) (sym at.problem) here.within;
+    }
 
 module _ (board : Board) (rule : Rule) (pass : Pass) (work : Work) (at : IsAtWork board rule work.edition pass) where
   -- the node of the work under the fixings of its edition
@@ -89,5 +100,5 @@ module _ (board : Board) (rule : Rule) (pass : Pass) (work : Work) (at : IsAtWor
         (subst (λ (p : Problem). IsExamined rule (node_at p (fixings_after work.edition (known pass).seen) work.decisions) work.bound) (sym at.problem) is);
   }
 
-  pub plan_of : (plan : List Event) → IsPlanAt node plan → IsPlanFor (known pass) plan
+  pub plan_of : (plan : List Event) → IsPlanAt node plan → IsPlanFor (known pass) work.edition plan
   plan_of plan is = plan_at board rule work.edition pass at node refl plan is

@@ -63,7 +63,7 @@ pub(crate) fn tell(crew: &Crew, hand: &mut Hand, edition: u32, cost: u64)
     }
 }
 
-/// Publishes a plan for an edition, where there is one, and tells the others.
+/// Publishes a plan of an edition, where there is one, and tells the others.
 pub(crate) fn publish<W: Wait>(
     rt: &W,
     alloc: Global,
@@ -75,7 +75,8 @@ pub(crate) fn publish<W: Wait>(
     plan: Option<Plan>,
 ) -> Result<(), Memory>
     requires board { own_board pass.old ≡ board_of board.now }
-    requires plan { (found : List Event) → plan ≡ Some found → IsPlanFor (known pass.old) found }
+    requires plan { (found : List Event) → plan ≡ Some found
+        → IsPlanFor (known pass.old) edition found }
     requires hand { IsHandOf crew.now hand.old }
     ensures on { KeepsOn pass.old pass.new }
     ensures hand { IsSameHand hand.old hand.new }
@@ -103,7 +104,8 @@ fn hand_in_subtree<W: Wait>(
     requires board { own_board pass.old ≡ board_of board.now }
     requires searcher { IsSearcher (known pass.old) }
     requires growth { IsGrowthOf (known pass.old) fragment }
-    requires plan { (found : List Event) → plan ≡ Some found → IsPlanFor (known pass.old) found }
+    requires plan { (found : List Event) → plan ≡ Some found
+        → IsPlanFor (known pass.old) fragment.work.edition found }
     requires hand { IsHandOf crew.now hand.old }
     ensures on { KeepsOn pass.old pass.new }
     ensures hand { IsSameHand hand.old hand.new }

@@ -80,7 +80,7 @@ module _ (v : Known Entry Terms) where
         (sym (fixings_on core.history v.seen work.edition found.begins.starts is.edition)) is.examined);
   }
 
-  pub may_publish : (edition : ℕ) (plan : List Event) → IsPlanFor v plan → MayEnter v (event.Publish edition plan)
+  pub may_publish : (edition : ℕ) (plan : List Event) → IsPlanFor v edition plan → MayEnter v (event.Publish edition plan)
   may_publish edition plan is = record {
     by = tt;
     may = λ core found. subst (λ (t : Terms). All (λ e. e.time ≤ horizon t.problem.trains) plan) (same_terms is.terms is.terms_are core found) is.within;

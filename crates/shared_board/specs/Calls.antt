@@ -4,6 +4,7 @@ use Rattle.disp_model.specs.declared.entry.Entry.{Entry}
 use Rattle.disp_model.specs.declared.plan.Event.{Event}
 use Rattle.disp_model.specs.WellFormed.{horizon}
 use Rattle.disp_model.specs.Node.{node_at}
+use Rattle.disp_model.specs.Valid.{IsValid}
 use Rattle.disp_model.specs.History.{fixings_after, newest}
 use Rattle.disp_model.specs.Legal.{IsLegal}
 use Rattle.open_nodes.specs.declared.work.Work.{Work}
@@ -81,10 +82,13 @@ pub record IsExaminedFor (v : Known Entry Terms) (work : Work) : Type 0 where
   pub examined : IsExamined terms.settings.rule
       (node_at terms.problem (fixings_after work.edition v.seen) work.decisions) work.bound
 
--- no time of the plan is above the horizon
-pub record IsPlanFor (v : Known Entry Terms) (plan : List Event) : Type 0 where
+-- the plan is valid under the fixings of an edition, which the pass has seen, and no time of it is
+-- above the horizon
+pub record IsPlanFor (v : Known Entry Terms) (number : ℕ) (plan : List Event) : Type 0 where
   pub terms : Terms
   pub terms_are : v.terms ≡ Some terms
+  pub edition : number ≤ newest v.seen
+  pub valid : IsValid terms.problem (fixings_after number v.seen) plan
   pub within : All (λ e. e.time ≤ horizon terms.problem.trains) plan
 
 -- the entry of the event, if there is one, names this caller or none

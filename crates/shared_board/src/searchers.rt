@@ -119,7 +119,7 @@ impl Board {
         self.enter_without_memory(rt, alloc, pass, event)
     }
 
-    /// Publishes a plan for an edition, where it is valid for the newest and better than the best.
+    /// Publishes a plan of an edition, where it is valid for the newest and better than the best.
     ///
     /// # Errors
     ///
@@ -133,7 +133,7 @@ impl Board {
         plan: Plan,
     ) -> Result<CoreReply, Memory>
         requires board { own_board pass.old ≡ board_of self.now }
-        requires plan { IsPlanFor (known pass.old) plan }
+        requires plan { IsPlanFor (known pass.old) edition plan }
         ensures board { own_board pass.new ≡ own_board pass.old }
         ensures counts { (fetched pass.new ≡ fetched pass.old) × (lines pass.new ≡ lines pass.old) }
         ensures told { IfOk result (λ told. Enters (known pass.old)

@@ -49,5 +49,6 @@ returns g c =
         prints = subst (λ (l : List Entry). PrintsRest trees (drop (length (known first).seen) l) old new c.args.printed c.print_rest-printed.result) (sym closed.seen)
             (rest_shifted trees (drop (length (known first).seen) (known last).seen) old mid new c.args.printed c.print_rest-printed.result same behind);
       };
+      still_known = λ name known. c.print_rest-printed.ensures.still_known name (c.join_readers.ensures.still_known name known);
       closed = c.print_rest-printed.ensures.feeds ∙ c.join_readers.ensures.closed;
     }

@@ -68,6 +68,7 @@ returns g c =
           (subst (λ (journal : List Entry). IsRolled c.args.problem.now c.args.settings trees (fed g.S.Feed.Feed.name g.S.Feed.Feed.lines c.args.feeds.items) old new journal c.status_of.result)
           (sym c.into_history.ensures) all);
       refused = search rules;
+      still_known = λ name known. c.end_run-core.ensures.still_known name (said.known name (c.open_run.ensures.still_known name known));
       closed =
           let long = ap (λ l. length l) readers_are ∙ (read.as_many ∙ (sym (length-map run.readers.items (λ r. r.feed)) ∙ ap (λ l. length l) c.in_ok-board.ensures.opened.feeds_are)) in
           c.end_run-core.ensures.closed
