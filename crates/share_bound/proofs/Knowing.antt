@@ -1,6 +1,8 @@
 -- What is known of trains holds with a decision more that is not about them, and without it.
-use Rattle.std.proofs.Common.{◌≡◌, ◌≢◌, ◌∙◌, ◌<◌, ◌++◌, ℕ, zero, suc, List, [], ◌∷◌, Option, Some, None, length, refl, sym, ap, subst, inl, inr}
-use Rattle.std.specs.Prelude.{⊤, All, OnOk, Result, Ok, Err, slice_get, slice_set, slice_index_or, IfSome}
+use Rattle.std.proofs.Common.{◌≡◌, ◌≢◌, ◌∙◌, ◌<◌, ◌++◌, ℕ, zero, suc, List, [], ◌∷◌, length}
+use Rattle.std.proofs.Common.{Option, Some, None, refl, sym, ap, subst, inl, inr}
+use Rattle.std.specs.Prelude.{⊤, All, OnOk, Result, Ok, Err, IfSome}
+use Rattle.std.specs.Prelude.{slice_get, slice_set, slice_index_or}
 use Rattle.std.proofs.lemmas.Option.{none-some, same_Some, slice_get_within, get_or_from_slice_get}
 use Rattle.std.proofs.lemmas.List.Elements.{All-weaker, All-get_or, All-set}
 use Rattle.std.proofs.lemmas.List.{get_or-set_same, get_or-set_other, get_or_default, length-set}
@@ -15,7 +17,8 @@ use Rattle.share_bound.specs.declared.known.KnownShare.{KnownShare}
 use Rattle.share_bound.specs.declared.known.KnownShares.{KnownShares}
 use Rattle.share_bound.specs.Times.{base_in}
 use Rattle.share_bound.specs.Leasts.{IsFittedShare}
-use Rattle.share_bound.specs.Known.{known_of, HoldsOver, HoldsFor, HoldFor, IsAboutNone, AreBasesOf, IsCurrentOver, IsCurrentShare, IsShareCurrent, IsPlaceOfShare}
+use Rattle.share_bound.specs.Known.{known_of, HoldsOver, HoldsFor, HoldFor, IsAboutNone, AreBasesOf}
+use Rattle.share_bound.specs.Known.{IsCurrentOver, IsCurrentShare, IsShareCurrent, IsPlaceOfShare}
 
 -- ---- one train, whose routes the decision is not about
 
@@ -33,8 +36,8 @@ module _ (node : Node) (decision : Decision) (t : ℕ) (other : train_of_decisio
           is.least route found (allowed_before node decision t route allowed);
     }
 
-    reach_above : (base : ℕ → ℕ) (o total : ℕ) → IsReach (with_decision node decision) t base o total
-        → IsReach node t base o total
+    reach_above : (base : ℕ → ℕ) (o total : ℕ)
+        → IsReach (with_decision node decision) t base o total → IsReach node t base o total
     reach_above base o total is = record {
       there = (
         is.there.0,
@@ -59,8 +62,8 @@ module _ (node : Node) (decision : Decision) (t : ℕ) (other : train_of_decisio
       least = λ route allowed. is.least route (allowed_before node decision t route allowed);
     }
 
-    share_above : (base : ℕ → ℕ) (share : ℕ) → IsShareOver (with_decision node decision) t base share
-        → IsShareOver node t base share
+    share_above : (base : ℕ → ℕ) (share : ℕ)
+        → IsShareOver (with_decision node decision) t base share → IsShareOver node t base share
     share_above base share is = record {
       reach = is.reach;
       reach_is = λ route o allowed has. reach_above base o (is.reach o)
@@ -183,8 +186,8 @@ about_none decision old new u there about is t one known = λ same.
 -- with the decision taken back, and what was known of its train put back
 pub back_holds : (node : Node) (decision : Decision) (old new : KnownShares) (u : ℕ)
     (put : Option KnownShare) → u < length old.each.items → train_of_decision decision ≡ Some u
-    → new.each.items ≡ slice_set old.each.items u put → length new.each.items ≡ length old.each.items
-    → HoldFor (with_decision node decision) old
+    → new.each.items ≡ slice_set old.each.items u put
+    → length new.each.items ≡ length old.each.items → HoldFor (with_decision node decision) old
     → ((one : KnownShare) → put ≡ Some one → HoldsFor node u one) → HoldFor node new
 back_holds node decision old new u put there about is long hold one_holds = record {
   long = long ∙ hold.long;
@@ -205,7 +208,8 @@ back_holds node decision old new u put there about is long hold one_holds = reco
 
 -- what is known is what is read
 pub current_one : (node : Node) (t : ℕ) (known : KnownShares) (one : KnownShare)
-    → IsShareCurrent node t known → known_of known.each.items t ≡ Some one → IsCurrentShare node t one
+    → IsShareCurrent node t known → known_of known.each.items t ≡ Some one
+    → IsCurrentShare node t one
 current_one node t known one is there = subst (IsCurrentShare node t)
     (same_Some is.one one (sym is.known_is ∙ there)) is.current
 
@@ -250,7 +254,8 @@ read_known each t read one there is some = get_or_default each t None read there
 pub none_holds : (node : Node) (old new : KnownShares) (u : ℕ) → u < length old.each.items
     → new.each.items ≡ slice_set old.each.items u None → HoldFor node old → HoldFor node new
 none_holds node old new u there is hold = put_holds node old new u None there is
-    (same_length old.each.items new.each.items u None is) hold (λ one some. absurd (none-some one some))
+    (same_length old.each.items new.each.items u None is) hold
+    (λ one some. absurd (none-some one some))
 
 -- an earlier share and the last one in each other's place
 pub recalled : (node : Node) (t : ℕ) (old new : KnownShare) (read : List ShareOver) (place : ℕ)
@@ -259,8 +264,8 @@ pub recalled : (node : Node) (t : ℕ) (old new : KnownShare) (read : List Share
     → new.earlier.items ≡ slice_set old.earlier.items place old.last → IsCurrentShare node t new
 recalled node t old new read place same found holds last earlier = record {
   bases = subst (λ (one : ShareOver). AreBasesOf node t one.bases.items)
-      (same_Some found.one new.last (sym found.one_is ∙ ap (λ (l : List ShareOver). slice_get l place) same
-      ∙ last)) found.bases;
+      (same_Some found.one new.last (sym found.one_is
+      ∙ ap (λ (l : List ShareOver). slice_get l place) same ∙ last)) found.bases;
   holds = record {
     last = subst (HoldsOver node t)
         (get_or_from_slice_get old.earlier.items place new.last new.last last)

@@ -26,8 +26,8 @@ pub record HoldsListing (node : Node) (t : ℕ) (bases : List ℕ) (listing : Li
   pub within : (o : ℕ) → slice_index listing.bases.items o ≤ slice_index bases o
 
 -- the same where the train is listed
-abbrev pub ShowsShare : Node → ℕ → List ℕ → LeafPart → Type 0
-ShowsShare node t bases showing = (listing : Listing) → showing ≡ Listed listing
+abbrev pub ShowsPart : Node → ℕ → List ℕ → LeafPart → Type 0
+ShowsPart node t bases showing = (listing : Listing) → showing ≡ Listed listing
     → HoldsListing node t bases listing
 
 -- the share of the train over the bases, by the routes that are allowed at the node, and how a leaf
@@ -35,7 +35,7 @@ ShowsShare node t bases showing = (listing : Listing) → showing ≡ Listed lis
 pub record HoldsOver (node : Node) (t : ℕ) (one : ShareOver) : Type 0 where
   pub share : IsFittedShare node t (base_in one.bases.items) one.share
   pub shows : (showing : LeafPart) → one.showing ≡ Some showing
-      → ShowsShare node t one.bases.items showing
+      → ShowsPart node t one.bases.items showing
 
 -- the same of all that is known of the train
 pub record HoldsFor (node : Node) (t : ℕ) (known : KnownShare) : Type 0 where

@@ -1,4 +1,5 @@
-ghost use Rattle.std.specs.Prelude.{ℕ, ◌≡◌, ◌<◌, ◌↔◌, All, IsTrue, IfOk, IfSome, OnOk, MatchOption, Some, length, slice_get, slice_set};
+ghost use Rattle.std.specs.Prelude.{ℕ, ◌≡◌, ◌<◌, ◌↔◌, All, IsTrue, IfOk, IfSome, OnOk, MatchOption};
+ghost use Rattle.std.specs.Prelude.{Some, length, slice_get, slice_set};
 ghost use Rattle.disp_model.specs.declared.settings.Rule.TheVariants.{Free};
 ghost use Rattle.disp_model.specs.Node.{Node, with_decision};
 ghost use Rattle.disp_model.specs.Valid.{train_at};
@@ -8,7 +9,9 @@ ghost use Rattle.share_bound.specs.declared.known.KnownShare.{KnownShare as Know
 ghost use Rattle.share_bound.specs.Bases.{AreBasesTo, IsShareWithin};
 ghost use Rattle.problem_facts.specs.Components.{AreOwnOf};
 ghost use Rattle.share_bound.specs.declared.known.TheConstants.{MOST_EARLIER};
-ghost use Rattle.share_bound.specs.Known.{known_of, AreBasesOf, HoldsOver, HoldsFor, HoldFor, IsAboutNone, IsCurrentOver, IsCurrentShare, IsShareCurrent, IsPlaceOfShare, ShowsShare};
+ghost use Rattle.share_bound.specs.Known.{known_of, AreBasesOf, HoldsOver, HoldsFor, HoldFor};
+ghost use Rattle.share_bound.specs.Known.{IsAboutNone, IsCurrentOver, IsCurrentShare, IsShareCurrent};
+ghost use Rattle.share_bound.specs.Known.{IsPlaceOfShare, ShowsPart};
 
 use crate::bases::{bases_in, bases_of};
 use crate::shares::{share_over, train_of};
@@ -57,9 +60,9 @@ pub struct KnownShare {
 /// How many shares of a train are kept beside the last one.
 const MOST_EARLIER: usize = 7;
 
-/// Of each train shares that were reckoned, if some are known, by the routes that are allowed at the
-/// node of a graph. One of them is the share at the node where the bases of the train are the same:
-/// a search comes back to bases that it left a few nodes before.
+/// Of each train shares that were reckoned, if some are known, by the routes that are allowed at
+/// the node of a graph. One of them is the share at the node where the bases of the train are the
+/// same: a search comes back to bases that it left a few nodes before.
 #[derive(Drop)]
 pub struct KnownShares {
     pub(crate) each: Vec<Option<KnownShare>>,
@@ -226,7 +229,7 @@ fn renewed(
 fn shown(known: KnownShare, showing: LeafPart) -> KnownShare
     ensures bases { result.last.bases ≡ known.last.bases }
     ensures holds { (node : Node) (t : ℕ) → HoldsFor node t known
-        → ShowsShare node t known.last.bases.items showing → HoldsFor node t result }
+        → ShowsPart node t known.last.bases.items showing → HoldsFor node t result }
 {
     let KnownShare {
         last,
@@ -338,13 +341,14 @@ impl KnownShares {
         }
     }
 
-    /// Keeps how a leaf shows the share of a train at the node of a graph, which is known.
+    /// Keeps how a leaf shows the share of a train at the node of a graph, which is known. The share
+    /// and its bases stay as they were, and so does what is known beside them and of other trains.
     pub fn show(&mut self, graph: &Graph, train: u32, showing: LeafPart)
         requires train { train < length graph.now.problem.trains }
         requires known { HoldFor graph.now self.old }
         requires current { IsShareCurrent graph.now train self.old }
         requires shows { (one : KnownShareOf) → known_of self.old.each.items train ≡ Some one
-            → ShowsShare graph.now train one.last.bases.items showing }
+            → ShowsPart graph.now train one.last.bases.items showing }
         ensures known { HoldFor graph.now self.new }
         ensures current { IsShareCurrent graph.now train self.new }
     {
@@ -414,8 +418,9 @@ impl KnownShares {
         }
     }
 
-    /// Takes out the share of the train whose routes a decision is about: the others hold with the
-    /// decision too.
+    /// Takes out and gives what is known of the train whose routes a decision is about. What is known
+    /// of the others stays, and holds with the decision too. Where it is about no train's routes all
+    /// stays, and nothing is given.
     pub fn set_aside(&mut self, decision: Decision) -> Option<KnownShare>
         ensures same { (node : Node) → HoldFor node self.old → HoldFor node self.new }
         ensures below { (node : Node) → HoldFor node self.old
@@ -429,8 +434,9 @@ impl KnownShares {
         }
     }
 
-    /// Puts the share of that train back, where the decision is taken back: the others hold without
-    /// it too.
+    /// Puts what was known of that train back, or nothing, where the decision is taken back: what was
+    /// found of the train meanwhile is given up. What is known of the others stays, and holds without
+    /// the decision too.
     pub fn put_back(&mut self, decision: Decision, aside: Option<KnownShare>)
         ensures { (node : Node) → HoldFor (with_decision node decision) self.old
             → ((t : ℕ) → train_of_decision decision ≡ Some t → IfSome aside (HoldsFor node t))

@@ -1,5 +1,6 @@
 -- Bases that walks show, one operation after another.
-use Rattle.std.proofs.Common.{◌≡◌, ◌∙◌, ℕ, ◌+◌, ◌<◌, ◌≤◌, List, [], ◌∷◌, ◌++◌, length, Some, refl, sym, ap, subst, inl, inr, arith}
+use Rattle.std.proofs.Common.{◌≡◌, ◌∙◌, ℕ, ◌+◌, ◌<◌, ◌≤◌, List, [], ◌∷◌, ◌++◌, length, Some}
+use Rattle.std.proofs.Common.{refl, sym, ap, subst, inl, inr, arith}
 use Rattle.std.specs.Prelude.{slice_get, slice_index, All}
 use Rattle.std.proofs.lemmas.Bool.{cases_lt}
 use Rattle.std.proofs.lemmas.Option.{get_or_from_slice_get, slice_get-get_or}
@@ -35,7 +36,8 @@ module _ (bases : List ℕ) (base count : ℕ) (long : length bases ≡ count) w
     | inl early ↦ subst (P o) (sym (kept_at o early)) (before o early)
     | inr late ↦
         let same : count ≡ o = omega (arith, late, less) in
-        subst (λ (x : ℕ). P x (slice_index (bases ++ base ∷ []) x)) same (subst (P count) (sym last_at) own)
+        subst (λ (x : ℕ). P x (slice_index (bases ++ base ∷ []) x)) same
+        (subst (P count) (sym last_at) own)
   ]
 
 -- no length yet
@@ -147,8 +149,8 @@ shows_each node t count bases walks own long o = elim (cases_lt o count) [
 ]
 
 -- the base of each operation, and what is kept of it
-pub low_base : (node : Node) (t o : ℕ) (bases : List ℕ) → AreLowBases node t bases → o < length bases
-    → (found : ℕ) × IsBase node (record { train = t; op = o }) found
+pub low_base : (node : Node) (t o : ℕ) (bases : List ℕ) → AreLowBases node t bases
+    → o < length bases → (found : ℕ) × IsBase node (record { train = t; op = o }) found
     × (slice_index bases o ≤ found)
 low_base node t o bases low less = (
   slice_index low.lengths o,

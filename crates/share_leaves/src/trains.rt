@@ -4,7 +4,7 @@ ghost use Rattle.problem_facts.specs.Components.{AreOwnOf};
 ghost use Rattle.share_leaves.specs.Listed.{AreListed, HoldsLow};
 ghost use Rattle.share_bound.specs.declared.known.Listing.{Listing as ListingOf};
 ghost use Rattle.share_bound.specs.declared.known.LeafPart.TheVariants.{Listed as ListedAs};
-ghost use Rattle.share_bound.specs.Known.{AreBasesOf, HoldFor, HoldsListing, HoldsOver, IsShareCurrent, ShowsShare};
+ghost use Rattle.share_bound.specs.Known.{AreBasesOf, HoldFor, HoldsListing, HoldsOver, IsShareCurrent, ShowsPart};
 
 use crate::kept::{count_wanted, kept};
 use crate::listed::walks_to;
@@ -98,7 +98,7 @@ fn part_of(
     requires own { AreOwnOf problem.now components.now }
     requires train { train < length problem.now.trains }
     requires bases { AreBasesOf graph.now train known.now.bases.items }
-    ensures { IfOk result (ShowsShare graph.now train known.now.bases.items) }
+    ensures { IfOk result (ShowsPart graph.now train known.now.bases.items) }
 {
     let lengths = known.bases.as_slice();
     let forced = forced_cost(graph, components.of_train(train), train, lengths);
