@@ -6,7 +6,7 @@ use crossbeam_deque::{Steal, Stealer, Worker};
 use disp_model::Memory;
 use incumbent_cell::{CellPass, Least};
 use open_nodes::Work;
-use search_workers::{Effort, FOR_PLAN, Foresight};
+use search_workers::{Effort, FOR_PLAN, Lookout};
 use std::alloc::Global;
 
 /// How many works a searcher has room for.
@@ -29,6 +29,7 @@ pub struct Crew {
     pub(crate) least: Least,
     stealers: Vec<Stealer<Work>>,
     budget: u32,
+    pace: Pace,
 }
 
 /// What one searcher of a crew has for itself: its place in the crew, its pass to the least cost,
@@ -99,6 +100,7 @@ pub fn crew_of(
         least,
         stealers,
         budget,
+        pace,
     };
     Ok((crew, hands))
 }
@@ -109,10 +111,13 @@ impl Crew {
         self.stealers.len() > 1
     }
 
-    /// How much the searcher at a place looks for ahead of a search.
-    pub(crate) fn foresight(&self, place: u32) -> Foresight {
+    /// When the searcher at a place looks for better plans.
+    pub(crate) fn lookout(&self, place: u32) -> Lookout {
         let count = u32::try_from(self.stealers.len()).unwrap_or(u32::MAX);
-        Foresight::of(place, count, self.budget)
+        match self.pace {
+            Pace::Steady => Lookout::steady(place, count, self.budget),
+            Pace::Prompt => Lookout::prompt(place, self.budget),
+        }
     }
 
     /// A work of some searcher.

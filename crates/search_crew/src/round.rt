@@ -1,6 +1,7 @@
 ghost use Rattle.std.specs.Prelude.{◌≡◌, ℕ, List, IfOk, Some, Ok};
 ghost use Rattle.disp_model.specs.declared.fixing.Fixing.{Fixing as FixingOf};
 ghost use Rattle.disp_model.specs.declared.answer.Answer.{Answer as AnswerOf};
+ghost use Rattle.disp_model.specs.declared.settings.Rule.{Rule as RuleOf};
 ghost use Rattle.disp_model.specs.History.{fixings_after};
 ghost use Rattle.node_leaves.specs.Reckoned.{ReckonsFor};
 ghost use Rattle.shared_board.specs.Board.{board_of, problem_of, own_board, known};
@@ -12,7 +13,7 @@ ghost use Rattle.search_crew.specs.Working.{IsAnswered, IsAtWork, KeepsOn};
 
 use crate::crew::{Crew, Hand};
 use crate::ground::{Ground, lesser};
-use crate::hand_in::hand_in;
+use crate::hand_in::{hand_in, publish};
 use crate::turn::{Turn, give_back, keep_another, next_turn};
 use disp_model::{Answer, Memory};
 use disp_outside::{Gate, Point};
@@ -109,7 +110,7 @@ fn find_turn<W: Wait>(
 
 /// Takes a work and grows it, as far as there is one. Says how the search of the edition ended, if
 /// it has.
-pub(crate) fn round<W: Wait, G: Gate>(
+fn grow_next<W: Wait, G: Gate>(
     rt: &W,
     alloc: Global,
     board: &Board,
@@ -146,4 +147,60 @@ pub(crate) fn round<W: Wait, G: Gate>(
         Turn::Answer(answer) => Ok(Some(answer)),
         Turn::On => Ok(None),
     }
+}
+
+/// Looks for better plans where that is due, and publishes one that is found.
+fn look_on<W: Wait>(
+    rt: &W,
+    alloc: Global,
+    board: &Board,
+    pass: &mut Pass,
+    crew: &Crew,
+    hand: &mut Hand,
+    ground: &mut Ground,
+    edition: u32,
+) -> Result<(), Memory>
+    requires at { (rule : RuleOf) × IsAtWork board.now rule edition pass.old }
+    requires hand { IsHandOf crew.now hand.old }
+    requires ground { IsGround (problem_of board.now) (fixings_after edition (known pass.old).seen)
+        ground.old }
+    ensures on { KeepsOn pass.old pass.new }
+    ensures hand { IsSameHand hand.old hand.new }
+    ensures ground { (fixings : List FixingOf) → IsGround (problem_of board.now) fixings ground.old
+        → IsGround (problem_of board.now) fixings ground.new }
+{
+    let plan = ground.look_on(alloc, board.problem())?;
+    publish(rt, alloc, board, pass, crew, hand, edition, plan)
+}
+
+/// Looks for better plans where that is due, and then grows a work. Says how the search of the
+/// edition ended, if it has.
+pub(crate) fn round<W: Wait, G: Gate>(
+    rt: &W,
+    alloc: Global,
+    board: &Board,
+    pass: &mut Pass,
+    crew: &Crew,
+    hand: &mut Hand,
+    reckoning: &Reckoning,
+    ground: &mut Ground,
+    edition: u32,
+    gate: &G,
+) -> Result<Option<Answer>, Memory>
+    requires reckons { ReckonsFor (problem_of board.now) reckoning.now }
+    requires at { IsAtWork board.now reckoning.now.rule edition pass.old }
+    requires hand { IsHandOf crew.now hand.old }
+    requires ground { IsGround (problem_of board.now) (fixings_after edition (known pass.old).seen)
+        ground.old }
+    ensures on { KeepsOn pass.old pass.new }
+    ensures hand { IsSameHand hand.old hand.new }
+    ensures ground { (fixings : List FixingOf) → IsGround (problem_of board.now) fixings ground.old
+        → IsGround (problem_of board.now) fixings ground.new }
+    ensures answered { (answer : AnswerOf) → result ≡ Ok (Some answer)
+        → IsAnswered edition (known pass.new).seen answer }
+{
+    look_on(rt, alloc, board, pass, crew, hand, ground, edition)?;
+    grow_next(
+        rt, alloc, board, pass, crew, hand, reckoning, ground, edition, gate,
+    )
 }

@@ -6,12 +6,12 @@ ghost use Rattle.node_leaves.specs.Reckoned.{ReckonsFor};
 ghost use Rattle.shared_board.specs.Board.{board_of, problem_of, own_board, known};
 ghost use Rattle.shared_board.specs.Calls.{IsSearcher};
 ghost use Rattle.search_crew.specs.Crews.{IsHandOf, IsSameHand};
-ghost use Rattle.search_crew.specs.Grounds.{IsGround, HasBegun};
+ghost use Rattle.search_crew.specs.Grounds.{IsGround};
 ghost use Rattle.search_crew.specs.Working.{IsAnswered, IsAtWork, KeepsOn};
 
 use crate::crew::{Crew, Hand};
-use crate::ground::{Begun, Ground, begin};
-use crate::hand_in::{publish, tell};
+use crate::ground::{Ground, begin};
+use crate::hand_in::tell;
 use crate::round::round;
 use crate::turn::give_back;
 use disp_model::{Answer, GREATEST_COST, Memory, Rule, Unfinished};
@@ -54,46 +54,6 @@ fn rounds<W: Wait, G: Gate>(
     unreachable!()
 }
 
-/// Searches the edition from its root: publishes the plan that was found ahead of it, and then goes
-/// by rounds.
-fn search_from<W: Wait, G: Gate>(
-    rt: &W,
-    alloc: Global,
-    board: &Board,
-    pass: &mut Pass,
-    crew: &Crew,
-    hand: &mut Hand,
-    reckoning: &Reckoning,
-    begun: Begun,
-    edition: u32,
-    gate: &G,
-) -> Result<Answer, Memory>
-    requires reckons { ReckonsFor (problem_of board.now) reckoning.now }
-    requires at { IsAtWork board.now reckoning.now.rule edition pass.old }
-    requires hand { IsHandOf crew.now hand.old }
-    requires begun { HasBegun (problem_of board.now) (fixings_after edition (known pass.old).seen)
-        begun }
-    ensures on { KeepsOn pass.old pass.new }
-    ensures hand { IsSameHand hand.old hand.new }
-    ensures answered { IfOk result (IsAnswered edition (known pass.new).seen) }
-{
-    let Begun { mut ground, plan } = begun;
-    tell(crew, hand, edition, GREATEST_COST);
-    publish(rt, alloc, board, pass, crew, hand, edition, plan)?;
-    rounds(
-        rt,
-        alloc,
-        board,
-        pass,
-        crew,
-        hand,
-        reckoning,
-        &mut ground,
-        edition,
-        gate,
-    )
-}
-
 /// Searches the edition, where it is the newest, on a ground of its own.
 fn search_newest<W: Wait, G: Gate>(
     rt: &W,
@@ -116,12 +76,22 @@ fn search_newest<W: Wait, G: Gate>(
     if number != edition {
         return Ok(Answer::Unfinished(Unfinished::Newer(number)));
     }
+    tell(crew, hand, edition, GREATEST_COST);
     let reckoning = Reckoning::new(alloc, board.problem(), rule)?;
-    let foresight = crew.foresight(hand.place);
+    let lookout = crew.lookout(hand.place);
     let order = &mut hand.order;
-    let begun = begin(alloc, board.problem(), fixings.as_slice(), foresight, order)?;
-    search_from(
-        rt, alloc, board, pass, crew, hand, &reckoning, begun, edition, gate,
+    let mut ground = begin(alloc, board.problem(), fixings.as_slice(), lookout, order)?;
+    rounds(
+        rt,
+        alloc,
+        board,
+        pass,
+        crew,
+        hand,
+        &reckoning,
+        &mut ground,
+        edition,
+        gate,
     )
 }
 

@@ -1,4 +1,4 @@
-use crate::growth::Growth;
+use crate::growth::{Growth, size_of};
 use disp_model::Memory;
 
 /// How many branches a searcher asks for at a time to find a plan: as many as a dive may need to
@@ -28,14 +28,6 @@ pub struct Effort {
     bound: u64,
     /// Whether the bound is to be raised next.
     raises: bool,
-}
-
-/// How many nodes came of a work.
-fn size_of(growth: &Result<Growth, Memory>) -> u64 {
-    match growth {
-        Ok(Growth::Subtree { nodes, .. }) => nodes.len() as u64,
-        _ => 1,
-    }
 }
 
 impl Effort {

@@ -18,7 +18,6 @@ use open_nodes::Work;
 use packed_nodes::PackedNode;
 use share_bound::KnownShares;
 use std::alloc::Global;
-use train_insertion::Target;
 use tree_dives::{Dive, End, Guide, dive};
 
 /// What a searcher makes of a leaf.
@@ -45,14 +44,11 @@ pub fn leaf_alone(alloc: Global, leaf: Leaf) -> Result<Growth, Memory>
     })
 }
 
-/// The target that the plan of a growth is, where it has one and there is memory for it.
-pub fn target_after(alloc: Global, problem: &Problem, growth: &Growth) -> Option<Target> {
+/// How many nodes came of a work.
+pub(crate) fn size_of(growth: &Result<Growth, Memory>) -> u64 {
     match growth {
-        Growth::Subtree {
-            plan: Some(plan),
-            ..
-        } => Target::of_plan(alloc, problem, plan.as_slice()).ok(),
-        _ => None,
+        Ok(Growth::Subtree { nodes, .. }) => nodes.len() as u64,
+        _ => 1,
     }
 }
 

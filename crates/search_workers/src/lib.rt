@@ -4,16 +4,19 @@
 //! stopped.
 #![tactic(auto)]
 
-mod ahead;
 mod effort;
+mod explorer;
 mod growth;
 mod hand_in;
+mod lookout;
+mod scout;
 mod search;
 mod turn;
 mod walk;
 
-pub use ahead::{Foresight, Guided, guide_ahead};
 pub use effort::{Effort, FOR_BOUND, FOR_PLAN};
-pub use growth::{Growth, grow, leaf_alone, target_after};
+pub use explorer::Explorer;
+pub use growth::{Growth, grow, leaf_alone};
+pub use lookout::Lookout;
 pub use search::search_alone;
 pub use walk::refused_leaf;

@@ -8,19 +8,18 @@ ghost use Rattle.share_bound.specs.Known.{HoldFor};
 ghost use Rattle.search_workers.specs.declared.growth.Growth.TheVariants.{Subtree};
 ghost use Rattle.search_workers.specs.Searched.{CoreGoesOn, IsClosed, IsOfNewest};
 
-use crate::ahead::{Foresight, Guided, guide_ahead};
 use crate::effort::{Effort, FOR_PLAN};
-use crate::growth::{Growth, grow, leaf_alone, target_after};
+use crate::explorer::Explorer;
+use crate::growth::{Growth, leaf_alone};
 use crate::hand_in::{hand_in, publish};
+use crate::lookout::Lookout;
 use crate::turn::{SEARCHER, Turn, next_turn};
 use crate::walk::refused_leaf;
 use disp_model::{Copied, Fixing, Leaf, Memory, Problem, Rule, Settings};
 use dispatch_core::Core;
 use event_graph::Graph;
 use node_leaves::Reckoning;
-use share_bound::KnownShares;
 use std::alloc::Global;
-use tree_dives::Guide;
 
 /// A copy of a leaf, with the bound 0.
 fn copy_alone(alloc: Global, leaf: &Leaf) -> Result<Growth, Memory>
@@ -29,52 +28,78 @@ fn copy_alone(alloc: Global, leaf: &Leaf) -> Result<Growth, Memory>
     leaf_alone(alloc, leaf.copy()?)
 }
 
-/// Makes the plan of a growth the target, where it has one.
-fn aim_at(alloc: Global, problem: &Problem, guide: &mut Guide, growth: &Result<Growth, Memory>) {
-    if let Ok(growth) = growth {
-        if let Some(target) = target_after(alloc, problem, growth) {
-            guide.aim_at(target);
-        }
-    }
+/// Looks for better plans where that is due, and publishes one that is found.
+fn look_on(
+    alloc: Global,
+    problem: &Problem,
+    core: &mut Core,
+    explorer: &mut Explorer,
+) -> Result<(), Memory>
+    requires problem { core.old.problem ≡ problem.now }
+    requires newest { IsOfNewest core.old explorer.old.graph }
+    requires known { HoldFor explorer.old.graph explorer.old.known }
+    ensures known { HoldFor explorer.new.graph explorer.new.known }
+    ensures on { CoreGoesOn core.old core.new }
+    ensures newest { IsOfNewest core.new explorer.new.graph }
+{
+    let plan = explorer.look_on(alloc, problem)?;
+    publish(alloc, core, plan)
 }
 
-/// Takes a leaf of the newest edition and grows it, along a guide; a plan that is found is its
-/// target from then on. Says whether the edition is closed.
-fn round(
+/// Takes a leaf of the newest edition and grows it. Says whether the edition is closed.
+fn grow_next(
     alloc: Global,
     problem: &Problem,
     reckoning: &Reckoning,
     core: &mut Core,
-    graph: &mut Graph,
-    known: &mut KnownShares,
-    guide: &mut Guide,
+    explorer: &mut Explorer,
     effort: &mut Effort,
 ) -> Result<bool, Memory>
     requires problem { core.old.problem ≡ problem.now }
     requires reckons { ReckonsFor problem.now reckoning.now }
     requires rule { core.old.settings.rule ≡ reckoning.now.rule }
-    requires newest { IsOfNewest core.old graph.old }
-    requires known { HoldFor graph.old known.old }
-    ensures known { HoldFor graph.new known.new }
+    requires newest { IsOfNewest core.old explorer.old.graph }
+    requires known { HoldFor explorer.old.graph explorer.old.known }
+    ensures known { HoldFor explorer.new.graph explorer.new.known }
     ensures on { CoreGoesOn core.old core.new }
-    ensures newest { IsOfNewest core.new graph.new }
+    ensures newest { IsOfNewest core.new explorer.new.graph }
     ensures closed { IfOk result (λ closed. closed ≡ true → IsClosed core.new) }
 {
     let want = effort.want();
     match next_turn(alloc, core, want)? {
         Turn::Work(work) => {
-            let growth = grow(
-                alloc, problem, reckoning, graph, known, &work, work.best, guide,
-            );
-            guide.count_dive();
+            let growth = explorer.grow(alloc, problem, reckoning, &work, work.best);
             effort.count(work.allowance, &growth);
-            aim_at(alloc, problem, guide, &growth);
             hand_in(alloc, core, work, growth)?;
             Ok(false)
         }
         Turn::Closed => Ok(true),
         Turn::On => Ok(false),
     }
+}
+
+/// Looks for better plans where that is due, and then grows a leaf of the newest edition. Says
+/// whether the edition is closed.
+fn round(
+    alloc: Global,
+    problem: &Problem,
+    reckoning: &Reckoning,
+    core: &mut Core,
+    explorer: &mut Explorer,
+    effort: &mut Effort,
+) -> Result<bool, Memory>
+    requires problem { core.old.problem ≡ problem.now }
+    requires reckons { ReckonsFor problem.now reckoning.now }
+    requires rule { core.old.settings.rule ≡ reckoning.now.rule }
+    requires newest { IsOfNewest core.old explorer.old.graph }
+    requires known { HoldFor explorer.old.graph explorer.old.known }
+    ensures known { HoldFor explorer.new.graph explorer.new.known }
+    ensures on { CoreGoesOn core.old core.new }
+    ensures newest { IsOfNewest core.new explorer.new.graph }
+    ensures closed { IfOk result (λ closed. closed ≡ true → IsClosed core.new) }
+{
+    look_on(alloc, problem, core, explorer)?;
+    grow_next(alloc, problem, reckoning, core, explorer, effort)
 }
 
 /// The same where the root of the newest edition is dead, as this leaf shows: then so is the node
@@ -102,29 +127,19 @@ fn rounds(
     problem: &Problem,
     reckoning: &Reckoning,
     core: &mut Core,
-    graph: &mut Graph,
-    guide: &mut Guide,
+    explorer: &mut Explorer,
 ) -> Result<(), Memory>
     requires problem { core.old.problem ≡ problem.now }
     requires reckons { ReckonsFor problem.now reckoning.now }
     requires rule { core.old.settings.rule ≡ reckoning.now.rule }
-    requires newest { IsOfNewest core.old graph.old }
+    requires newest { IsOfNewest core.old explorer.old.graph }
+    requires known { HoldFor explorer.old.graph explorer.old.known }
     ensures on { CoreGoesOn core.old core.new }
     ensures closed { OnOk result (IsClosed core.new) }
 {
     let mut effort = Effort::new(FOR_PLAN);
-    let mut known = KnownShares::new(alloc, problem)?;
     for _ in 0..u64::MAX {
-        if round(
-            alloc,
-            problem,
-            reckoning,
-            core,
-            graph,
-            &mut known,
-            guide,
-            &mut effort,
-        )? {
+        if round(alloc, problem, reckoning, core, explorer, &mut effort)? {
             return Ok(());
         }
     }
@@ -154,35 +169,31 @@ fn reckon(alloc: Global, problem: &Problem, rule: Rule) -> Result<Reckoning, Mem
     Reckoning::new(alloc, problem, rule)
 }
 
-/// Searches from the root of the newest edition, at which a graph is: publishes the plan that a look
-/// ahead finds, and then goes by rounds.
+/// Searches from the root of the newest edition, at which a graph is.
 fn search_from(
     alloc: Global,
     problem: &Problem,
     settings: Settings,
     core: &mut Core,
-    graph: &mut Graph,
+    graph: Graph,
     fixings: &[Fixing],
 ) -> Result<(), Memory>
     requires problem { core.old.problem ≡ problem.now }
     requires settings { core.old.settings ≡ settings }
-    requires newest { IsOfNewest core.old graph.old }
-    requires root { graph.old.decisions ≡ [] }
+    requires newest { IsOfNewest core.old graph }
     ensures on { CoreGoesOn core.old core.new }
     ensures closed { OnOk result (IsClosed core.new) }
 {
     let reckoning = reckon(alloc, problem, settings.rule)?;
-    let foresight = Foresight::of(SEARCHER, 1, settings.budget);
+    let lookout = Lookout::steady(SEARCHER, 1, settings.budget);
     let mut order = Vec::new(alloc);
-    let ahead = guide_ahead(alloc, problem, fixings, graph, foresight, &mut order)?;
-    let Guided { mut guide, plan } = ahead;
-    publish(alloc, core, plan)?;
-    rounds(alloc, problem, &reckoning, core, graph, &mut guide)
+    let mut explorer = Explorer::new(alloc, problem, fixings, graph, lookout, &mut order)?;
+    rounds(alloc, problem, &reckoning, core, &mut explorer)
 }
 
 /// Searches the newest edition of a core on one thread until it is settled or stopped. The problem
-/// and the settings are the core's. It looks ahead for a plan, which it publishes, and then goes
-/// down along that or, once one is found, the best plan.
+/// and the settings are the core's. It looks for plans before its first dive and each time that it
+/// has grown twice as much, and publishes those that it finds; its dives follow the last of them.
 ///
 /// # Errors
 ///
@@ -203,7 +214,7 @@ pub fn search_alone(
     let fixings = core.fixings(alloc)?;
     let fixings = fixings.as_slice();
     match Graph::new(alloc, problem, fixings) {
-        Ok(mut graph) => search_from(alloc, problem, settings, core, &mut graph, fixings),
+        Ok(graph) => search_from(alloc, problem, settings, core, graph, fixings),
         Err(no) => rounds_of_dead(alloc, core, &refused_leaf(no)?),
     }
 }

@@ -1,29 +1,21 @@
-use Rattle.std.proofs.Common.{◌≡◌, ℕ, rules, sym, subst}
+use Rattle.std.proofs.Common.{◌∙◌}
 use Rattle.disp_model.specs.History.{fixings_after}
 use Rattle.shared_board.specs.Board.{problem_of, known}
-use Rattle.shared_board.proofs.Onward.{searcher_on}
-use Rattle.search_crew.specs.Grounds.{IsGround}
-use Rattle.search_crew.specs.Working.{IsAtWork}
 use Rattle.search_crew.proofs.Grounding.{ground_on}
 use Rattle.search_crew.proofs.Keeping.{at_work_on, keeps_keeps}
 use Rattle.search_crew.proofs.round.round.Goals as goal
 
-pub give_back-requires-clause-searcher : goal.give_back-requires-clause-searcher
-give_back-requires-clause-searcher g c =
-    searcher_on (known c.args.pass.now) (known c.find_turn.new.pass) c.find_turn.ensures.on.goes.role c.requires.at.searcher
+pub grow_next-requires-clause-at : goal.grow_next-requires-clause-at
+grow_next-requires-clause-at g c =
+    at_work_on c.args.board.now c.args.reckoning.now.rule c.args.edition c.args.pass.now c.look_on.new.pass c.look_on.ensures.on c.requires.at
 
-pub returns-then-work-edition-clause-on : goal.returns-then-work-edition-clause-on
-returns-then-work-edition-clause-on g c =
-    keeps_keeps c.args.pass.now c.find_turn.new.pass c.give_back.new.pass c.find_turn.ensures.on c.give_back.ensures
+pub grow_next-requires-clause-ground : goal.grow_next-requires-clause-ground
+grow_next-requires-clause-ground g c =
+    let fixings = fixings_after c.args.edition (known c.args.pass.now).seen in
+    ground_on c.args.edition c.args.pass.now c.look_on.new.pass c.look_on.ensures.on c.requires.at.edition_is (problem_of c.args.board.now) c.look_on.new.ground (c.look_on.ensures.ground fixings c.requires.ground)
 
-pub work_on-requires-clause-at : goal.work_on-requires-clause-at
-work_on-requires-clause-at g c =
-    let same : c.in-Work.work.edition ≡ c.args.edition = search rules in
-    subst (λ (e : ℕ). IsAtWork c.args.board.now c.args.reckoning.now.rule e c.find_turn.new.pass) (sym same)
-    (at_work_on c.args.board.now c.args.reckoning.now.rule c.args.edition c.args.pass.now c.find_turn.new.pass c.find_turn.ensures.on c.requires.at)
+pub returns-clause-on : goal.returns-clause-on
+returns-clause-on g c = keeps_keeps c.args.pass.now c.look_on.new.pass c.grow_next.new.pass c.look_on.ensures.on c.grow_next.ensures.on
 
-pub work_on-requires-clause-ground : goal.work_on-requires-clause-ground
-work_on-requires-clause-ground g c =
-    let same : c.in-Work.work.edition ≡ c.args.edition = search rules in
-    subst (λ (e : ℕ). IsGround (problem_of c.args.board.now) (fixings_after e (known c.find_turn.new.pass).seen) c.args.ground.now) (sym same)
-    (ground_on c.args.edition c.args.pass.now c.find_turn.new.pass c.find_turn.ensures.on c.requires.at.edition_is (problem_of c.args.board.now) c.args.ground.now c.requires.ground)
+pub returns-clause-ground : goal.returns-clause-ground
+returns-clause-ground g c = λ fixings is. c.grow_next.ensures.ground fixings (c.look_on.ensures.ground fixings is)

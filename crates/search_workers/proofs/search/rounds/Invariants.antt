@@ -6,8 +6,8 @@ use Rattle.search_workers.proofs.search.rounds.Given as goal
 abbrev pub invariant-loop : goal.invariant-loop
 invariant-loop l = record {
   on : CoreGoesOn l.initial.core l.core;
-  newest : IsOfNewest l.core l.graph;
+  newest : IsOfNewest l.core l.explorer.graph;
   problem : l.core.problem ≡ l.problem;
   rule : l.core.settings.rule ≡ l.reckoning.rule;
-  known : HoldFor l.graph l.known;
+  known : HoldFor l.explorer.graph l.explorer.known;
 }

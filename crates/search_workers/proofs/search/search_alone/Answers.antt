@@ -1,6 +1,6 @@
-use Rattle.std.proofs.Common.{◌∙◌, [], ap}
+use Rattle.std.proofs.Common.{◌∙◌, []}
 use Rattle.std.proofs.lemmas.Result.{IfOk-at_ok}
-use Rattle.disp_model.specs.Node.{Node, node_at}
+use Rattle.disp_model.specs.Node.{node_at}
 use Rattle.node_leaves.specs.Shown.{IsDeadLeaf}
 use Rattle.search_workers.proofs.Rooted.{root_edition, graph_newest, dead_root}
 use Rattle.search_workers.proofs.search.search_alone.Goals as goal
@@ -13,9 +13,6 @@ new-requires c = record {
 pub search_from-requires-clause-newest : goal.search_from-requires-clause-newest
 search_from-requires-clause-newest c =
     graph_newest c.args.core.now c.edition-edition.ensures.sound c.args.problem.now c.requires.problem c.as_slice-fixings.result.now (c.as_slice-fixings.ensures.value ∙ c.in_ok-fixings.ensures) c.in-Ok.graph c.in-Ok.ensures.ok
-
-pub search_from-requires-clause-root : goal.search_from-requires-clause-root
-search_from-requires-clause-root c = ap (λ (n : Node). n.decisions) c.in-Ok.ensures.ok
 
 pub rounds_of_dead-requires : goal.rounds_of_dead-requires
 rounds_of_dead-requires c =

@@ -1,0 +1,82 @@
+use crate::growth::{Growth, size_of};
+use crate::lookout::Lookout;
+use disp_model::{Fixing, Memory, Plan, Problem};
+use near_plans::Ahead;
+use std::alloc::Global;
+use train_insertion::{INSERTIONS, Target, target};
+use tree_dives::Guide;
+
+/// How many trains are put in for a target where an order of trains is known from the last one.
+const INSERTIONS_AGAIN: u32 = 4000;
+
+/// What guides the dives of a search, and when better plans are looked for. Nothing rests on it.
+#[derive(Drop)]
+pub(crate) struct Scout {
+    pub guide: Guide,
+    pub lookout: Lookout,
+}
+
+/// How many trains are put in for a target, where this order of trains is known from the last one,
+/// if it is one.
+fn insertions_after(order: &[u32]) -> u32 {
+    if order.is_empty() {
+        INSERTIONS
+    } else {
+        INSERTIONS_AGAIN
+    }
+}
+
+impl Scout {
+    /// A scout for the search of an edition. Its target begins with the order of trains of the last
+    /// one, and leaves its own. Fails for memory alone.
+    pub(crate) fn new(
+        alloc: Global,
+        problem: &Problem,
+        fixings: &[Fixing],
+        lookout: Lookout,
+        order: &mut Vec<u32>,
+    ) -> Result<Scout, Memory> {
+        let insertions = insertions_after(order.as_slice());
+        let target = target(alloc, problem, fixings, insertions, order)?;
+        let guide = Guide::new(alloc, problem, target)?;
+        Ok(Scout { guide, lookout })
+    }
+
+    /// Makes a plan the target, where there is memory for it.
+    fn aim_at(&mut self, alloc: Global, problem: &Problem, plan: &Plan) {
+        if let Ok(target) = Target::of_plan(alloc, problem, plan.as_slice()) {
+            self.guide.aim_at(target);
+        }
+    }
+
+    /// Notes what a look came to. Where all is dead there is nothing more to look for.
+    pub(crate) fn note_look(&mut self, alloc: Global, problem: &Problem, ahead: &Ahead) {
+        if ahead.dead_by_time {
+            self.guide.begin_by_time();
+            self.lookout.end();
+        }
+        if let Some(plan) = &ahead.plan {
+            self.aim_at(alloc, problem, plan);
+        }
+    }
+
+    /// Notes what a dive came to: a plan that it found is the target from then on.
+    pub(crate) fn note_growth(
+        &mut self,
+        alloc: Global,
+        problem: &Problem,
+        growth: &Result<Growth, Memory>,
+    ) {
+        self.guide.count_dive();
+        self.lookout.count(size_of(growth));
+        if let Ok(
+            Growth::Subtree {
+                plan: Some(plan),
+                ..
+            },
+        ) = growth
+        {
+            self.aim_at(alloc, problem, plan);
+        }
+    }
+}
