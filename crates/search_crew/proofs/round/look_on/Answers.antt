@@ -10,10 +10,10 @@ use Rattle.search_crew.specs.Grounds.{IsGround}
 use Rattle.search_crew.proofs.Handing.{plan_at}
 use Rattle.search_crew.proofs.round.look_on.Goals as goal
 
-pub look_on-plan-requires-clause-ground : goal.look_on-plan-requires-clause-ground
-look_on-plan-requires-clause-ground g c =
+pub look_on-requires : goal.look_on-requires
+look_on-requires g c =
     let fixings = fixings_after c.args.edition (known c.args.pass.now).seen in
-    (fixings, subst (λ (p : Problem). IsGround p fixings c.args.ground.now) (sym c.problem.ensures) c.requires.ground)
+    record { ground = (fixings, subst (λ (p : Problem). IsGround p fixings c.args.ground.now) (sym c.problem.ensures) c.requires.ground) }
 
 pub publish-requires-clause-plan : goal.publish-requires-clause-plan
 publish-requires-clause-plan g c =
@@ -25,7 +25,12 @@ publish-requires-clause-plan g c =
     λ found same. plan_at board c.requires.at.0 edition c.args.pass.now c.requires.at.1 root refl found
     (subst (λ (p : Option (List Event)). IfSome p (IsPlanAt root)) same is)
 
+pub returns-in_err-plan-clause-ground : goal.returns-in_err-plan-clause-ground
+returns-in_err-plan-clause-ground g c = λ fixings is.
+    subst (λ (p : Problem). IsGround p fixings c.look_on.new.self) c.problem.ensures
+    (c.look_on.ensures.ground fixings (subst (λ (p : Problem). IsGround p fixings c.args.ground.now) (sym c.problem.ensures) is))
+
 pub returns-clause-ground : goal.returns-clause-ground
 returns-clause-ground g c = λ fixings is.
-    subst (λ (p : Problem). IsGround p fixings c.look_on-plan.new.self) c.problem.ensures
-    (c.look_on-plan.ensures.ground fixings (subst (λ (p : Problem). IsGround p fixings c.args.ground.now) (sym c.problem.ensures) is))
+    subst (λ (p : Problem). IsGround p fixings c.look_on.new.self) c.problem.ensures
+    (c.look_on.ensures.ground fixings (subst (λ (p : Problem). IsGround p fixings c.args.ground.now) (sym c.problem.ensures) is))

@@ -6,11 +6,11 @@ use Rattle.search_crew.proofs.Keeping.{at_work_on, keeps_keeps}
 use Rattle.search_crew.proofs.round.round.Goals as goal
 
 pub grow_next-requires-clause-at : goal.grow_next-requires-clause-at
-grow_next-requires-clause-at g c =
+grow_next-requires-clause-at g c = λ lifetimes outlived.
     at_work_on c.args.board.now c.args.reckoning.now.rule c.args.edition c.args.pass.now c.look_on.new.pass c.look_on.ensures.on c.requires.at
 
 pub grow_next-requires-clause-ground : goal.grow_next-requires-clause-ground
-grow_next-requires-clause-ground g c =
+grow_next-requires-clause-ground g c = λ lifetimes outlived.
     let fixings = fixings_after c.args.edition (known c.args.pass.now).seen in
     ground_on c.args.edition c.args.pass.now c.look_on.new.pass c.look_on.ensures.on c.requires.at.edition_is (problem_of c.args.board.now) c.look_on.new.ground (c.look_on.ensures.ground fixings c.requires.ground)
 
