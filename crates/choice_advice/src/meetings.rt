@@ -42,8 +42,8 @@ impl Weighed {
     };
 }
 
-/// When it was found that no order of two that meet closes a cycle: the turn of the trains, and that
-/// of the arcs.
+/// When it was found that no order of two that meet closes a cycle: the turn of the trains, and
+/// that of the arcs.
 #[derive(Clone, Copy)]
 pub(crate) struct Asked {
     pub turn: u64,

@@ -10,8 +10,8 @@ ghost use Rattle.share_bound.specs.Bases.{AreBasesTo, IsShareWithin};
 ghost use Rattle.problem_facts.specs.Components.{AreOwnOf};
 ghost use Rattle.share_bound.specs.declared.known.TheConstants.{MOST_EARLIER};
 ghost use Rattle.share_bound.specs.Known.{known_of, AreBasesOf, HoldsOver, HoldsFor, HoldFor};
-ghost use Rattle.share_bound.specs.Known.{IsAboutNone, IsCurrentOver, IsCurrentShare, IsShareCurrent};
-ghost use Rattle.share_bound.specs.Known.{IsPlaceOfShare, ShowsPart};
+ghost use Rattle.share_bound.specs.Known.{IsAboutNone, IsCurrentOver, IsCurrentShare};
+ghost use Rattle.share_bound.specs.Known.{IsShareCurrent, IsPlaceOfShare, ShowsPart};
 
 use crate::bases::{bases_in, bases_of};
 use crate::shares::{share_over, train_of};
@@ -341,8 +341,9 @@ impl KnownShares {
         }
     }
 
-    /// Keeps how a leaf shows the share of a train at the node of a graph, which is known. The share
-    /// and its bases stay as they were, and so does what is known beside them and of other trains.
+    /// Keeps how a leaf shows the share of a train at the node of a graph, which is known. The
+    /// share and its bases stay as they were, and so does what is known beside them and of other
+    /// trains.
     pub fn show(&mut self, graph: &Graph, train: u32, showing: LeafPart)
         requires train { train < length graph.now.problem.trains }
         requires known { HoldFor graph.now self.old }
@@ -418,9 +419,9 @@ impl KnownShares {
         }
     }
 
-    /// Takes out and gives what is known of the train whose routes a decision is about. What is known
-    /// of the others stays, and holds with the decision too. Where it is about no train's routes all
-    /// stays, and nothing is given.
+    /// Takes out and gives what is known of the train whose routes a decision is about. What is
+    /// known of the others stays, and holds with the decision too. Where it is about no train's
+    /// routes all stays, and nothing is given.
     pub fn set_aside(&mut self, decision: Decision) -> Option<KnownShare>
         ensures same { (node : Node) → HoldFor node self.old → HoldFor node self.new }
         ensures below { (node : Node) → HoldFor node self.old
@@ -434,9 +435,9 @@ impl KnownShares {
         }
     }
 
-    /// Puts what was known of that train back, or nothing, where the decision is taken back: what was
-    /// found of the train meanwhile is given up. What is known of the others stays, and holds without
-    /// the decision too.
+    /// Puts what was known of that train back, or nothing, where the decision is taken back: what
+    /// was found of the train meanwhile is given up. What is known of the others stays, and holds
+    /// without the decision too.
     pub fn put_back(&mut self, decision: Decision, aside: Option<KnownShare>)
         ensures { (node : Node) → HoldFor (with_decision node decision) self.old
             → ((t : ℕ) → train_of_decision decision ≡ Some t → IfSome aside (HoldsFor node t))
