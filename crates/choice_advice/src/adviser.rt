@@ -3,7 +3,7 @@ ghost use Rattle.std.specs.Prelude.{◌≡◌};
 use crate::changes::Changes;
 use crate::course::Course;
 use crate::facts::Facts;
-use crate::found::{Found, by_time, by_toll};
+use crate::found::{Found, by_any, by_time, by_toll};
 use crate::holders::Holders;
 use crate::layers::has_layers;
 use crate::links::Links;
@@ -25,8 +25,8 @@ pub enum Strategy {
     /// A fork of which one way is left; then an order of which one way leaves no plan; then the
     /// order that is asked for earliest; then a fork.
     Time,
-    /// Whatever is open: the route of the first train whose routes part, else what comes first by
-    /// tolls.
+    /// Whatever is open: the route of the first train whose routes part, else the order of two that
+    /// hold a resource at a time, else what comes first by tolls.
     Any,
 }
 
@@ -206,8 +206,9 @@ impl Adviser {
             links: &self.links,
         };
         match strategy {
-            Strategy::Toll | Strategy::Any => by_toll(view, &mut self.found, &self.layered),
+            Strategy::Toll => by_toll(view, &mut self.found, &self.layered),
             Strategy::Time => by_time(view, &mut self.found),
+            Strategy::Any => by_any(view, &mut self.found, &self.layered),
         }
     }
 }

@@ -30,16 +30,6 @@ impl Clash {
         self.meeting.one_start.max(self.meeting.other_start)
     }
 
-    /// The number of the lower train's.
-    pub(crate) fn first(&self) -> u32 {
-        self.meeting.one.min(self.meeting.other)
-    }
-
-    /// The number of the other one.
-    pub(crate) fn second(&self) -> u32 {
-        self.meeting.one.max(self.meeting.other)
-    }
-
     /// Whether it comes before another.
     pub(crate) fn is_before(&self, other: &Clash) -> bool {
         if self.weight != other.weight {
@@ -48,10 +38,11 @@ impl Clash {
         if self.later() != other.later() {
             return self.later() < other.later();
         }
-        if self.first() != other.first() {
-            return self.first() < other.first();
+        let (meeting, behind) = (&self.meeting, &other.meeting);
+        if meeting.first() != behind.first() {
+            return meeting.first() < behind.first();
         }
-        self.second() < other.second()
+        meeting.second() < behind.second()
     }
 }
 

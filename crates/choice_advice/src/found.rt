@@ -7,7 +7,7 @@ use crate::facts::Facts;
 use crate::forks::{Fork, Forks};
 use crate::holders::{Holder, Moved};
 use crate::layers::Crossings;
-use crate::meetings::Meetings;
+use crate::meetings::{Meeting, Meetings};
 use crate::seeker::Seeker;
 use crate::view::View;
 use crate::ways::Ways;
@@ -90,13 +90,23 @@ impl Found {
     }
 }
 
+/// The order of two that hold a resource at a time.
+fn order_of_overlap(facts: &Facts, meeting: &Meeting) -> Advice {
+    Advice::Order {
+        a: facts.op(meeting.first()),
+        b: facts.op(meeting.second()),
+        resource: meeting.resource,
+    }
+}
+
 /// The order of two that clash, where the routes part at a fork.
 fn order_of(facts: &Facts, clash: Clash, fork: Option<u32>) -> Option<Advice> {
-    let (a, b) = (facts.op(clash.first()), facts.op(clash.second()));
-    let resource = clash.meeting.resource;
-    if !clash.meeting.touches {
-        return Some(Advice::Order { a, b, resource });
+    let meeting = &clash.meeting;
+    if !meeting.touches {
+        return Some(order_of_overlap(facts, meeting));
     }
+    let (a, b) = (facts.op(meeting.first()), facts.op(meeting.second()));
+    let resource = meeting.resource;
     let fork = facts.op(fork?);
     Some(Advice::Touch {
         a,
@@ -136,6 +146,20 @@ pub(crate) fn by_toll(
         return Ok(None);
     };
     Ok(Some(route_of(view.facts, fork)))
+}
+
+/// What is seen to be open at once, else what comes first by tolls.
+pub(crate) fn by_any(
+    view: View,
+    found: &mut Found,
+    layered: &[bool],
+) -> Result<Option<Advice>, Memory>
+    requires { view.graph.now.problem ≡ view.problem.now }
+{
+    match found.meetings.any_overlap() {
+        Some(meeting) => Ok(Some(order_of_overlap(view.facts, &meeting))),
+        None => by_toll(view, found, layered),
+    }
 }
 
 /// What comes first by time.

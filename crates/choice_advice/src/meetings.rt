@@ -82,6 +82,16 @@ pub(crate) struct Meetings {
 }
 
 impl Meeting {
+    /// The number of the lower train's operation.
+    pub(crate) fn first(&self) -> u32 {
+        self.one.min(self.other)
+    }
+
+    /// The number of the other one.
+    pub(crate) fn second(&self) -> u32 {
+        self.one.max(self.other)
+    }
+
     /// Two holders of which the second starts no earlier, where they meet.
     fn of(one: &Holder, other: &Holder) -> Option<Meeting> {
         let overlaps = one.start < other.until() && other.start < one.until();
@@ -204,6 +214,18 @@ impl Meetings {
         met.extend_from_slice(&self.behind)?;
         met.truncate(MOST_KEPT);
         Ok(())
+    }
+
+    /// Two that hold a resource at a time, where there are some.
+    pub(crate) fn any_overlap(&self) -> Option<Meeting> {
+        for all in &self.each {
+            for met in all {
+                if !met.meeting.touches {
+                    return Some(met.meeting);
+                }
+            }
+        }
+        None
     }
 
     /// How those meet that list each resource.
