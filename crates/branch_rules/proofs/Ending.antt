@@ -14,9 +14,8 @@ use Rattle.disp_model.specs.Arcs.{listings_of}
 use Rattle.disp_model.specs.Earliest.{op_of, IsPairUpTo}
 use Rattle.disp_laws.proofs.Arcs.{names_op}
 use Rattle.disp_laws.proofs.Clashes.{up_to_or_back, up_to_then}
-use Rattle.branch_rules.specs.declared.end.End.{End}
 use Rattle.branch_rules.specs.declared.pair.Pair.{Pair}
-use Rattle.branch_rules.specs.Pairs.{ending_of, AreReleased, IsEarlier}
+use Rattle.branch_rules.specs.Pairs.{IsEarlier}
 
 -- ---- the next event of a train
 
@@ -31,12 +30,14 @@ next_none plan t i past = ap (first_of t i) (drop_all i plan past)
 
 -- ---- two events keep apart where all that both list is released
 
-pub apart_from : (problem : Problem) (plan : List Event) (i j : ℕ) (e f : Event) (end : End) → ending_of end ≡ end_of problem.trains plan i e → AreReleased (listings_of problem (op_of e)) (listings_of problem (op_of f)) end j f
-    → KeepApart problem plan i e j f
-apart_from problem plan i j e f end is released o p own other =
+-- each of the listings whose resource is listed there too is released for the event
+abbrev pub AreReleased : List Listing → List Listing → Ending → ℕ → Event → Type 0
+AreReleased listings others end j f = All (λ l. Any (λ k. k.resource ≡ l.resource) others → IsReleased end l j f) listings
+
+pub apart_from : (problem : Problem) (plan : List Event) (i j : ℕ) (e f : Event) → AreReleased (listings_of problem (op_of e)) (listings_of problem (op_of f)) (end_of problem.trains plan i e) j f → KeepApart problem plan i e j f
+apart_from problem plan i j e f released o p own other =
     subst (λ (ls : List Listing). All (λ l. Any (λ k. k.resource ≡ l.resource) p.listings → IsReleased (end_of problem.trains plan i e) l j f) ls) (names_op problem (op_of e) e o (record { train = refl; operation = refl }) own)
-    (subst (λ (ls : List Listing). All (λ l. Any (λ k. k.resource ≡ l.resource) ls → IsReleased (end_of problem.trains plan i e) l j f) (listings_of problem (op_of e))) (names_op problem (op_of f) f p (record { train = refl; operation = refl }) other)
-    (subst (λ (x : Ending). All (λ l. Any (λ k. k.resource ≡ l.resource) (listings_of problem (op_of f)) → IsReleased x l j f) (listings_of problem (op_of e))) is released))
+    (subst (λ (ls : List Listing). All (λ l. Any (λ k. k.resource ≡ l.resource) ls → IsReleased (end_of problem.trains plan i e) l j f) (listings_of problem (op_of e))) (names_op problem (op_of f) f p (record { train = refl; operation = refl }) other) released)
 
 lists_none : (problem : Problem) (e : Event) → operation_of problem e ≡ None → listings_of problem (op_of e) ≡ []
 lists_none problem e none = rw none refl
@@ -44,17 +45,15 @@ lists_none problem e none = rw none refl
 any_none : (l : Listing) (ls : List Listing) → ls ≡ [] → Any (λ k. k.resource ≡ l.resource) ls → ⊥
 any_none l ls none (i, k, lt, there, same) = omega (arith, lt, ap length none)
 
-pub released_from : (problem : Problem) (plan : List Event) (i j : ℕ) (e f : Event) (end : End) → ending_of end ≡ end_of problem.trains plan i e → KeepApart problem plan i e j f
-    → AreReleased (listings_of problem (op_of e)) (listings_of problem (op_of f)) end j f
-released_from problem plan i j e f end is keep = by_names (operation_of problem e) refl (operation_of problem f) refl
+pub released_from : (problem : Problem) (plan : List Event) (i j : ℕ) (e f : Event) → KeepApart problem plan i e j f → AreReleased (listings_of problem (op_of e)) (listings_of problem (op_of f)) (end_of problem.trains plan i e) j f
+released_from problem plan i j e f keep = by_names (operation_of problem e) refl (operation_of problem f) refl
   where
-    by_names : (found : Option Operation) → operation_of problem e ≡ found → (other : Option Operation) → operation_of problem f ≡ other → AreReleased (listings_of problem (op_of e)) (listings_of problem (op_of f)) end j f
+    by_names : (found : Option Operation) → operation_of problem e ≡ found → (other : Option Operation) → operation_of problem f ≡ other → AreReleased (listings_of problem (op_of e)) (listings_of problem (op_of f)) (end_of problem.trains plan i e) j f
     by_names None own other there = λ k d lt. absurd (omega (arith, lt, ap length (lists_none problem e own)))
     by_names (Some o) own None there = λ k d lt any. absurd (any_none (get_or (listings_of problem (op_of e)) k d) (listings_of problem (op_of f)) (lists_none problem f there) any)
     by_names (Some o) own (Some p) there =
-        subst (λ (x : Ending). All (λ l. Any (λ k. k.resource ≡ l.resource) (listings_of problem (op_of f)) → IsReleased x l j f) (listings_of problem (op_of e))) (sym is)
-        (subst (λ (ls : List Listing). All (λ l. Any (λ k. k.resource ≡ l.resource) ls → IsReleased (end_of problem.trains plan i e) l j f) (listings_of problem (op_of e))) (sym (names_op problem (op_of f) f p (record { train = refl; operation = refl }) there))
-        (subst (λ (ls : List Listing). All (λ l. Any (λ k. k.resource ≡ l.resource) p.listings → IsReleased (end_of problem.trains plan i e) l j f) ls) (sym (names_op problem (op_of e) e o (record { train = refl; operation = refl }) own)) (keep o p own there)))
+        subst (λ (ls : List Listing). All (λ l. Any (λ k. k.resource ≡ l.resource) ls → IsReleased (end_of problem.trains plan i e) l j f) (listings_of problem (op_of e))) (sym (names_op problem (op_of f) f p (record { train = refl; operation = refl }) there))
+        (subst (λ (ls : List Listing). All (λ l. Any (λ k. k.resource ≡ l.resource) p.listings → IsReleased (end_of problem.trains plan i e) l j f) ls) (sym (names_op problem (op_of e) e o (record { train = refl; operation = refl }) own)) (keep o p own there))
 
 -- ---- the first of two pairs
 

@@ -1,4 +1,5 @@
 mod Ending
+mod Placing
 mod Looking
 mod Picking
 pub mod Shown

@@ -1,21 +1,26 @@
--- The first pair that clashes, event by event.
-use Rattle.std.proofs.Common.{◌≡◌, ◌∙◌, ℕ, ◌+◌, ◌<◌, ◌≤◌, List, length, Option, Some, None, refl, sym, ap, subst, inl, inr, arith}
-use Rattle.std.specs.Prelude.{slice_get, All, ◌⊎◌, IfSome, MatchOption}
+-- The first pair that clashes, from the last event to the first.
+use Rattle.std.proofs.Common.{◌≡◌, ◌≢◌, ◌∙◌, ℕ, zero, suc, ◌+◌, ◌<◌, ◌≤◌, List, [], ◌∷◌, ◌++◌, length, get_or, drop, Option, Some, None, refl, sym, ap, subst, inl, inr, arith}
+use Rattle.std.specs.List.{Any}
+use Rattle.std.specs.Prelude.{slice_get, Contains, ◌⊎◌, IfSome, MatchOption}
 use Rattle.std.proofs.lemmas.Bool.{cases_lt}
 use Rattle.std.proofs.lemmas.Option.{same_Some, slice_get_within}
+use Rattle.std.proofs.lemmas.List.{drop_more, drop_all, get_or_default}
+use Rattle.std.proofs.lemmas.List.Elements.{Contains-append_cases}
 use Rattle.disp_model.specs.declared.train.Op.{Op}
 use Rattle.disp_model.specs.declared.train.Listing.{Listing}
 use Rattle.disp_model.specs.declared.plan.Event.{Event}
 use Rattle.disp_model.specs.declared.problem.Problem.{Problem}
-use Rattle.disp_model.specs.Plan.{end_of}
-use Rattle.disp_model.specs.Valid.{KeepApart}
+use Rattle.disp_model.specs.Plan.{Ending, end_of}
+use Rattle.disp_model.specs.Valid.{IsReleased, KeepApart}
 use Rattle.disp_model.specs.Routes.{Starts}
 use Rattle.disp_model.specs.Arcs.{listings_of}
-use Rattle.disp_model.specs.Earliest.{op_of, Clash}
+use Rattle.disp_model.specs.Earliest.{op_of, Clash, IsBelow}
 use Rattle.disp_laws.proofs.Picked.{same_op}
-use Rattle.branch_rules.specs.declared.end.End.{End}
+use Rattle.disp_laws.proofs.RouteSearch.{Decided, both, same_number}
+use Rattle.disp_laws.proofs.LeavesDecided.{le_or_not, lt_or_not}
 use Rattle.branch_rules.specs.declared.pair.Pair.{Pair}
-use Rattle.branch_rules.specs.Pairs.{RiseAlong, ending_of, AreReleased, IsPairOf, IsUpTo, IsEarlier, IsTried, AreClashing, AreLookedAt, IsFirstPast, IsFirstPair, NoneClash}
+use Rattle.branch_rules.specs.Pairs.{RiseAlong, IsPairOf, IsUpTo, IsEarlier, AreClashing, IsFirstPair, NoneClash}
+use Rattle.branch_rules.specs.Behind.{Lists, AreFalling, ArePlacesOf, IsTriedOn, IsFirstFrom, IsFirstWith}
 use Rattle.branch_rules.proofs.Ending.{apart_from, released_from}
 
 -- ---- the events of a clash
@@ -23,125 +28,230 @@ use Rattle.branch_rules.proofs.Ending.{apart_from, released_from}
 event_is : (plan : List Event) (i k : ℕ) (e g : Event) → slice_get plan i ≡ Some e → slice_get plan k ≡ Some g → k ≡ i → g ≡ e
 event_is plan i k e g at there same = same_Some g e (sym there ∙ ap (slice_get plan) same ∙ at)
 
--- a clash of the events at two places says that they do not keep apart
-not_apart_at : (problem : Problem) (plan : List Event) (a b : Op) (c : Clash problem plan a b) (i j : ℕ) (e f : Event) → slice_get plan i ≡ Some e → slice_get plan j ≡ Some f → c.i ≡ i → c.j ≡ j → KeepApart problem plan i e j f → ⊥
-not_apart_at problem plan a b c i j e f at there one other keep =
-    c.not_apart (subst (λ (n : ℕ). KeepApart problem plan n c.earlier c.j c.later) (sym one) (subst (λ (n : ℕ). KeepApart problem plan i c.earlier n c.later) (sym other)
-    (subst (λ (x : Event). KeepApart problem plan i x j c.later) (sym (event_is plan i c.i e c.earlier at c.earlier_there one))
-    (subst (λ (x : Event). KeepApart problem plan i e j x) (sym (event_is plan j c.j f c.later there c.later_there other)) keep))))
+-- a clash of the event at a place says that it does not keep apart from the later one
+not_apart_at : (problem : Problem) (plan : List Event) (a b : Op) (c : Clash problem plan a b) (i : ℕ) (e : Event) → slice_get plan i ≡ Some e → c.i ≡ i → KeepApart problem plan i e c.j c.later → ⊥
+not_apart_at problem plan a b c i e at one keep =
+    c.not_apart (subst (λ (n : ℕ). KeepApart problem plan n c.earlier c.j c.later) (sym one) (subst (λ (x : Event). KeepApart problem plan i x c.j c.later) (sym (event_is plan i c.i e c.earlier at c.earlier_there one)) keep))
 
-names_at : (problem : Problem) (plan : List Event) (a b : Op) (c : Clash problem plan a b) (i j : ℕ) (e f : Event) → slice_get plan i ≡ Some e → slice_get plan j ≡ Some f → c.i ≡ i → c.j ≡ j → (Starts a e × Starts b f) ⊎ (Starts b e × Starts a f)
-names_at problem plan a b c i j e f at there one other =
-    subst (λ (x : Event). (Starts a x × Starts b f) ⊎ (Starts b x × Starts a f)) (event_is plan i c.i e c.earlier at c.earlier_there one)
-    (subst (λ (x : Event). (Starts a c.earlier × Starts b x) ⊎ (Starts b c.earlier × Starts a x)) (event_is plan j c.j f c.later there c.later_there other) c.names)
-
-apart_trains : (a b : Op) (e f : Event) → a.train < b.train → (Starts a e × Starts b f) ⊎ (Starts b e × Starts a f) → e.train ≡ f.train → ⊥
-apart_trains a b e f lt (inl names) same = omega (arith, lt, names.0.train, names.1.train, same)
-apart_trains a b e f lt (inr names) same = omega (arith, lt, names.0.train, names.1.train, same)
+names_at : (problem : Problem) (plan : List Event) (a b : Op) (c : Clash problem plan a b) (i : ℕ) (e : Event) → slice_get plan i ≡ Some e → c.i ≡ i → (Starts a e × Starts b c.later) ⊎ (Starts b e × Starts a c.later)
+names_at problem plan a b c i e at one = subst (λ (x : Event). (Starts a x × Starts b c.later) ⊎ (Starts b x × Starts a c.later)) (event_is plan i c.i e c.earlier at c.earlier_there one) c.names
 
 -- two pairs of the same events are the same
-same_pair : (a b : Op) (e f : Event) (pair : Pair) → a.train < b.train → (Starts a e × Starts b f) ⊎ (Starts b e × Starts a f) → IsPairOf e f pair → (pair.a ≡ a) × (pair.b ≡ b)
-same_pair a b e f pair lt names is = by names is.names
+same_pair : (e f : Event) (pair other : Pair) → IsPairOf e f pair → IsPairOf e f other → (pair.a ≡ other.a) × (pair.b ≡ other.b)
+same_pair e f pair other is also = by is.names also.names
   where
-    by : (Starts a e × Starts b f) ⊎ (Starts b e × Starts a f) → (Starts pair.a e × Starts pair.b f) ⊎ (Starts pair.b e × Starts pair.a f) → (pair.a ≡ a) × (pair.b ≡ b)
-    by (inl one) (inl other) = (sym (same_op pair.a e other.0) ∙ same_op a e one.0, sym (same_op pair.b f other.1) ∙ same_op b f one.1)
-    by (inr one) (inr other) = (sym (same_op pair.a f other.1) ∙ same_op a f one.1, sym (same_op pair.b e other.0) ∙ same_op b e one.0)
-    by (inl one) (inr other) = absurd (omega (arith, lt, is.trains, one.0.train, one.1.train, other.0.train, other.1.train))
-    by (inr one) (inl other) = absurd (omega (arith, lt, is.trains, one.0.train, one.1.train, other.0.train, other.1.train))
+    by : (Starts pair.a e × Starts pair.b f) ⊎ (Starts pair.b e × Starts pair.a f) → (Starts other.a e × Starts other.b f) ⊎ (Starts other.b e × Starts other.a f) → (pair.a ≡ other.a) × (pair.b ≡ other.b)
+    by (inl one) (inl two) = (sym (same_op pair.a e one.0) ∙ same_op other.a e two.0, sym (same_op pair.b f one.1) ∙ same_op other.b f two.1)
+    by (inr one) (inr two) = (sym (same_op pair.a f one.1) ∙ same_op other.a f two.1, sym (same_op pair.b e one.0) ∙ same_op other.b e two.0)
+    by (inl one) (inr two) = absurd (omega (arith, is.trains, also.trains, one.0.train, one.1.train, two.0.train, two.1.train))
+    by (inr one) (inl two) = absurd (omega (arith, is.trains, also.trains, one.0.train, one.1.train, two.0.train, two.1.train))
 
--- ---- from place to place
-
-pub at_first : (problem : Problem) (plan : List Event) → IsFirstPast problem plan 0 0 None
-at_first problem plan = record { clash = tt; each = λ a b lt c past. nothing c.i c.j past }
+of_two_trains : (e f : Event) (pair : Pair) → IsPairOf e f pair → e.train ≢ f.train
+of_two_trains e f pair is same = by is.names
   where
-    nothing : (i j : ℕ) → AreLookedAt 0 0 i j → ⊥
-    nothing i j (inl lt) = omega (arith, lt)
-    nothing i j (inr both) = omega (arith, both.1)
+    by : (Starts pair.a e × Starts pair.b f) ⊎ (Starts pair.b e × Starts pair.a f) → ⊥
+    by (inl names) = omega (arith, is.trains, names.0.train, names.1.train, same)
+    by (inr names) = omega (arith, is.trains, names.0.train, names.1.train, same)
 
--- the first events that an event can clash with stand behind it
-pub from_here : (problem : Problem) (plan : List Event) (i : ℕ) (first : Option Pair) → IsFirstPast problem plan i 0 first → IsFirstPast problem plan i (i + 1) first
-from_here problem plan i first is = record { clash = is.clash; each = λ a b lt c past. is.each a b lt c (before c.i c.j c.order past) }
-  where
-    before : (k j : ℕ) → k < j → AreLookedAt i (i + 1) k j → AreLookedAt i 0 k j
-    before k j order (inl lt) = inl lt
-    before k j order (inr both) = absurd (omega (arith, order, both.0, both.1))
+-- ---- whether a pair comes no later is decided
 
--- where an event clashes with none from a place on, the next one is looked at
-pub next_place : (problem : Problem) (plan : List Event) (i j : ℕ) (first : Option Pair) → IsFirstPast problem plan i j first → ((a b : Op) → a.train < b.train → (c : Clash problem plan a b) → c.i ≡ i → j ≤ c.j → ⊥) → IsFirstPast problem plan (i + 1) 0 first
-next_place problem plan i j first is none = record { clash = is.clash; each = λ a b lt c past. is.each a b lt c (before c.i c.j (none a b lt c) past) }
+same_op_or_not : (a b : Op) → Decided (a ≡ b)
+same_op_or_not a b = elim (both (same_number a.train b.train) (same_number a.op b.op)) [
+  | inl same ↦ inl (ap (λ (t : ℕ). record { train = t; op = a.op }) same.0 ∙ ap (λ (n : ℕ). record { train = b.train; op = n }) same.1)
+  | inr not ↦ inr (λ is. not (ap (λ (o : Op). o.train) is, ap (λ (o : Op). o.op) is))
+]
+
+either : {P Q : Type 0} → Decided P → Decided Q → Decided (P ⊎ Q)
+either (inl p) q = inl (inl p)
+either (inr p) (inl q) = inl (inr q)
+either (inr p) (inr q) = inr (λ h. elim h [ inl is ↦ p is | inr is ↦ q is ])
+
+below_or_not : (a b : Op) → Decided (IsBelow a b)
+below_or_not a b = either (lt_or_not a.train b.train) (both (same_number a.train b.train) (lt_or_not a.op b.op))
+
+up_to_or_not : (first : Option Pair) (a b : Op) → Decided (IsUpTo first a b)
+up_to_or_not None a b = inr (λ h. h)
+up_to_or_not (Some pair) a b = either (below_or_not pair.a a) (both (same_op_or_not pair.a a) (either (below_or_not pair.b b) (same_op_or_not pair.b b)))
+
+released_or_not : (end : Ending) (l : Listing) (j : ℕ) (f : Event) → Decided (IsReleased end l j f)
+released_or_not end l j f = elim (both (lt_or_not end.position j) (le_or_not (end.time + l.release) f.time)) [
+  | inl is ↦ inl (record { position = is.0; time = is.1 })
+  | inr not ↦ inr (λ is. not (is.position, is.time))
+]
+
+-- ---- a holder with the events at places
+
+tried_none : (plan : List Event) (e : Event) (l : Listing) (end : Ending) (known : Option Pair) → IsTriedOn plan [] e l end known known
+tried_none plan e l end known = record { kept = λ c d up. up; one = inl refl; each = λ j f pair there at not of. absurd (nothing there) }
   where
-    before : (k n : ℕ) → (k ≡ i → j ≤ n → ⊥) → AreLookedAt (i + 1) 0 k n → AreLookedAt i j k n
-    before k n none (inr both) = absurd (omega (arith, both.1))
-    before k n none (inl lt) = elim (cases_lt k i) [
-      | inl less ↦ inl less
-      | inr le ↦
-          let same : k ≡ i = omega (arith, le, lt) in
-          elim (cases_lt n j) [ inl early ↦ inr (same, early) | inr late ↦ absurd (none same late) ]
+    nothing : {j : ℕ} → Contains [] j → ⊥
+    nothing (k, lt, same) = omega (arith, lt)
+
+-- at the front of places stands one more
+front : (p j : ℕ) (places : List ℕ) → Contains (p ∷ places) j → (j ≡ p) ⊎ Contains places j
+front p j places (zero, lt, same) = inl (sym same)
+front p j places (suc k, lt, same) = inr (k, omega (arith, lt), same)
+
+behind_front : (p j : ℕ) (places : List ℕ) → Contains places j → Contains (p ∷ places) j
+behind_front p j places (k, lt, same) = (suc k, omega (arith, lt), same)
+
+abbrev pub TriedFrom : List Event → List ℕ → ℕ → Event → Listing → Ending → Option Pair → Option Pair → Type 0
+TriedFrom plan places n e l end known first = IsTriedOn plan (drop n places) e l end known first
+
+with_front : (plan : List Event) (places : List ℕ) (n : ℕ) (e : Event) (l : Listing) (end : Ending) (known first : Option Pair) → n < length places → IsTriedOn plan (get_or places n 0 ∷ drop (n + 1) places) e l end known first → TriedFrom plan places n e l end known first
+with_front plan places n e l end known first lt is = subst (λ (ps : List ℕ). IsTriedOn plan ps e l end known first) (sym (drop_more places n 0 lt)) is
+
+pub tried_begun : (plan : List Event) (places : List ℕ) (n : ℕ) (e : Event) (l : Listing) (end : Ending) (known : Option Pair) → length places ≤ n → TriedFrom plan places n e l end known known
+tried_begun plan places n e l end known le = subst (λ (ps : List ℕ). IsTriedOn plan ps e l end known known) (sym (drop_all n places le)) (tried_none plan e l end known)
+
+-- an event of the same train
+pub tried_same : (plan : List Event) (places : List ℕ) (n : ℕ) (e f : Event) (l : Listing) (end : Ending) (known first : Option Pair) → n < length places → slice_get plan (get_or places n 0) ≡ Some f → f.train ≡ e.train → TriedFrom plan places (n + 1) e l end known first
+    → TriedFrom plan places n e l end known first
+tried_same plan places n e f l end known first lt at same was = with_front plan places n e l end known first lt (record {
+  kept = was.kept;
+  one = elim was.one [
+    | inl stays ↦ inl stays
+    | inr found ↦ inr (found.0, found.1, found.2, behind_front (get_or places n 0) found.0 (drop (n + 1) places) found.3, found.4, found.5, found.6, found.7, found.8)
+  ];
+  each = λ j g pair there also not of. elim (front (get_or places n 0) j (drop (n + 1) places) there) [
+    | inl here ↦ absurd (of_two_trains e g pair of (sym same ∙ ap (λ (x : Event). x.train) (same_Some f g (sym at ∙ ap (slice_get plan) (sym here) ∙ also))))
+    | inr later ↦ was.each j g pair later also not of
+  ];
+})
+
+-- an event of another train for which the listing is not released
+pub tried_more : (plan : List Event) (places : List ℕ) (n : ℕ) (e f : Event) (l : Listing) (end : Ending) (pair : Pair) (known middle first : Option Pair) → n < length places → slice_get plan (get_or places n 0) ≡ Some f → (IsReleased end l (get_or places n 0) f → ⊥) → IsPairOf e f pair
+    → IsEarlier middle pair first → TriedFrom plan places (n + 1) e l end known middle → TriedFrom plan places n e l end known first
+tried_more plan places n e f l end pair known middle first lt at not of earlier was = with_front plan places n e l end known first lt (record {
+  kept = λ c d up. earlier.kept c d (was.kept c d up);
+  one = elim earlier.one [
+    | inr new ↦ inr (get_or places n 0, f, pair, (0, omega arith, refl), at, of_two_trains e f pair of, not, of, new)
+    | inl stays ↦ elim was.one [
+      | inl before ↦ inl (stays ∙ before)
+      | inr found ↦ inr (found.0, found.1, found.2, behind_front (get_or places n 0) found.0 (drop (n + 1) places) found.3, found.4, found.5, found.6, found.7, stays ∙ found.8)
     ]
+  ];
+  each = λ j g other there also free is. elim (front (get_or places n 0) j (drop (n + 1) places) there) [
+    | inl here ↦
+        let event : f ≡ g = same_Some f g (sym at ∙ ap (slice_get plan) (sym here) ∙ also) in
+        let same = same_pair e g pair other (subst (λ (x : Event). IsPairOf e x pair) event of) is in
+        subst (IsUpTo first other.a) same.1 (subst (λ (o : Op). IsUpTo first o pair.b) same.0 earlier.up_to)
+    | inr later ↦ earlier.kept other.a other.b (was.each j g other later also free is)
+  ];
+})
 
-pub past_all : (problem : Problem) (plan : List Event) (i : ℕ) (first : Option Pair) → IsFirstPast problem plan i (length plan) first → IsFirstPast problem plan (i + 1) 0 first
-past_all problem plan i first is = next_place problem plan i (length plan) first is (λ a b lt c same late. omega (arith, late, slice_get_within plan c.j c.later c.later_there))
+in_drop : (xs : List ℕ) (n k x : ℕ) → n ≤ k → k < length xs → get_or xs k x ≡ x → Contains (drop n xs) x
+in_drop xs zero k x le lt same = (k, lt, same)
+in_drop [] (suc n) k x le lt same = absurd (omega (arith, lt))
+in_drop (y ∷ xs) (suc n) zero x le lt same = absurd (omega (arith, le))
+in_drop (y ∷ xs) (suc n) (suc k) x le lt same = in_drop xs n k x (omega (arith, le)) (omega (arith, lt)) same
 
-pub lists_nothing : (problem : Problem) (plan : List Event) (i : ℕ) (e : Event) (first : Option Pair) → slice_get plan i ≡ Some e → length (listings_of problem (op_of e)) ≡ 0 → IsFirstPast problem plan i 0 first → IsFirstPast problem plan (i + 1) 0 first
-lists_nothing problem plan i e first at none is = next_place problem plan i 0 first is
-    (λ a b lt c same late. not_apart_at problem plan a b c i c.j e c.later at c.later_there same refl
-    (apart_from problem plan i c.j e c.later (record { position = (end_of problem.trains plan i e).position; time = (end_of problem.trains plan i e).time }) refl
-    (λ k d inside. absurd (omega (arith, inside, none)))))
+of_drop : (xs : List ℕ) (n x : ℕ) → Contains (drop n xs) x → Contains xs x
+of_drop xs zero x there = there
+of_drop [] (suc n) x there = there
+of_drop (y ∷ xs) (suc n) x there = behind_front y x xs (of_drop xs n x there)
 
--- once all that it lists is free again, an event keeps apart from all that stand from there on
-pub is_free : (problem : Problem) (plan : List Event) (i j : ℕ) (e f : Event) (end : End) (listings : List Listing) (first : Option Pair) → RiseAlong plan → slice_get plan i ≡ Some e → slice_get plan j ≡ Some f → listings ≡ listings_of problem (op_of e)
-    → ending_of end ≡ end_of problem.trains plan i e → end.position < j → All (λ l. end.time + l.release ≤ f.time) listings → IsFirstPast problem plan i j first → IsFirstPast problem plan (i + 1) 0 first
-is_free problem plan i j e f end listings first rise at there own is behind free looked = next_place problem plan i j first looked
-    (λ a b lt c same late. not_apart_at problem plan a b c i c.j e c.later at c.later_there same refl (apart_from problem plan i c.j e c.later end is (stays c.j c.later late c.later_there)))
+-- once the listing is released it is for all later ones
+pub tried_released : (plan : List Event) (places : List ℕ) (n : ℕ) (e f : Event) (l : Listing) (end : Ending) (known first : Option Pair) → RiseAlong plan → AreFalling places → n < length places → slice_get plan (get_or places n 0) ≡ Some f → IsReleased end l (get_or places n 0) f
+    → TriedFrom plan places (n + 1) e l end known first → IsTriedOn plan places e l end known first
+tried_released plan places n e f l end known first rise falls lt at released was = record {
+  kept = was.kept;
+  one = elim was.one [
+    | inl stays ↦ inl stays
+    | inr found ↦ inr (found.0, found.1, found.2, of_drop places (n + 1) found.0 found.3, found.4, found.5, found.6, found.7, found.8)
+  ];
+  each = λ j g pair there also not of. elim (cases_lt n there.0) [
+    | inl behind ↦ was.each j g pair (in_drop places (n + 1) there.0 j (omega (arith, behind)) there.1 there.2) also not of
+    | inr before ↦ absurd (not (later j g there before also))
+  ];
+}
   where
-    all : All (λ l. end.time + l.release ≤ f.time) (listings_of problem (op_of e))
-    all = subst (λ (ls : List Listing). All (λ l. end.time + l.release ≤ f.time) ls) own free
-
-    stays : (n : ℕ) (g : Event) → j ≤ n → slice_get plan n ≡ Some g → AreReleased (listings_of problem (op_of e)) (listings_of problem (op_of g)) end n g
-    stays n g le later k d inside any =
-        let now = all k d inside in
-        record { position = omega (arith, behind, le); time = omega (arith, now, rise j n f g le there later) }
-
--- ---- one event more
-
-kept_on : (problem : Problem) (plan : List Event) (i j : ℕ) (known first : Option Pair) → IsFirstPast problem plan i j known → IfSome first (AreClashing problem plan) → ((c d : Op) → IsUpTo known c d → IsUpTo first c d)
-    → ((a b : Op) → a.train < b.train → (c : Clash problem plan a b) → c.i ≡ i → c.j ≡ j → IsUpTo first a b) → IsFirstPast problem plan i (j + 1) first
-kept_on problem plan i j known first is clash kept here = record { clash = clash; each = λ a b lt c past. by a b lt c past }
-  where
-    by : (a b : Op) → a.train < b.train → (c : Clash problem plan a b) → AreLookedAt i (j + 1) c.i c.j → IsUpTo first a b
-    by a b lt c (inl less) = kept a b (is.each a b lt c (inl less))
-    by a b lt c (inr both) = elim (cases_lt c.j j) [
-      | inl early ↦ kept a b (is.each a b lt c (inr (both.0, early)))
-      | inr late ↦ here a b lt c both.0 (omega (arith, late, both.1))
-    ]
-
-pub one_more : (problem : Problem) (plan : List Event) (i j : ℕ) (e f : Event) (end : End) (listings others : List Listing) (known first : Option Pair) → i < j → slice_get plan i ≡ Some e → slice_get plan j ≡ Some f → listings ≡ listings_of problem (op_of e)
-    → others ≡ listings_of problem (op_of f) → ending_of end ≡ end_of problem.trains plan i e → IsTried listings others end j e f known first → IsFirstPast problem plan i j known → IsFirstPast problem plan i (j + 1) first
-one_more problem plan i j e f end listings others known first order at there own also is tried looked =
-    by (subst (λ (ls : List Listing). IsTried ls (listings_of problem (op_of f)) end j e f known first) own (subst (λ (ls : List Listing). IsTried listings ls end j e f known first) also tried))
-  where
-    unchanged : first ≡ known → ((a b : Op) → a.train < b.train → (c : Clash problem plan a b) → c.i ≡ i → c.j ≡ j → ⊥) → IsFirstPast problem plan i (j + 1) first
-    unchanged same none = kept_on problem plan i j known first looked (subst (λ (p : Option Pair). IfSome p (AreClashing problem plan)) (sym same) looked.clash) (λ c d up. subst (λ (p : Option Pair). IsUpTo p c d) (sym same) up)
-        (λ a b lt c one other. absurd (none a b lt c one other))
-
-    changed : (pair : Pair) → IsPairOf e f pair → IsEarlier known pair first → (AreReleased (listings_of problem (op_of e)) (listings_of problem (op_of f)) end j f → ⊥) → IsFirstPast problem plan i (j + 1) first
-    changed pair of earlier not = kept_on problem plan i j known first looked (clash earlier.one) earlier.kept
-        (λ a b lt c one other. let same = same_pair a b e f pair lt (names_at problem plan a b c i j e f at there one other) of in subst (IsUpTo first a) same.1 (subst (λ (o : Op). IsUpTo first o pair.b) same.0 earlier.up_to))
+    later : (j : ℕ) (g : Event) → (there : Contains places j) → there.0 ≤ n → slice_get plan j ≡ Some g → IsReleased end l j g
+    later j g there before also =
+        let le : get_or places n 0 ≤ j = no_earlier j there before in
+        record { position = omega (arith, released.position, le); time = omega (arith, released.time, rise (get_or places n 0) j f g le at also) }
       where
-        here : Clash problem plan pair.a pair.b
-        here = record { i = i; j = j; earlier = e; later = f; order = order; earlier_there = at; later_there = there; names = of.names; not_apart = λ keep. not (released_from problem plan i j e f end is keep) }
+        no_earlier : (j : ℕ) → (there : Contains places j) → there.0 ≤ n → get_or places n 0 ≤ j
+        no_earlier j there before = elim (cases_lt there.0 n) [
+          | inl less ↦ omega (arith, falls there.0 n j less lt, there.2, get_or_default places n 0 j lt)
+          | inr ge ↦
+              let same : there.0 ≡ n = omega (arith, ge, before) in
+              omega (arith, ap (λ (k : ℕ). get_or places k j) same, there.2, get_or_default places n 0 j lt)
+        ]
 
-        clash : (first ≡ known) ⊎ (first ≡ Some pair) → IfSome first (AreClashing problem plan)
-        clash (inl same) = subst (λ (p : Option Pair). IfSome p (AreClashing problem plan)) (sym same) looked.clash
-        clash (inr same) = subst (λ (p : Option Pair). IfSome p (AreClashing problem plan)) (sym same) (of.trains, here)
+-- ---- the event at a place with those behind it
 
-    by : IsTried (listings_of problem (op_of e)) (listings_of problem (op_of f)) end j e f known first → IsFirstPast problem plan i (j + 1) first
-    by (inl (inl same, stays)) = unchanged stays (λ a b lt c one other. apart_trains a b e f lt (names_at problem plan a b c i j e f at there one other) same)
-    by (inl (inr free, stays)) = unchanged stays (λ a b lt c one other. not_apart_at problem plan a b c i j e f at there one other (apart_from problem plan i j e f end is free))
-    by (inr (trains, not, (pair, of, earlier))) = changed pair of earlier not
+pub with_none : (problem : Problem) (plan : List Event) (i : ℕ) (e : Event) (first : Option Pair) → IsFirstFrom problem plan (i + 1) first → IsFirstWith problem plan i e [] first
+with_none problem plan i e first is = record {
+  clash = is.clash;
+  behind = λ a b lt c later. is.each a b lt c (omega (arith, later));
+  each = λ l j f pair there. nothing l there;
+}
+  where
+    nothing : {X : Type 0} (l : Listing) → Contains [] l → X
+    nothing l (k, lt, same) = absurd (omega (arith, lt))
+
+alone : (l k : Listing) → Contains (k ∷ []) l → l ≡ k
+alone l k (zero, lt, same) = sym same
+alone l k (suc n, lt, same) = absurd (omega (arith, lt))
+
+pub with_more : (problem : Problem) (plan : List Event) (i : ℕ) (e : Event) (listings : List Listing) (l : Listing) (places : List ℕ) (end : Ending) (known first : Option Pair) → slice_get plan i ≡ Some e → Contains (listings_of problem (op_of e)) l → end ≡ end_of problem.trains plan i e
+    → ArePlacesOf problem plan (i + 1) l.resource places → IsTriedOn plan places e l end known first → IsFirstWith problem plan i e listings known → IsFirstWith problem plan i e (listings ++ l ∷ []) first
+with_more problem plan i e listings l places end known first at own end_is are tried was = record {
+  clash = by_one tried.one;
+  behind = λ a b lt c later. tried.kept a b (was.behind a b lt c later);
+  each = λ k j f pair there lt also lists not of. elim (Contains-append_cases listings (l ∷ []) k there) [
+    | inl before ↦ tried.kept pair.a pair.b (was.each k j f pair before lt also lists not of)
+    | inr last ↦
+        let same = alone k l last in
+        let its = subst (λ (x : Listing). Lists problem f x.resource) same lists in
+        tried.each j f pair (are.each j f (omega (arith, lt)) also its) also (λ is. not (subst (λ (x : Ending). IsReleased x k j f) end_is (subst (λ (x : Listing). IsReleased end x j f) (sym same) is))) of
+  ];
+}
+  where
+    by_one : (first ≡ known) ⊎ ((j : ℕ) × (f : Event) × (pair : Pair) × Contains places j × (slice_get plan j ≡ Some f) × (e.train ≢ f.train) × (IsReleased end l j f → ⊥) × IsPairOf e f pair × (first ≡ Some pair)) → IfSome first (AreClashing problem plan)
+    by_one (inl stays) = subst (λ (p : Option Pair). IfSome p (AreClashing problem plan)) (sym stays) was.clash
+    by_one (inr (j, f, pair, there, also, apart, not, of, new)) = subst (λ (p : Option Pair). IfSome p (AreClashing problem plan)) (sym new) (
+      of.trains,
+      record {
+        i = i;
+        j = j;
+        earlier = e;
+        later = f;
+        order = omega (arith, (are.there j there).0);
+        earlier_there = at;
+        later_there = also;
+        names = of.names;
+        not_apart = λ keep. not (released keep);
+      },
+    )
+      where
+        released : KeepApart problem plan i e j f → IsReleased end l j f
+        released keep =
+            let lists = are.lists j f there also in
+            let all = released_from problem plan i j e f keep in
+            subst (λ (x : Ending). IsReleased x l j f) (sym end_is) (subst (λ (x : Listing). IsReleased (end_of problem.trains plan i e) x j f) own.2
+            (all own.0 l own.1 (subst (λ (x : Listing). Any (λ k. k.resource ≡ x.resource) (listings_of problem (op_of f))) (sym own.2) (lists.1.0, lists.0, lists.1.1, lists.1.2, lists.2))))
+
+pub with_all : (problem : Problem) (plan : List Event) (i : ℕ) (e : Event) (first : Option Pair) → slice_get plan i ≡ Some e → IsFirstWith problem plan i e (listings_of problem (op_of e)) first → IsFirstFrom problem plan i first
+with_all problem plan i e first at is = record { clash = is.clash; each = λ a b lt c le. elim (cases_lt i c.i) [ inl later ↦ is.behind a b lt c later | inr ge ↦ here a b lt c (omega (arith, le, ge)) ] }
+  where
+    here : (a b : Op) → a.train < b.train → (c : Clash problem plan a b) → c.i ≡ i → IsUpTo first a b
+    here a b lt c same = elim (up_to_or_not first a b) [
+      | inl up ↦ up
+      | inr not ↦ absurd (not_apart_at problem plan a b c i e at same (apart_from problem plan i c.j e c.later (λ k d inside lists. elim (released_or_not (end_of problem.trains plan i e) (get_or (listings_of problem (op_of e)) k d) c.j c.later) [
+        | inl released ↦ released
+        | inr held ↦ absurd (not (is.each (get_or (listings_of problem (op_of e)) k d) c.j c.later (record { a = a; b = b })
+            (k, inside, get_or_default (listings_of problem (op_of e)) k (get_or (listings_of problem (op_of e)) k d) d inside) (omega (arith, same, c.order)) c.later_there (lists.1, (lists.0, lists.2, lists.3), lists.4) held
+            (record { trains = lt; names = names_at problem plan a b c i e at same })))
+      ])))
+    ]
 
 -- ---- all events
 
-pub first_is : (problem : Problem) (plan : List Event) (first : Option Pair) → IsFirstPast problem plan (length plan) 0 first → MatchOption first (NoneClash problem plan) (IsFirstPair problem plan)
-first_is problem plan None is = λ a b lt c. is.each a b lt c (inl (slice_get_within plan c.i c.earlier c.earlier_there))
-first_is problem plan (Some pair) is = record { clash = is.clash; each = λ a b lt c. is.each a b lt c (inl (slice_get_within plan c.i c.earlier c.earlier_there)) }
+pub from_none : (problem : Problem) (plan : List Event) (i : ℕ) → length plan ≤ i → IsFirstFrom problem plan i None
+from_none problem plan i past = record { clash = tt; each = λ a b lt c le. absurd (omega (arith, past, le, slice_get_within plan c.i c.earlier c.earlier_there)) }
+
+pub first_is : (problem : Problem) (plan : List Event) (first : Option Pair) → IsFirstFrom problem plan 0 first → MatchOption first (NoneClash problem plan) (IsFirstPair problem plan)
+first_is problem plan None is = λ a b lt c. is.each a b lt c (omega arith)
+first_is problem plan (Some pair) is = record { clash = is.clash; each = λ a b lt c. is.each a b lt c (omega arith) }

@@ -20,13 +20,14 @@ use Rattle.disp_model.specs.Earliest.{op_of, IsEarliest, IsFork, IsFirstFork, Cl
 use Rattle.disp_laws.proofs.LeavesStay.{HaveRoutes, routes_or_none}
 use Rattle.disp_laws.proofs.Standing.{AreFit, edition_fits}
 use Rattle.disp_laws.proofs.Picked.{same_op}
-use Rattle.disp_laws.proofs.EarliestPlans.{times_in_order}
+use Rattle.disp_laws.proofs.EarliestPlans.{times_in_order, forced_at}
 use Rattle.disp_laws.proofs.EarliestValid.{AllApart, valid_where_apart}
 use Rattle.disp_laws.proofs.Clashes.{Meets, apart_or_meets, meets_undecided, meets_undecided_back}
 use Rattle.route_sets.specs.Sets.{IsOnlyRoute}
 use Rattle.plan_builder.specs.Shown.{FitTrains, AreOnlyRoutes}
 use Rattle.branch_rules.specs.declared.pair.Pair.{Pair}
 use Rattle.branch_rules.specs.Pairs.{RiseAlong, IsFirstPair, NoneClash}
+use Rattle.branch_rules.specs.Behind.{AreOfTrains}
 use Rattle.branch_rules.specs.Picks.{AreAlone, AreTheOnly, IsSomeNotAlone}
 
 -- ---- the first fork
@@ -72,6 +73,9 @@ trains_fit node count found same long are = record { count = long ∙ same; each
 
 pub rises : (node : Node) (plan : List Event) → IsEarliest node plan → RiseAlong plan
 rises node plan earliest j k e f le at there = times_in_order node plan j k e f earliest le at there
+
+pub of_trains : (node : Node) (plan : List Event) → IsEarliest node plan → AreOfTrains node.problem plan
+of_trains node plan earliest j f at = (forced_at node plan j f earliest at).train
 
 -- ---- the first clash
 

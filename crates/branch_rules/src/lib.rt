@@ -2,10 +2,11 @@
 //!
 //! `pick_fixed` answers the choice of the fixed rule: the fork of the first train with two routes,
 //! in one look at each operation; else the first pair of operations that clash in the earliest
-//! plan, in a look at the events that start while one holds resources; else that plan, which is
-//! valid. `children` lists decisions.
+//! plan, in a look at those events of each resource that start before it is released; else that
+//! plan, which is valid. `children` lists decisions.
 #![tactic(auto)]
 
+mod behind;
 mod child;
 mod end;
 mod pair;

@@ -1,7 +1,7 @@
 ghost use Rattle.std.specs.Prelude.{◌≡◌, MatchOption, IfOk, IfSome, length};
 ghost use Rattle.disp_model.specs.declared.decision.Choice.TheVariants.{Order};
 ghost use Rattle.disp_model.specs.Nodes.{IsDead};
-ghost use Rattle.disp_model.specs.Earliest.{IsFirstFork};
+ghost use Rattle.disp_model.specs.Earliest.{IsEarliest, IsFirstFork};
 ghost use Rattle.branch_rules.specs.Picks.{AreAlone, AreTheOnly, IsSomeNotAlone, IsPickAt};
 
 use crate::pair::Pair;
@@ -67,6 +67,21 @@ fn order_of(pair: Option<Pair>) -> Option<Choice>
     }
 }
 
+/// What the plan of earliest starts shows at the node of a graph, which is not dead: the order of
+/// the first two that clash, or that the plan is valid.
+fn pick_by_plan(alloc: Global, problem: &Problem, graph: &Graph, plan: Plan) -> Result<Pick, Memory>
+    requires problem { graph.now.problem ≡ problem.now }
+    requires alive { IsDead graph.now → ⊥ }
+    requires earliest { IsEarliest graph.now plan }
+    ensures { IfOk result (IsPickAt graph.now) }
+{
+    let _paths = graph.paths();
+    match order_of(first_clash(alloc, problem, plan.as_slice())?) {
+        Some(choice) => Ok(Pick::Choice(choice)),
+        None => Ok(Pick::Plan(plan)),
+    }
+}
+
 /// What the fixed rule finds at the node of a graph, which is not dead.
 ///
 /// It is the route choice at the fork of the first train with two allowed routes. Where each train
@@ -89,8 +104,5 @@ pub fn pick_fixed(alloc: Global, problem: &Problem, graph: &Graph) -> Result<Pic
         unreachable!();
     };
     let plan = earliest(alloc, problem, &singles, graph.paths())?;
-    match order_of(first_clash(problem, plan.as_slice())) {
-        Some(choice) => Ok(Pick::Choice(choice)),
-        None => Ok(Pick::Plan(plan)),
-    }
+    pick_by_plan(alloc, problem, graph, plan)
 }
