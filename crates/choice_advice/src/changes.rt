@@ -121,13 +121,8 @@ impl Changes {
 
     /// Has the operations wait to which arcs lead from one.
     fn wait_behind(&mut self, links: &Links, number: u32) -> Result<(), Memory> {
-        let mut place = links.last(number);
-        for _ in 0..links.len() {
-            let Some(link) = links.at(place) else {
-                return Ok(());
-            };
+        for link in links.behind(number).iter().rev() {
             self.waiting.push(link.to)?;
-            place = link.before;
         }
         Ok(())
     }

@@ -17,14 +17,24 @@ pub(crate) struct Course {
     moved: bool,
 }
 
+/// Whether two decisions are the same. Most are orders, which are told apart first.
+fn are_same(one: &Decision, other: &Decision) -> bool {
+    match (one, other) {
+        (Decision::First { a, b }, Decision::First { a: c, b: d }) => a == c && b == d,
+        _ => one == other,
+    }
+}
+
 /// How many decisions two lists have in common at their front.
 fn common(one: &[Decision], other: &[Decision]) -> usize {
-    for (place, decision) in one.iter().enumerate() {
-        if other.get(place) != Some(decision) {
-            return place;
+    let mut count = 0usize;
+    for (one, other) in one.iter().zip(other) {
+        if !are_same(one, other) {
+            return count;
         }
+        count = count.saturating_add(1);
     }
-    one.len()
+    count
 }
 
 impl Course {

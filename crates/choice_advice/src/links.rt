@@ -2,22 +2,27 @@ use disp_model::Memory;
 use incremental_paths::Arc;
 use std::alloc::Global;
 
-/// An arc, and the one that was kept before it from the same operation.
+/// An arc from an operation.
 #[derive(Clone, Copy)]
 pub(crate) struct Link {
-    pub from: u32,
     pub to: u32,
     /// How much later the operation `to` starts, at least.
     pub length: u64,
-    pub before: Option<u32>,
 }
 
-/// The arcs of a graph in the order in which they were added, by the operations that they lead
+/// The operations that an arc leads from and to.
+#[derive(Clone, Copy)]
+pub(crate) struct Ends {
+    pub from: u32,
+    pub to: u32,
+}
+
+/// The arcs of a graph in the order in which they were added, and by the operations that they lead
 /// from.
 #[derive(Drop)]
 pub(crate) struct Links {
-    last: Vec<Option<u32>>,
-    each: Vec<Link>,
+    behind: Vec<Vec<Link>>,
+    each: Vec<Ends>,
     /// How many of them were there at the turn before this one, and are there still.
     kept: usize,
     turn: u64,
@@ -26,12 +31,12 @@ pub(crate) struct Links {
 impl Links {
     /// No arcs yet between so many operations.
     pub(crate) fn new(alloc: Global, count: usize) -> Result<Links, Memory> {
-        let mut last = Vec::with_capacity(alloc, count)?;
+        let mut behind = Vec::with_capacity(alloc, count)?;
         for _ in 0..count {
-            last.push(None)?;
+            behind.push(Vec::new(alloc))?;
         }
         Ok(Links {
-            last,
+            behind,
             each: Vec::new(alloc),
             kept: 0,
             turn: 0,
@@ -50,7 +55,7 @@ impl Links {
     }
 
     /// The arcs that are new in this turn.
-    pub(crate) fn fresh(&self) -> &[Link] {
+    pub(crate) fn fresh(&self) -> &[Ends] {
         self.each.get(self.kept..).unwrap_or(&[])
     }
 
@@ -61,39 +66,34 @@ impl Links {
 
     /// Keeps an arc behind the others.
     pub(crate) fn push(&mut self, arc: Arc) -> Result<(), Memory> {
-        let place = u32::try_from(self.each.len()).unwrap_or(u32::MAX);
-        if let Some(last) = self.last.get_mut(arc.from as usize) {
-            let before = *last;
-            *last = Some(place);
-            self.each.push(Link {
-                from: arc.from,
-                to: arc.to,
-                length: arc.length,
-                before,
-            })?;
-        }
+        let Some(behind) = self.behind.get_mut(arc.from as usize) else {
+            return Ok(());
+        };
+        behind.push(Link {
+            to: arc.to,
+            length: arc.length,
+        })?;
+        self.each.push(Ends {
+            from: arc.from,
+            to: arc.to,
+        })?;
         Ok(())
     }
 
     /// Takes the last arc away, and gives the operation that it led to.
     pub(crate) fn pop(&mut self) -> Option<u32> {
-        let link = self.each.pop()?;
-        if let Some(last) = self.last.get_mut(link.from as usize) {
-            *last = link.before;
+        let ends = self.each.pop()?;
+        if let Some(behind) = self.behind.get_mut(ends.from as usize) {
+            behind.pop();
         }
-        Some(link.to)
+        Some(ends.to)
     }
 
-    /// The last arc from an operation.
-    pub(crate) fn last(&self, from: u32) -> Option<u32> {
-        match self.last.get(from as usize) {
-            Some(last) => *last,
-            None => None,
+    /// The arcs from an operation, in the order in which they were added.
+    pub(crate) fn behind(&self, from: u32) -> &[Link] {
+        match self.behind.get(from as usize) {
+            Some(behind) => behind.as_slice(),
+            None => &[],
         }
-    }
-
-    /// The arc at a place, where there is one.
-    pub(crate) fn at(&self, place: Option<u32>) -> Option<Link> {
-        self.each.get(place? as usize).copied()
     }
 }

@@ -63,23 +63,18 @@ impl Pusher {
 
     /// Pushes an operation to a time, where it starts earlier.
     fn push(&mut self, paths: &Paths, number: u32, time: u64) {
-        if number as usize >= paths.size() {
+        let Some(start) = paths.lengths().get(number as usize) else {
             return;
-        }
-        if time > paths.length(number) && self.delay(number, time) {
+        };
+        if time > *start && self.delay(number, time) && (number as usize) < paths.size() {
             self.waiting.put(paths.place(number) as usize, number);
         }
     }
 
     /// Pushes those to which arcs lead from an operation that starts at a time.
     fn push_on(&mut self, links: &Links, paths: &Paths, number: u32, time: u64) {
-        let mut place = links.last(number);
-        for _ in 0..links.len() {
-            let Some(link) = links.at(place) else {
-                return;
-            };
+        for link in links.behind(number) {
             self.push(paths, link.to, time.saturating_add(link.length));
-            place = link.before;
         }
     }
 

@@ -50,18 +50,13 @@ impl Seeker {
 
     /// Goes on from an operation along its arcs. Says whether one leads to the end of the way.
     fn go_on(&mut self, links: &Links, paths: &Paths, number: u32, end: u32) -> bool {
-        let mut place = links.last(number);
-        for _ in 0..links.len() {
-            let Some(link) = links.at(place) else {
-                return false;
-            };
+        for link in links.behind(number).iter().rev() {
             if link.to == end {
                 return true;
             }
             if may_lead(paths, link.to, end) {
                 self.put(link.to);
             }
-            place = link.before;
         }
         false
     }

@@ -27,17 +27,12 @@ impl<'a> View<'a> {
     /// by the orders of it and operations of other trains.
     pub(crate) fn ends_before(&self, seeker: &mut Seeker, fork: u32, other: u32) -> bool {
         let train = self.spots.at(fork).train;
-        let mut place = self.links.last(fork);
-        for _ in 0..self.links.len() {
-            let Some(link) = self.links.at(place) else {
-                return false;
-            };
+        for link in self.links.behind(fork).iter().rev() {
             if self.spots.at(link.to).train != train
                 && (link.to == other || self.leads(seeker, link.to, other))
             {
                 return true;
             }
-            place = link.before;
         }
         false
     }

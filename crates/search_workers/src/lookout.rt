@@ -4,16 +4,33 @@ const NODES: u32 = 16_384;
 /// The same where changes may come.
 const PROMPT_NODES: u32 = 4096;
 
-/// It is looked on for the first time once so many nodes were grown, and then each time that twice
-/// as many were.
+/// It is looked on for the first time once so many nodes were grown.
 const FIRST_DUE: u64 = 4096;
+
+/// And then each time that so many times as many were.
+const TIMES: u64 = 4;
+
+/// A look on is at one node of so many that were grown since the last one.
+const SHARE: u64 = 2;
 
 /// The numbers of the draws of one searcher lie so far from each other.
 const DRAWS_APART: u32 = 64;
 
+/// When the next look is due.
+#[derive(Clone, Copy, Debug)]
+enum Due {
+    /// Before anything is grown.
+    First,
+    /// Once so many nodes were grown.
+    At(u64),
+    /// Not any more.
+    Never,
+}
+
 /// When a searcher looks for better plans, and at how many nodes: before its first dive, and each
-/// time that it has grown twice as many nodes, then at no more than were grown since. Each look is
-/// by draws of its own. Nothing rests on it.
+/// time that it has grown four times as many nodes, then at no more than half of those that were
+/// grown since. Few long looks find better plans than many short ones. Each look is by draws of its
+/// own. Nothing rests on it.
 #[derive(Clone, Copy, Debug)]
 pub struct Lookout {
     /// The number of the next look's draws.
@@ -24,8 +41,7 @@ pub struct Lookout {
     grown: u64,
     /// How many of them before the last look.
     before: u64,
-    /// It is time for a look when so many are grown.
-    due: u64,
+    due: Due,
 }
 
 /// A look that is due.
@@ -38,12 +54,12 @@ pub(crate) struct Look {
 }
 
 impl Lookout {
-    /// The lookout of a searcher at this place that looks at so many nodes at a time, at most. Where
-    /// no branch is allowed it never looks.
+    /// The lookout of a searcher at this place that looks at so many nodes at a time, at most.
+    /// Where no branch is allowed it never looks.
     fn of(place: u32, most: u32, budget: u32) -> Lookout {
         let due = match budget {
-            0 => u64::MAX,
-            _ => 0,
+            0 => Due::Never,
+            _ => Due::First,
         };
         Lookout {
             draws: place,
@@ -73,30 +89,34 @@ impl Lookout {
 
     /// The look that is due, if one is. The next one is due later then.
     pub(crate) fn next(&mut self) -> Option<Look> {
-        if self.grown < self.due {
-            return None;
-        }
+        let nodes = self.nodes_due()?;
         let look = Look {
             draws: self.draws,
-            nodes: self.nodes_now(),
+            nodes,
         };
         self.draws = self.draws.wrapping_add(DRAWS_APART);
         self.before = self.grown;
-        self.due = self.grown.saturating_mul(2).max(FIRST_DUE);
+        self.due = Due::At(self.grown.saturating_mul(TIMES).max(FIRST_DUE));
         Some(look)
     }
 
-    /// At how many nodes a look now is to look.
-    fn nodes_now(&self) -> u32 {
-        if self.due == 0 {
-            return self.most;
+    /// At how many nodes a look is to look now, if one is due.
+    fn nodes_due(&self) -> Option<u32> {
+        match self.due {
+            Due::First => Some(self.most),
+            Due::At(grown) if grown <= self.grown => Some(self.nodes_on()),
+            _ => None,
         }
-        let grown = self.grown.saturating_sub(self.before);
-        u32::try_from(grown).unwrap_or(u32::MAX).min(self.most)
+    }
+
+    /// At how many nodes it is to look on.
+    fn nodes_on(&self) -> u32 {
+        let nodes = self.grown.saturating_sub(self.before) / SHARE;
+        u32::try_from(nodes).unwrap_or(u32::MAX).min(self.most)
     }
 
     /// Looks no more.
     pub(crate) fn end(&mut self) {
-        self.due = u64::MAX;
+        self.due = Due::Never;
     }
 }

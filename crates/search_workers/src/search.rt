@@ -193,7 +193,8 @@ fn search_from(
 
 /// Searches the newest edition of a core on one thread until it is settled or stopped. The problem
 /// and the settings are the core's. It looks for plans before its first dive and each time that it
-/// has grown twice as much, and publishes those that it finds; its dives follow the last of them.
+/// has grown four times as much, and publishes those that it finds; its dives follow the last of
+/// them.
 ///
 /// # Errors
 ///
