@@ -1,5 +1,6 @@
-ghost use Rattle.std.specs.Prelude.{◌≡◌, ◌<◌, ◌↔◌, [], All, IsTrue, false, length};
-ghost use Rattle.train_insertion.specs.Targets.{run_in, started_in, followed_in};
+ghost use Rattle.std.specs.Prelude.{◌≡◌, ◌<◌, ◌↔◌, ◌++◌, ◌∷◌, ℕ, [], All, IfOk, OnOk, IsTrue, false, length, map};
+ghost use Rattle.disp_model.specs.Plan.{run_of};
+ghost use Rattle.train_insertion.specs.Targets.{run_in, started_in, followed_in, start_at, RunAsIn};
 
 use disp_model::{Event, List, Memory, Op, Problem};
 use std::alloc::Global;
@@ -29,7 +30,9 @@ impl Model for Target {
 }
 
 /// A run without operations for each of so many trains.
-pub(crate) fn no_runs(alloc: Global, trains: usize) -> Result<Vec<List<Start>>, Memory> {
+pub(crate) fn no_runs(alloc: Global, trains: usize) -> Result<Vec<List<Start>>, Memory>
+    ensures { IfOk result (λ runs. RunAsIn trains [] runs.items) }
+{
     let mut runs = Vec::with_capacity(alloc, trains)?;
     for _ in 0..trains {
         runs.push(List::new(alloc))?;
@@ -64,7 +67,11 @@ fn followed_in(run: &[Start], op: u32) -> Option<u32>
 }
 
 /// Adds an event behind the others of its train.
-fn add(runs: &mut Vec<List<Start>>, event: &Event) -> Result<(), Memory> {
+fn add(runs: &mut Vec<List<Start>>, event: &Event) -> Result<(), Memory>
+    ensures long { length runs.new.items ≡ length runs.old.items }
+    ensures each { OnOk result ((t : ℕ) → t < length runs.old.items → run_in runs.new.items t
+        ≡ run_in runs.old.items t ++ map start_at (run_of t (event.now ∷ []))) }
+{
     if let Some(run) = runs.get_mut(event.train as usize) {
         run.push(Start {
             op: event.operation,
@@ -75,7 +82,9 @@ fn add(runs: &mut Vec<List<Start>>, event: &Event) -> Result<(), Memory> {
 }
 
 /// The target that a plan of so many trains is.
-pub(crate) fn of_events(alloc: Global, trains: usize, plan: &[Event]) -> Result<Target, Memory> {
+pub(crate) fn of_events(alloc: Global, trains: usize, plan: &[Event]) -> Result<Target, Memory>
+    ensures { IfOk result (RunAsIn trains plan.now) }
+{
     let mut runs = no_runs(alloc, trains)?;
     for event in plan {
         add(&mut runs, event)?;
@@ -106,7 +115,9 @@ impl Target {
     /// # Errors
     ///
     /// `Memory` where memory runs out.
-    pub fn of_plan(alloc: Global, problem: &Problem, plan: &[Event]) -> Result<Target, Memory> {
+    pub fn of_plan(alloc: Global, problem: &Problem, plan: &[Event]) -> Result<Target, Memory>
+        ensures { IfOk result (RunAsIn (length problem.now.trains) plan.now) }
+    {
         of_events(alloc, problem.trains.len(), plan)
     }
 

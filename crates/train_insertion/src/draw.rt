@@ -1,3 +1,5 @@
+ghost use Rattle.std.specs.Prelude.{◌≡◌, ◌<◌};
+
 /// Numbers that look drawn by chance, the same in each run.
 #[derive(Drop)]
 pub struct Draw {
@@ -18,7 +20,10 @@ impl Draw {
     }
 
     /// The next number, below a count; 0 where the count is 0.
-    pub fn below(&mut self, count: usize) -> usize {
+    pub fn below(&mut self, count: usize) -> usize
+        ensures below { 0 < count → result < count }
+        ensures none { count ≡ 0 → result ≡ 0 }
+    {
         self.state = self
             .state
             .wrapping_mul(6364136223846793005)
