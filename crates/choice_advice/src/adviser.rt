@@ -91,7 +91,13 @@ impl Adviser {
 
     /// Notes that the graph of which it is asked next may be at any node.
     pub fn lose(&mut self) {
-        self.course.lose();
+        self.course.lose_behind(0);
+    }
+
+    /// Notes that the graph of which it is asked next may be at any node that has as many of the
+    /// decisions of the last one.
+    pub fn lose_behind(&mut self, depth: usize) {
+        self.course.lose_behind(depth);
     }
 
     /// Follows a graph to its node: notes the trains that are to be looked at again.

@@ -13,8 +13,8 @@ struct Stop {
 pub(crate) struct Course {
     decisions: Vec<Decision>,
     stops: Vec<Stop>,
-    /// Whether the graph may have been moved elsewhere than down from that node.
-    moved: bool,
+    /// So many of its decisions the graph has surely kept.
+    sure: usize,
 }
 
 /// Whether two decisions are the same. Most are orders, which are told apart first.
@@ -43,22 +43,20 @@ impl Course {
         Course {
             decisions: Vec::new(alloc),
             stops: Vec::new(alloc),
-            moved: true,
+            sure: 0,
         }
     }
 
-    /// Notes that the graph may have been moved to any node.
-    pub(crate) fn lose(&mut self) {
-        self.moved = true;
+    /// Notes that the graph may have been moved to any node that shares so many decisions.
+    pub(crate) fn lose_behind(&mut self, depth: usize) {
+        self.sure = self.sure.min(depth);
     }
 
     /// How many of its decisions a node has too.
     pub(crate) fn shared_with(&self, decisions: &[Decision]) -> usize {
-        let depth = self.decisions.len();
-        if !self.moved && depth <= decisions.len() {
-            return depth;
-        }
-        common(&self.decisions, decisions)
+        let sure = self.sure.min(decisions.len());
+        let more = decisions.get(sure..).unwrap_or(&[]);
+        common(self.behind(sure), more).saturating_add(sure)
     }
 
     /// The decisions behind so many.
@@ -90,7 +88,7 @@ impl Course {
             depth: self.decisions.len(),
             arcs,
         })?;
-        self.moved = false;
+        self.sure = self.decisions.len();
         Ok(())
     }
 }

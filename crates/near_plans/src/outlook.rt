@@ -105,7 +105,6 @@ fn picked(
     if cost(aim.problem, graph) >= below {
         return Ok(None);
     }
-    adviser.lose();
     let pick = pick_free(alloc, aim.problem, graph, adviser, aim.strategy)?;
     Ok(Some(pick))
 }
@@ -207,6 +206,7 @@ impl Outlook {
         ensures plan { (root : Node) → IsBeside root graph.old
             → IfSome self.old.plan (IsFoundBeside root) → IfSome self.new.plan (IsFoundBeside root) }
     {
+        adviser.lose_behind(next.depth);
         if !go_to(graph, next)? {
             return Ok(());
         }
@@ -239,6 +239,7 @@ pub(crate) fn look_below(
     ensures beside { IsBeside graph.old graph.new }
     ensures plan { IfOk result (λ outlook. IfSome outlook.plan (IsFoundBeside graph.old)) }
 {
+    adviser.lose();
     let mut outlook = Outlook::new(alloc, wanted.below);
     outlook.see(alloc, aim, graph, adviser)?;
     for _ in 1..wanted.nodes {

@@ -10,9 +10,6 @@ const FIRST_DUE: u64 = 4096;
 /// And then each time that so many times as many were.
 const TIMES: u64 = 4;
 
-/// A look on is at one node of so many that were grown since the last one.
-const SHARE: u64 = 2;
-
 /// The numbers of the draws of one searcher lie so far from each other.
 const DRAWS_APART: u32 = 64;
 
@@ -28,9 +25,9 @@ enum Due {
 }
 
 /// When a searcher looks for better plans, and at how many nodes: before its first dive, and each
-/// time that it has grown four times as many nodes, then at no more than half of those that were
-/// grown since. Few long looks find better plans than many short ones. Each look is by draws of its
-/// own. Nothing rests on it.
+/// time that it has grown four times as many nodes, then at no more than were grown since. Few long
+/// looks find better plans than many short ones. Each look is by draws of its own. Nothing rests on
+/// it.
 #[derive(Clone, Copy, Debug)]
 pub struct Lookout {
     /// The number of the next look's draws.
@@ -105,14 +102,14 @@ impl Lookout {
         match self.due {
             Due::First => Some(self.most),
             Due::At(grown) if grown <= self.grown => Some(self.nodes_on()),
-            _ => None,
+            Due::At(_) | Due::Never => None,
         }
     }
 
     /// At how many nodes it is to look on.
     fn nodes_on(&self) -> u32 {
-        let nodes = self.grown.saturating_sub(self.before) / SHARE;
-        u32::try_from(nodes).unwrap_or(u32::MAX).min(self.most)
+        let grown = self.grown.saturating_sub(self.before);
+        u32::try_from(grown).unwrap_or(u32::MAX).min(self.most)
     }
 
     /// Looks no more.
