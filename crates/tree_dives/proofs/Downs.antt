@@ -1,18 +1,38 @@
 -- A step down, by what is added before a place and behind it.
-use Rattle.std.proofs.Common.{◌≡◌, ◌∙◌, ℕ, ◌+◌, List, [], ◌∷◌, ◌++◌, length, map, reverse, Option, true, false, sym, ap, subst, arith}
+use Rattle.std.proofs.Common.{◌≡◌, ◌∙◌, ℕ, ◌+◌, ◌<◌, List, [], ◌∷◌, ◌++◌, length, map, reverse, Option, true, false, refl, sym, ap, subst, arith}
 use Rattle.std.proofs.lemmas.List.{append_assoc, map-append}
 use Rattle.disp_model.specs.declared.decision.Decision.{Decision}
 use Rattle.disp_model.specs.declared.decision.Choice.{Choice}
+use Rattle.disp_model.specs.declared.decision.Choice.TheVariants.{Route, Order, Run}
 use Rattle.disp_model.specs.declared.tree.Leaf.{Leaf as TreeLeaf}
 use Rattle.disp_model.specs.declared.tree.TreeNode.{TreeNode}
 use Rattle.disp_model.specs.declared.tree.TreeNode.TheVariants.{Branch, Leaf}
 use Rattle.disp_model.specs.Node.{Node, with_decision}
+use Rattle.disp_model.specs.Nodes.{IsDead}
+use Rattle.event_graph.specs.declared.faults.ExtendNo.{ExtendNo}
+use Rattle.event_graph.specs.declared.faults.ExtendNo.TheVariants as no
+use Rattle.event_graph.specs.Kept.{IsRefusedAt}
+use Rattle.node_leaves.proofs.Showing.{no_route_leaf, cycle_leaf}
 use Rattle.disp_model.specs.Trees.{children_of}
 use Rattle.disp_model.specs.declared.settings.Rule.{Rule}
-use Rattle.tree_growth.specs.Grown.{GrowsBelow, KeepsBound, branches}
+use Rattle.disp_laws.proofs.OpenChoices.{picked_is_choice}
+use Rattle.tree_growth.specs.Grown.{GrowsBelow, Helps, KeepsBound, branches}
+use Rattle.tree_growth.proofs.Children.{children_fit}
 use Rattle.tree_dives.specs.Halves.{Sides}
 use Rattle.tree_dives.specs.Downs.{GoesDown}
 use Rattle.tree_dives.proofs.Growing.{side_by_side, leaf_alone, leaves_at_all, goes_to_child, branches_append, branches_leaf, branches_back}
+
+-- a node that is refused is dead, where there is memory
+pub refused_dead : (node : Node) (why : ExtendNo) → IsRefusedAt node why → (why ≡ no.Memory → ⊥) → IsDead node
+refused_dead node (no.NoRoute t) is other = (no_route_leaf node t is).dead
+refused_dead node (no.Cycle nodes) is other = (cycle_leaf node nodes is.1).dead
+refused_dead node no.Memory is other = absurd (other refl)
+
+-- a branch that helps has a child
+pub some_child : (rule : Rule) (best : Option ℕ) (node : Node) (choice : Choice) → Helps rule best node choice → 0 < length (children_of node.problem choice)
+some_child rule best node (Route o) helps = omega (arith, (children_fit node.problem (Route o) (picked_is_choice node rule (Route o) helps.picked)).0)
+some_child rule best node (Order a b) helps = omega arith
+some_child rule best node (Run o) helps = omega arith
 
 module _ (rule : Rule) (choice : Choice) (here below : Node) (old : Sides) (k : ℕ) (count : k ≡ length (children_of here.problem choice)) where
   one_more : (left : List TreeNode) → branches left ≡ 0 → branches ((old.before ++ Branch choice k ∷ []) ++ left) ≡ branches old.before + 1

@@ -23,7 +23,7 @@ use Rattle.tree_dives.specs.Leaves.{leaf_held, bound_in}
 use Rattle.tree_dives.specs.Stages.{IsClosedAt, HasPlan, EndsThere}
 use Rattle.tree_dives.specs.Halves.{Sides, Completes, AreSidesComplete, IsBelowNode}
 use Rattle.tree_dives.specs.Downs.{branches_in}
-use Rattle.tree_dives.specs.Dives.{IsDive, IsEndOf, EndsInPlan, StaysOpen}
+use Rattle.tree_dives.specs.Dives.{IsDive, IsEndOf, EndsInPlan, EndsClosed, StaysOpen}
 use Rattle.tree_dives.specs.Wholes.{IsDiveWhole, with_leaf}
 use Rattle.tree_dives.specs.declared.given.Dive.{Dive}
 use Rattle.tree_dives.specs.declared.stage.End.{End}
@@ -44,16 +44,19 @@ shown_bound rule node (shows.Dead leaf) bound alive is shown = absurd (alive sho
 shown_bound rule node (shows.Open leaf other) bound alive is shown = bound_same node rule other bound shown.is_bound is
 
 module _ (rule : Rule) (best : Option ℕ) (root : Node) (allowance : ℕ) where
-  -- no place is left
-  pub whole_dive : (sides : Sides) (dive : Dive) (count : ℕ) → AreSidesComplete rule best root sides → IsDiveWhole sides Closed dive → branches_in sides ≡ suc count → suc count ≤ allowance → IsDive rule root best allowance dive
-  whole_dive sides dive count complete whole counted few = record {
+  -- no place is left: a node below that needs no branch is a leaf too
+  pub whole_dive : (here : Node) → IsBelowNode root here → IsClosedAt rule best here → (sides : Sides) (dive : Dive) (count : ℕ) → AreSidesComplete rule best root sides → IsDiveWhole sides Closed dive → branches_in sides ≡ suc count → suc count ≤ allowance → IsDive rule root best allowance dive
+  whole_dive here below closed sides dive count complete whole counted few = record {
     grows = rw (whole.nodes, whole.bounds) complete;
     few = omega (arith, all, few);
-    ends = rw whole.end_is (λ none. absurd (omega (arith, all, none)));
+    ends = subst (λ (e : End). IsEndOf rule root best allowance dive.nodes dive.bounds e) (sym whole.end_is) ends_closed;
   }
     where
       all : branches dive.nodes ≡ suc count
       all = ap branches whole.nodes ∙ whole_count sides ∙ counted
+
+      ends_closed : EndsClosed rule root best dive.nodes
+      ends_closed = record { here = here; below = below; closed = closed; at_root = λ none. absurd (omega (arith, all, none)) }
 
   module _ (here : Node) (sides : Sides) (complete : Completes rule best root here sides) (below : IsBelowNode root here) (shown : NodeLeaf) (is : IsLeafOf rule here shown) (end : End) (dive : Dive) (whole : IsDiveWhole (with_leaf sides shown) end dive) where
     leaf_count : branches dive.nodes ≡ branches_in sides
@@ -99,7 +102,7 @@ module _ (rule : Rule) (best : Option ℕ) (root : Node) (allowance : ℕ) where
     ended_there count there at_root counted few = ended_dive (omega (arith, counted, few)) (ends end there)
       where
         ends : (e : End) → EndsThere rule best here e → IsEndOf rule root best allowance dive.nodes dive.bounds e
-        ends Closed closed = λ none. subst (IsClosedAt rule best) (at_root (omega (arith, leaf_count, counted, none))) closed
+        ends Closed closed = record { here = here; below = below; closed = closed; at_root = λ none. at_root (omega (arith, leaf_count, counted, none)) }
         ends (Plan plan) has = ends_in_plan plan has
         ends Open never = absurd never
 

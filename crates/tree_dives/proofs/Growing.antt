@@ -1,6 +1,6 @@
 -- What grows at several places, one after the other.
 use Rattle.std.proofs.Common.{◌≡◌, ◌∙◌, ℕ, ◌+◌, ◌<◌, List, [], ◌∷◌, ◌++◌, length, map, take, get_or, reverse, Option, refl, sym, ap, subst, arith}
-use Rattle.std.proofs.lemmas.List.{append_assoc, append-nil, map-append, reverse-append, reverse-reverse, take_more, take-take}
+use Rattle.std.proofs.lemmas.List.{append_assoc, append-nil, length-append, map-append, reverse-append, reverse-reverse, take-append-le, take_all, take_more, take-take}
 use Rattle.disp_model.specs.declared.decision.Decision.{Decision}
 use Rattle.disp_model.specs.declared.decision.Choice.{Choice}
 use Rattle.disp_model.specs.declared.tree.Leaf.{Leaf as TreeLeaf}
@@ -81,6 +81,15 @@ below_below root middle here one other = record {
   fixings = other.fixings ∙ one.fixings;
   deeper = omega (arith, one.deeper, other.deeper);
   first = sym (take-take (length root.decisions) (length middle.decisions) here.decisions one.deeper) ∙ ap (take (length root.decisions)) other.first ∙ one.first;
+}
+
+-- one decision more
+pub deeper_by_one : (here : Node) (d : Decision) → IsBelowNode here (with_decision here d)
+deeper_by_one here d = record {
+  problem = refl;
+  fixings = refl;
+  deeper = omega (arith, length-append here.decisions (d ∷ []));
+  first = take-append-le (length here.decisions) here.decisions (d ∷ []) (omega arith) ∙ take_all (length here.decisions) here.decisions (omega arith);
 }
 
 -- nothing stands beside the first place

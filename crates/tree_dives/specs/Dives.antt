@@ -35,9 +35,16 @@ pub record StaysOpen (rule : Rule) (root : Node) (best : Option ℕ) (bounds : L
   pub helps : Helps rule best root choice
   pub bounds_are : bounds ≡ helps.bound ∷ []
 
+-- a node below needs no branch: the root itself, where nothing was branched
+pub record EndsClosed (rule : Rule) (root : Node) (best : Option ℕ) (nodes : List TreeNode)
+    : Type 0 where
+  pub here : Node
+  pub below : IsBelowNode root here
+  pub closed : IsClosedAt rule best here
+  pub at_root : branches nodes ≡ 0 → here ≡ root
+
 abbrev pub IsEndOf : Rule → Node → Option ℕ → ℕ → List TreeNode → List ℕ → End → Type 0
-IsEndOf rule root best allowance nodes bounds Closed = branches nodes ≡ 0
-    → IsClosedAt rule best root
+IsEndOf rule root best allowance nodes bounds Closed = EndsClosed rule root best nodes
 IsEndOf rule root best allowance nodes bounds (Plan plan) = EndsInPlan root best bounds plan
 IsEndOf rule root best allowance nodes bounds Open = (branches nodes ≡ allowance)
     × (allowance ≡ 0 → StaysOpen rule root best bounds)

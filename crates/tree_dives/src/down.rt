@@ -1,6 +1,9 @@
-ghost use Rattle.std.specs.Prelude.{◌≡◌, true, false, IfOk, OnErr};
+ghost use Rattle.std.specs.Prelude.{◌≡◌, ℕ, Option, true, false, IfOk, OnErr};
+ghost use Rattle.disp_model.specs.declared.decision.Decision.{Decision as DecisionOf};
 ghost use Rattle.disp_model.specs.Node.{with_decision};
+ghost use Rattle.disp_model.specs.Nodes.{IsDead};
 ghost use Rattle.node_leaves.specs.Reckoned.{ReckonsFor};
+ghost use Rattle.tree_growth.specs.Grown.{Helps};
 ghost use Rattle.tree_dives.specs.Halves.{IsBelowNode};
 ghost use Rattle.tree_dives.specs.Downs.{sides_of, GoesDown};
 ghost use Rattle.share_bound.specs.Known.{HoldFor};
@@ -31,6 +34,8 @@ fn follow(graph: &mut Graph, known: &mut KnownShares, decision: Decision) -> Res
     ensures yes { IfOk result
         (λ is. is ≡ true → graph.new ≡ with_decision graph.old decision) }
     ensures no { IfOk result (λ is. is ≡ false → graph.new ≡ graph.old) }
+    ensures dead { IfOk result
+        (λ is. is ≡ false → IsDead (with_decision graph.old decision)) }
     ensures err { OnErr result (graph.new ≡ graph.old) }
 {
     match graph.extend(decision) {
@@ -39,12 +44,14 @@ fn follow(graph: &mut Graph, known: &mut KnownShares, decision: Decision) -> Res
             Ok(true)
         }
         Err(ExtendNo::Memory) => Err(Memory),
-        Err(_) => Ok(false),
+        Err(ExtendNo::NoRoute(_)) => Ok(false),
+        Err(ExtendNo::Cycle(_)) => Ok(false),
     }
 }
 
 /// Branches at the node of a graph, and goes down to the child that is preferred. The others become
-/// leaves. Says whether a place is left to be filled, which is that child's.
+/// leaves. Says whether a place is left to be filled, which is that child's: none is where the child
+/// is dead.
 pub(crate) fn go_down(
     alloc: Global,
     problem: &Problem,
@@ -62,6 +69,9 @@ pub(crate) fn go_down(
     ensures known { HoldFor graph.new known.new }
     ensures down { IfOk result (GoesDown reckoning.now.rule choice graph.old (sides_of halves.old)
         graph.new (sides_of halves.new)) }
+    ensures dead { IfOk result (λ more. more ≡ false → (best : Option ℕ)
+        → Helps reckoning.now.rule best graph.old choice
+        → (child : DecisionOf) × IsDead (with_decision graph.old child)) }
 {
     let children = children(alloc, problem, choice)?;
     push_branch(&mut halves.before, choice, children.len() as u32)?;

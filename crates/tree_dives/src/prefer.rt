@@ -1,4 +1,4 @@
-ghost use Rattle.std.specs.Prelude.{◌≡◌, ◌≤◌, length, IfSome};
+ghost use Rattle.std.specs.Prelude.{◌≡◌, ◌<◌, ◌≤◌, length, IfSome};
 
 use cost_bound::cost;
 use disp_model::{Decision, Problem};
@@ -37,7 +37,7 @@ fn is_aimed_at(target: &Target, decision: Decision) -> bool {
 
 /// The place of the first child that a target takes.
 fn aimed(target: &Target, children: &[Decision]) -> Option<usize>
-    ensures { IfSome result (λ place. place ≤ length children.now) }
+    ensures { IfSome result (λ place. place < length children.now) }
 {
     for (place, decision) in children.iter().enumerate() {
         if is_aimed_at(target, *decision) {
@@ -53,6 +53,7 @@ fn cheapest(problem: &Problem, graph: &mut Graph, children: &[Decision]) -> usiz
     requires { graph.old.problem ≡ problem.now }
     ensures same { graph.new ≡ graph.old }
     ensures within { result ≤ length children.now }
+    ensures there { 0 < length children.now → result < length children.now }
 {
     let mut found = 0;
     let mut least = None;
@@ -78,6 +79,7 @@ pub fn preferred(
     requires { graph.old.problem ≡ problem.now }
     ensures same { graph.new ≡ graph.old }
     ensures within { result ≤ length children.now }
+    ensures there { 0 < length children.now → result < length children.now }
 {
     match aimed(target, children) {
         Some(place) => place,

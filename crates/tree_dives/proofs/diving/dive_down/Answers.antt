@@ -1,4 +1,4 @@
-use Rattle.std.proofs.Common.{◌≡◌, ◌∙◌, refl, sym, subst, arith}
+use Rattle.std.proofs.Common.{◌≡◌, ◌∙◌, inl, refl, sym, subst, arith}
 use Rattle.std.proofs.lemmas.Result.{IfOk-weaker}
 use Rattle.disp_model.specs.Node.{Node}
 use Rattle.tree_dives.specs.declared.stage.Stage.TheVariants as stages
@@ -6,7 +6,7 @@ use Rattle.tree_dives.specs.Stages.{IsStageAt}
 use Rattle.tree_dives.specs.Halves.{Completes, IsBelowNode}
 use Rattle.tree_dives.specs.Downs.{sides_of, DiveGoesOn}
 use Rattle.tree_dives.proofs.Ending.{whole_dive, ended_there, spent_there}
-use Rattle.tree_dives.proofs.Growing.{below_below}
+use Rattle.tree_dives.proofs.Growing.{below_below, deeper_by_one}
 use Rattle.tree_dives.proofs.diving.dive_down.Goals as goal
 
 pub returns-then-not-branch-clause-dive : goal.returns-then-not-branch-clause-dive
@@ -23,8 +23,12 @@ returns-then-not-branch-clause-dive c =
     let down = c.in_ok-go_down-in-Branch.ensures.down in
     let complete = subst (DiveGoesOn rule best root c.go_down.new.graph (sides_of c.go_down.new.halves))
     c.if-not-branch.true (down.0 best root helps completes) in
+    let below = subst (IsBelowNode root) back inv.below in
+    let dead = c.in_ok-go_down-in-Branch.ensures.dead c.if-not-branch.true best helps in
+    let here = below_below root _ _ below (deeper_by_one _ dead.0) in
     IfOk-weaker c.whole.result _ _ (λ dive is.
-    whole_dive rule best root c.args.allowance (sides_of c.go_down.new.halves) dive c.loop.counter
+    whole_dive rule best root c.args.allowance _ here (inl dead.1) (sides_of c.go_down.new.halves)
+    dive c.loop.counter
     complete is (omega (arith, down.1, inv.count)) (omega (arith, c.loop-test.true)))
     c.whole.ensures
 

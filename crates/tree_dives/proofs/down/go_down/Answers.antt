@@ -1,8 +1,9 @@
-use Rattle.std.proofs.Common.{◌≡◌, ◌∙◌, List, [], ◌∷◌, ◌++◌, length, map, drop, refl, ap, subst, sym, arith}
-use Rattle.std.proofs.lemmas.List.{take-append-drop, append-nil, length-append, take-append-le, take_all, nil_from_length}
+use Rattle.std.proofs.Common.{◌≡◌, ◌∙◌, List, ◌++◌, length, map, drop, ap, subst, sym, arith}
+use Rattle.std.proofs.lemmas.List.{take-append-drop, append-nil, length-take-le, nil_from_length}
 use Rattle.disp_model.specs.declared.decision.Decision.{Decision}
 use Rattle.disp_model.specs.declared.problem.Problem.{Problem}
 use Rattle.disp_model.specs.Node.{Node, with_decision}
+use Rattle.disp_model.specs.Nodes.{IsDead}
 use Rattle.disp_model.specs.Trees.{children_of}
 use Rattle.node_leaves.specs.Shown.{IsLeafOf}
 use Rattle.tree_growth.specs.Grown.{GrowsBelow}
@@ -10,8 +11,8 @@ use Rattle.tree_dives.specs.Leaves.{leaf_held, bound_in}
 use Rattle.tree_dives.specs.Halves.{IsBelowNode}
 use Rattle.tree_dives.specs.Downs.{sides_of}
 use Rattle.tree_growth.proofs.Children.{children_few}
-use Rattle.tree_dives.proofs.Growing.{keeps}
-use Rattle.tree_dives.proofs.Downs.{all_leaves, one_followed, none_followed}
+use Rattle.tree_dives.proofs.Growing.{keeps, deeper_by_one}
+use Rattle.tree_dives.proofs.Downs.{some_child, all_leaves, one_followed, none_followed}
 use Rattle.tree_dives.proofs.down.go_down.Goals as goal
 use Rattle.tree_dives.proofs.down.go_down.Goals.{After-split_at}
 
@@ -52,23 +53,18 @@ returns-then-branch-clause-down c =
     (λ best. subst (λ (n : Node). GrowsBelow c.args.reckoning.now.rule best (map (with_decision n) c.in-Some.last.now) c.in_ok-right.right.nodes.items c.in_ok-right.right.bounds.items) kept (c.in_ok-right.ensures.grows best))
     c.in_ok-left.ensures.leaves c.in_ok-right.ensures.leaves)
 
-deeper_by_one : (here below : Node) (d : Decision) → below ≡ with_decision here d → IsBelowNode here below
-deeper_by_one here below d is = rw is (record {
-  problem = refl;
-  fixings = refl;
-  deeper = omega (arith, length-append here.decisions (d ∷ []));
-  first = take-append-le (length here.decisions) here.decisions (d ∷ []) (omega arith) ∙ take_all (length here.decisions) here.decisions (omega arith);
-})
+child_below : (here below : Node) (d : Decision) → below ≡ with_decision here d → IsBelowNode here below
+child_below here below d is = rw is (deeper_by_one here d)
 
 pub returns-then-branch-clause-below : goal.returns-then-branch-clause-below
 returns-then-branch-clause-below c =
     let there : c.leaves_of-2.new.graph ≡ c.args.graph.now = c.in_ok-right.ensures.same ∙ c.in_ok-left.ensures.same ∙ c.preferred-place.ensures.same in
-    deeper_by_one c.args.graph.now c.follow.new.graph c.in-Some.followed.now (c.in_ok-follow.ensures.yes c.if-branch.true ∙ ap (λ (n : Node). with_decision n c.in-Some.followed.now) there)
+    child_below c.args.graph.now c.follow.new.graph c.in-Some.followed.now (c.in_ok-follow.ensures.yes c.if-branch.true ∙ ap (λ (n : Node). with_decision n c.in-Some.followed.now) there)
 
 pub returns-in_err-append_back-clause-below : goal.returns-in_err-append_back-clause-below
 returns-in_err-append_back-clause-below c =
     let there : c.leaves_of-2.new.graph ≡ c.args.graph.now = c.in_ok-right.ensures.same ∙ c.in_ok-left.ensures.same ∙ c.preferred-place.ensures.same in
-    deeper_by_one c.args.graph.now c.follow.new.graph c.in-Some.followed.now (c.in_ok-follow.ensures.yes c.if-branch.true ∙ ap (λ (n : Node). with_decision n c.in-Some.followed.now) there)
+    child_below c.args.graph.now c.follow.new.graph c.in-Some.followed.now (c.in_ok-follow.ensures.yes c.if-branch.true ∙ ap (λ (n : Node). with_decision n c.in-Some.followed.now) there)
 
 pub returns-clause-down : goal.returns-clause-down
 returns-clause-down c =
@@ -84,3 +80,21 @@ returns-clause-down c =
     (keeps c.args.reckoning.now.rule (with_decision node c.in-Some.followed.now) c.in_ok-leaf.leaf (subst (λ (n : Node). IsLeafOf c.args.reckoning.now.rule (with_decision n c.in-Some.followed.now) c.in_ok-leaf.leaf) still c.in_ok-leaf.ensures.leaf))
     (λ best. subst (λ (n : Node). GrowsBelow c.args.reckoning.now.rule best (map (with_decision n) c.in-Some.last.now) c.in_ok-right.right.nodes.items c.in_ok-right.right.bounds.items) kept (c.in_ok-right.ensures.grows best))
     c.in_ok-left.ensures.leaves c.in_ok-right.ensures.leaves)
+
+pub returns-in_default-clause-dead : goal.returns-in_default-clause-dead
+returns-in_default-clause-dead c _ best helps =
+    let d = (goal.at.returns-in_default-clause-dead c).After-split_at in
+    let node = c.args.graph.now in
+    let place = c.preferred-place.result in
+    let all : children_of node.problem c.args.choice ≡ c.split_at.result.0.now = parted d ∙ ap (λ (l : List Decision). c.split_at.result.0.now ++ l) (nil_from_length c.split_at.result.1.now c.in_default.ensures.cases) ∙ append-nil c.split_at.result.0.now in
+    let same : children_of node.problem c.args.choice ≡ c.as_slice-2.result.now = ap (λ (p : Problem). children_of p c.args.choice) c.requires.node ∙ sym (c.as_slice-2.ensures ∙ c.in_ok-children.ensures) in
+    let some = some_child c.args.reckoning.now.rule best node c.args.choice helps in
+    let first : length c.as_slice.result.now ≡ length c.as_slice-2.result.now = ap (λ (l : List Decision). length l) (c.as_slice.ensures ∙ sym c.as_slice-2.ensures) in
+    let there = c.preferred-place.ensures.there (omega (arith, ap (λ (l : List Decision). length l) same, some, first)) in
+    let front = ap (λ (l : List Decision). length l) c.split_at.ensures.front ∙ length-take-le place c.as_slice-2.result.now (omega (arith, there, first)) in
+    absurd (omega (arith, there, front, first, ap (λ (l : List Decision). length l) all, ap (λ (l : List Decision). length l) same))
+
+pub returns-clause-dead : goal.returns-clause-dead
+returns-clause-dead c _ best helps =
+    let there : c.leaves_of-2.new.graph ≡ c.args.graph.now = c.in_ok-right.ensures.same ∙ c.in_ok-left.ensures.same ∙ c.preferred-place.ensures.same in
+    (c.in-Some.followed.now, subst (λ (n : Node). IsDead (with_decision n c.in-Some.followed.now)) there (c.in_ok-follow.ensures.dead c.if-branch.false))

@@ -1,5 +1,9 @@
-use Rattle.std.proofs.Common.{◌≡◌, ◌≤◌}
+use Rattle.std.proofs.Common.{◌≡◌, ◌<◌, ◌≤◌}
 use Rattle.tree_dives.proofs.prefer.cheapest.Given as goal
 
 abbrev pub invariant-loop-place : goal.invariant-loop-place
-invariant-loop-place l = (l.graph ≡ l.initial.graph) × (l.found ≤ l.place)
+invariant-loop-place l = record {
+  same : l.graph ≡ l.initial.graph;
+  within : l.found ≤ l.place;
+  there : 0 < l.place → l.found < l.place;
+}
