@@ -2,7 +2,8 @@ ghost use Rattle.std.specs.Prelude.{◌≡◌, [], IfOk, IfSome};
 ghost use Rattle.event_graph.specs.Joined.{IsOfEdition};
 ghost use Rattle.near_plans.specs.Plans.{IsBeside, IsFoundBeside, IsPlanAt};
 
-use crate::neighbours::{Base, improved};
+use crate::base::Base;
+use crate::neighbours::improved;
 use crate::outlook::{Aim, Outlook, Wanted, look_below};
 use disp_model::{Memory, Plan, Problem};
 use event_graph::Graph;

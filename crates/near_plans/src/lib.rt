@@ -7,7 +7,10 @@
 #![tactic(auto)]
 
 mod ahead;
+mod base;
 mod neighbours;
 mod outlook;
+mod region;
+mod taking;
 
 pub use ahead::{Ahead, look_ahead};

@@ -3,7 +3,7 @@ ghost use Rattle.std.specs.Prelude.{◌≡◌, All, IfOk, length};
 ghost use Rattle.search_crew.specs.Crews.{IsHandOf, IsSameHand};
 
 use crossbeam_deque::{Steal, Stealer, Worker};
-use disp_model::Memory;
+use disp_model::{Memory, Problem};
 use incumbent_cell::{CellPass, Least};
 use open_nodes::Work;
 use search_workers::{Effort, FOR_PLAN, Lookout};
@@ -112,10 +112,10 @@ impl Crew {
     }
 
     /// When the searcher at a place looks for better plans.
-    pub(crate) fn lookout(&self, place: u32) -> Lookout {
+    pub(crate) fn lookout(&self, problem: &Problem, place: u32) -> Lookout {
         let count = u32::try_from(self.stealers.len()).unwrap_or(u32::MAX);
         match self.pace {
-            Pace::Steady => Lookout::steady(place, count, self.budget),
+            Pace::Steady => Lookout::steady(problem, place, count, self.budget),
             Pace::Prompt => Lookout::prompt(place, self.budget),
         }
     }

@@ -78,7 +78,7 @@ fn search_newest<W: Wait, G: Gate>(
     }
     tell(crew, hand, edition, GREATEST_COST);
     let reckoning = Reckoning::new(alloc, board.problem(), rule)?;
-    let lookout = crew.lookout(hand.place);
+    let lookout = crew.lookout(board.problem(), hand.place);
     let order = &mut hand.order;
     let mut ground = begin(alloc, board.problem(), fixings.as_slice(), lookout, order)?;
     rounds(

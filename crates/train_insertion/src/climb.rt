@@ -6,7 +6,7 @@ use disp_model::{Fixing, List, Memory, Problem, Train};
 use std::alloc::Global;
 
 /// How often a train is put in by default.
-pub const INSERTIONS: u32 = 30000;
+pub const INSERTIONS: u32 = 10_000;
 
 /// How many places a train is moved at most.
 const REACH: usize = 3;

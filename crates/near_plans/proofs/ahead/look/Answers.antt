@@ -1,7 +1,7 @@
 use Rattle.std.proofs.Common.{Option, subst}
 use Rattle.std.specs.Prelude.{IfSome}
 use Rattle.near_plans.specs.Plans.{IsFoundBeside}
-use Rattle.near_plans.specs.declared.neighbours.Base.{Base}
+use Rattle.near_plans.specs.declared.base.Base.{Base}
 use Rattle.near_plans.proofs.Finding.{found_beside, found_there, found_is_plan}
 use Rattle.near_plans.proofs.ahead.look.Goals as goal
 

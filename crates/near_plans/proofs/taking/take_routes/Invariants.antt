@@ -1,5 +1,5 @@
 use Rattle.near_plans.specs.Plans.{IsBeside}
-use Rattle.near_plans.proofs.neighbours.take_orders.Given as goal
+use Rattle.near_plans.proofs.taking.take_routes.Given as goal
 
 abbrev pub invariant-loop-event : goal.invariant-loop-event
 invariant-loop-event l = IsBeside l.initial.graph l.graph
