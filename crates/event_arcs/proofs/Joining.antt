@@ -3,10 +3,11 @@ use Rattle.std.proofs.Common.{◌≡◌, ℕ, zero, suc, ◌+◌, ◌<◌, ◌�
 use Rattle.std.specs.Prelude.{Contains, IfSome, slice_get, ◌⊎◌}
 use Rattle.std.proofs.lemmas.Bool.{cases_lt}
 use Rattle.std.proofs.lemmas.Option.{none-some, same_Some}
-use Rattle.std.proofs.lemmas.List.{get_or_default}
+use Rattle.std.proofs.lemmas.List.{append_assoc, get_or_default}
 use Rattle.std.proofs.lemmas.List.Elements.{All-push, Contains-append_left, Contains-append_right}
 use Rattle.disp_model.specs.declared.train.Op.{Op}
 use Rattle.disp_model.specs.declared.train.Operation.{Operation}
+use Rattle.disp_model.specs.declared.problem.Problem.{Problem}
 use Rattle.disp_model.specs.WellFormed.{LeadsTo}
 use Rattle.disp_model.specs.Train.{IsRoute}
 use Rattle.disp_model.specs.Numbers.{number_of}
@@ -24,12 +25,12 @@ use Rattle.train_orders.specs.Orders.{IsBehind, IsOrder}
 use Rattle.train_orders.proofs.Places.{at_contains}
 use Rattle.train_orders.proofs.Ordered.{at_taken, taken_more, one_place}
 use Rattle.route_sets.specs.declared.routes.Routes.{Routes}
-use Rattle.route_sets.specs.Sets.{op_of_train}
+use Rattle.route_sets.specs.Sets.{op_of_train, AreRoutesOf}
 use Rattle.incremental_paths.specs.declared.arc.Arc.{Arc}
 use Rattle.incremental_paths.proofs.Members.{joined, longest_ge}
 use Rattle.incremental_paths.proofs.Walking.{Follows_part, steps_part}
-use Rattle.event_arcs.specs.Listed.{IsArcOf, LeadsOver}
-use Rattle.event_arcs.specs.Chained.{Extends, LeadsAlong, IsOrderGiven, EndsAt, StandsFrom, IsChained, AddsChain, AddsChains}
+use Rattle.event_arcs.specs.Listed.{IsArcOf, LeadsOver, AreArcsOf}
+use Rattle.event_arcs.specs.Chained.{Extends, LeadsAlong, Joins, LeadsByRoutes, IsOrderGiven, EndsAt, StandsFrom, IsChained, AddsChain, AddsChains}
 use Rattle.event_arcs.proofs.Leading.{leads_then}
 
 -- ---- lists that grow
@@ -178,22 +179,35 @@ chained_first node t order place q base arcs is here forced chained = record {
 abbrev chain_arc : ℕ → ℕ → ℕ → ℕ → Arc
 chain_arc first p q sum = record { from = first + p; to = first + q; length = sum }
 
--- a forced operation behind a forced one
-pub chained_on : (node : Node) (t : ℕ) (order : List ℕ) (place p q first sum : ℕ) (base arcs new : List Arc) → IsOrder (train_at node.problem t) order → first ≡ number_of node.problem (op_of_train t 0) → slice_get order place ≡ Some q
-    → IsForced node (op_of_train t q) → IsTrainArc node (op_of_train t p) (op_of_train t q) sum → new ≡ arcs ++ record { from = first + p; to = first + q; length = sum } ∷ []
-    → IsChained node t order (place + 1) base arcs (Some p) → IsChained node t order place base new (Some q)
-chained_on node t order place p q first sum base arcs new is first_is here forced step new_is chained = record {
-  extends = extends_then node base arcs new chained.extends extends;
-  last_stands = record { at = place; from = omega arith; here = here; forced = forced };
-  to_last = to_q;
-  between = between;
+-- a list that stands for the arcs of a node leads as those of each of its trains
+pub leads_as_before : (before node : Node) (t : ℕ) (routes : Routes) (given : List Arc) → before.problem ≡ node.problem → AreRoutesOf before t routes → AreArcsOf before given → LeadsByRoutes node t routes given
+leads_as_before before node t routes given same are arcs = record {
+  before = before;
+  are_routes = are;
+  leads = λ o q sum one other arc.
+      subst (λ (p : Problem). LeadsOver given (number_of p (op_of_train t o)) (number_of p (op_of_train t q)) sum) same (arcs.complete (op_of_train t o) (op_of_train t q) sum (record { from_forced = one; to_forced = other; kind = inl arc }));
+}
+
+-- the list leads from one forced operation to another already
+pub joins_given : (node : Node) (u v : Op) (sum : ℕ) (given arcs : List Arc) → LeadsAlong node given u v sum → Joins node u v sum (given ++ arcs) (given ++ arcs)
+joins_given node u v sum given arcs way = record {
+  extends = extends_none node (given ++ arcs);
+  leads = leads_kept given (given ++ arcs) (number_of node.problem u) (number_of node.problem v) sum (λ arc there. Contains-append_left given arcs arc there) way;
+}
+
+-- the arc from one forced operation to another is added
+pub joins_push : (node : Node) (t p q first sum : ℕ) (given arcs new : List Arc) → first ≡ number_of node.problem (op_of_train t 0) → IsForced node (op_of_train t p) → IsForced node (op_of_train t q)
+    → IsTrainArc node (op_of_train t p) (op_of_train t q) sum → new ≡ arcs ++ record { from = first + p; to = first + q; length = sum } ∷ [] → Joins node (op_of_train t p) (op_of_train t q) sum (given ++ arcs) (given ++ new)
+joins_push node t p q first sum given arcs new first_is one other step new_is = record {
+  extends = subst (Extends node (given ++ arcs)) (sym behind) (extends_push node (given ++ arcs) added is_arc);
+  leads = subst (λ (n : ℕ). LeadsOver (given ++ new) n (number_of node.problem (op_of_train t q)) sum) from_is (subst (λ (n : ℕ). LeadsOver (given ++ new) (first + p) n sum) to_is listed);
 }
   where
     added : Arc
     added = chain_arc first p q sum
 
-    at_p : StandsFrom node t order (place + 1) p
-    at_p = chained.last_stands
+    behind : given ++ new ≡ (given ++ arcs) ++ added ∷ []
+    behind = ap (λ (l : List Arc). given ++ l) new_is ∙ sym (append_assoc given arcs (added ∷ []))
 
     from_is : first + p ≡ number_of node.problem (op_of_train t p)
     from_is = omega (arith, first_is)
@@ -202,18 +216,29 @@ chained_on node t order place p q first sum base arcs new is first_is here force
     to_is = omega (arith, first_is)
 
     is_arc : IsArcOf node added
-    is_arc = record { u = op_of_train t p; v = op_of_train t q; arc_length = sum; joins = record { from_forced = at_p.forced; to_forced = forced; kind = inl step }; from_is = from_is; to_is = to_is; no_longer = omega arith }
+    is_arc = record { u = op_of_train t p; v = op_of_train t q; arc_length = sum; joins = record { from_forced = one; to_forced = other; kind = inl step }; from_is = from_is; to_is = to_is; no_longer = omega arith }
 
-    extends : Extends node arcs new
-    extends = subst (Extends node arcs) (sym new_is) (extends_push node arcs added is_arc)
+    listed : LeadsOver (given ++ new) (first + p) (first + q) sum
+    listed = leads_by (given ++ new) added sum (subst (λ (l : List Arc). Contains l added) (sym behind) (pushed_there (given ++ arcs) added)) (omega arith)
+
+-- a forced operation behind a forced one
+pub chained_on : (node : Node) (t : ℕ) (order : List ℕ) (place p q sum : ℕ) (base arcs new : List Arc) → IsOrder (train_at node.problem t) order → slice_get order place ≡ Some q → IsForced node (op_of_train t q)
+    → IsTrainArc node (op_of_train t p) (op_of_train t q) sum → Joins node (op_of_train t p) (op_of_train t q) sum arcs new → IsChained node t order (place + 1) base arcs (Some p) → IsChained node t order place base new (Some q)
+chained_on node t order place p q sum base arcs new is here forced step joins chained = record {
+  extends = extends_then node base arcs new chained.extends joins.extends;
+  last_stands = record { at = place; from = omega arith; here = here; forced = forced };
+  to_last = to_q;
+  between = between;
+}
+  where
+    at_p : StandsFrom node t order (place + 1) p
+    at_p = chained.last_stands
 
     by_step : LeadsAlong node new (op_of_train t p) (op_of_train t q) sum
-    by_step =
-        let listed = leads_by new added sum (subst (λ (l : List Arc). Contains l added) (sym new_is) (pushed_there arcs added)) (omega arith) in
-        subst (λ (n : ℕ). LeadsOver new n (number_of node.problem (op_of_train t q)) sum) from_is (subst (λ (n : ℕ). LeadsOver new (first + p) n sum) to_is listed)
+    by_step = joins.leads
 
     kept : (o s least : ℕ) → LeadsAlong node arcs (op_of_train t o) (op_of_train t s) least → LeadsAlong node new (op_of_train t o) (op_of_train t s) least
-    kept o s least way = leads_kept arcs new (number_of node.problem (op_of_train t o)) (number_of node.problem (op_of_train t s)) least extends.kept way
+    kept o s least way = leads_kept arcs new (number_of node.problem (op_of_train t o)) (number_of node.problem (op_of_train t s)) least joins.extends.kept way
 
     through : (o : ℕ) → StandsFrom node t order (place + 1) o → (total : ℕ) × IsTrainArc node (op_of_train t o) (op_of_train t q) total × LeadsAlong node new (op_of_train t o) (op_of_train t q) total
     through o stands = by_end (chained.to_last o stands)

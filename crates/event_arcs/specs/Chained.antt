@@ -1,5 +1,5 @@
 -- Arcs of the trains, added one after the other.
-use Rattle.std.specs.Prelude.{◌≡◌, ◌⊎◌, ℕ, ◌<◌, ◌≤◌, List, All, Contains, Option, Some, IfSome, length, slice_get}
+use Rattle.std.specs.Prelude.{◌≡◌, ◌⊎◌, ℕ, ◌<◌, ◌≤◌, List, All, Contains, Option, Some, None, IfSome, length, slice_get}
 use Rattle.disp_model.specs.declared.train.Op.{Op}
 use Rattle.disp_model.specs.Numbers.{number_of}
 use Rattle.disp_model.specs.Valid.{train_at}
@@ -21,6 +21,24 @@ pub record Extends (node : Node) (old new : List Arc) : Type 0 where
 abbrev pub LeadsAlong : Node → List Arc → Op → Op → ℕ → Type 0
 LeadsAlong node arcs u v arc_length = LeadsOver arcs (number_of node.problem u)
     (number_of node.problem v) arc_length
+
+-- the list leads from one operation to the other once it has grown
+pub record Joins (node : Node) (u v : Op) (sum : ℕ) (old new : List Arc) : Type 0 where
+  pub extends : Extends node old new
+  pub leads : LeadsAlong node new u v sum
+
+-- the list leads as the arcs of a train do at a node with these routes
+pub record LeadsByRoutes (node : Node) (t : ℕ) (routes : Routes) (given : List Arc) : Type 0 where
+  pub before : Node
+  pub are_routes : AreRoutesOf before t routes
+  pub leads : (o q sum : ℕ) → IsForced before (op_of_train t o) → IsForced before (op_of_train t q)
+      → IsTrainArc before (op_of_train t o) (op_of_train t q) sum
+      → LeadsAlong node given (op_of_train t o) (op_of_train t q) sum
+
+-- the list leads so by the routes, where there are any
+abbrev pub IsGivenBy : Node → ℕ → Option Routes → List Arc → Type 0
+IsGivenBy node t None given = Unit {0}
+IsGivenBy node t (Some routes) given = LeadsByRoutes node t routes given
 
 -- a train's routes, an order of its operations, and its first number
 pub record IsOrderGiven (node : Node) (t : ℕ) (routes : Routes) (order : List ℕ) (first : ℕ)

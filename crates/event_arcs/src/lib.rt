@@ -12,7 +12,7 @@ mod orders;
 mod owns;
 mod placed;
 
-pub use chains::add_chain;
+pub use chains::{add_chain, add_chain_anew};
 pub use laws::{
     a_list_stands_by_its_parts, an_operation_goes_between, an_order_extends, cycles_are_shared,
     decisions_tighten, longest_are_shared, own_matters_suffice, spanning_lists_are_short,

@@ -1,9 +1,9 @@
 -- What a decision about the routes of a train adds.
-use Rattle.std.proofs.Common.{◌≡◌, ◌∙◌, ℕ, ◌<◌, List, [], ◌∷◌, length, Some, refl, sym, ap, subst, inl, inr}
-use Rattle.std.specs.Prelude.{nat_eq, Contains, ◌⊎◌}
+use Rattle.std.proofs.Common.{◌≡◌, ◌∙◌, ℕ, ◌<◌, List, [], ◌∷◌, ◌++◌, length, Some, refl, sym, ap, subst, inl, inr}
+use Rattle.std.specs.Prelude.{nat_eq, All, Contains, ◌⊎◌}
 use Rattle.std.proofs.lemmas.Bool.{cases_Bool, eqb-true, eqb-false}
 use Rattle.std.proofs.lemmas.Option.{same_Some}
-use Rattle.std.proofs.lemmas.List.Elements.{All-nil, All-weaker, Contains-append_left}
+use Rattle.std.proofs.lemmas.List.Elements.{All-nil, All-append, All-contains, All-contains_itself, All-weaker, Contains-append_left, Contains-append_right, Contains-append_cases}
 use Rattle.disp_model.specs.declared.train.Op.{Op}
 use Rattle.disp_model.specs.declared.decision.Decision.{Decision}
 use Rattle.disp_model.specs.declared.decision.Decision.TheVariants.{First}
@@ -51,18 +51,30 @@ same_or_added node d t pairs old new o about adds forced = elim (cases_Bool (nat
           | inr leads ↦ inr (subst (λ (p : Op). LeadsTouching (with_decision node d) (number_of node.problem p) pairs new) is leads)
         ]
 
-pub adds_train : (node : Node) (d : Decision) (t : ℕ) (pairs : List Pair) (chain new : List Arc) → train_of_decision d ≡ Some t → AreOrdersOf node pairs → AddsChain (with_decision node d) t [] chain
-    → AddsChanged node (with_decision node d) t (length (train_at node.problem t)) pairs chain new → AddsTrain node d t new
-adds_train node d t pairs chain new about orders chained adds = record {
+pub adds_train : (node : Node) (d : Decision) (t : ℕ) (pairs : List Pair) (old chain new : List Arc) → train_of_decision d ≡ Some t → AreOrdersOf node pairs → All (IsArcOf (with_decision node d)) old → AddsChain (with_decision node d) t (old ++ []) (old ++ chain)
+    → AddsChanged node (with_decision node d) t (length (train_at node.problem t)) pairs chain new → AddsTrain node d t old new
+adds_train node d t pairs old chain new about orders stay chained adds = record {
   about = about;
-  sound = adds.sound (All-weaker (IsDecidedAt node) (IsDecidedAt next) (λ pair decided. Contains-append_left node.decisions (d ∷ []) (First pair.first pair.second) decided) pairs orders.decided) (chained.extends.sound (All-nil (IsArcOf next)));
-  chained = λ u v sum own from to arc. leads_kept chain new (number_of node.problem u) (number_of node.problem v) sum adds.kept (chained.leads u v sum own from to arc);
+  sound = adds.sound (All-weaker (IsDecidedAt node) (IsDecidedAt next) (λ pair decided. Contains-append_left node.decisions (d ∷ []) (First pair.first pair.second) decided) pairs orders.decided) chain_sound;
+  chained = λ u v sum own from to arc. leads_kept (old ++ chain) (old ++ new) (number_of node.problem u) (number_of node.problem v) sum kept (chained.leads u v sum own from to arc);
   ordered = λ a b decided one other conflicts.
       ordered a b decided one other conflicts (same_or_added node d t pairs chain new a about adds one) (same_or_added node d t pairs chain new b about adds other);
 }
   where
     next : Node
     next = with_decision node d
+
+    all_sound : All (IsArcOf next) (old ++ chain)
+    all_sound = chained.extends.sound (All-append (IsArcOf next) old [] stay (All-nil (IsArcOf next)))
+
+    chain_sound : All (IsArcOf next) chain
+    chain_sound = All-weaker (Contains chain) (IsArcOf next) (λ arc there. All-contains (IsArcOf next) (old ++ chain) arc all_sound (Contains-append_right old chain arc there)) chain (All-contains_itself chain)
+
+    kept : (arc : Arc) → Contains (old ++ chain) arc → Contains (old ++ new) arc
+    kept arc there = elim (Contains-append_cases old chain arc there) [
+      | inl before ↦ Contains-append_left old new arc before
+      | inr added ↦ Contains-append_right old new arc (adds.kept arc added)
+    ]
 
     ordered : (a b : Op) → Contains node.decisions (First a b) → IsForced next a → IsForced next b → Conflicts node.problem a b
         → IsSame node d a ⊎ LeadsTouching next (number_of node.problem a) pairs new → IsSame node d b ⊎ LeadsTouching next (number_of node.problem b) pairs new → IsOldOrNew node d new a b

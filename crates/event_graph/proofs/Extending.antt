@@ -50,7 +50,7 @@ with_order node a b old new have are adds =
 
 -- ---- a decision about the routes of a train
 
-pub with_train : (node : Node) (d : Decision) (t : ℕ) (old new : List Arc) → HaveRoutes (with_decision node d) → AreArcsOf node old → AddsTrain node d t new → AreArcsOf (with_decision node d) (old ++ new)
+pub with_train : (node : Node) (d : Decision) (t : ℕ) (old new : List Arc) → HaveRoutes (with_decision node d) → AreArcsOf node old → AddsTrain node d t old new → AreArcsOf (with_decision node d) (old ++ new)
 with_train node d t old new have are adds = record {
   sound = All-append (IsArcOf next) old new (still_sound node d old have are.sound) adds.sound;
   complete = λ u v n arc. by u v n arc.from_forced arc.to_forced arc.kind;
@@ -70,7 +70,7 @@ with_train node d t old new have are adds = record {
 
     chained : (u v : Op) (n : ℕ) → IsForced next u → IsForced next v → IsTrainArc next u v n → LeadsAlong node (old ++ new) u v n
     chained u v n from to train = elim (cases_Bool (nat_eq u.train t)) [
-      | inl e ↦ leads_right node old new u v n (adds.chained u v n (eqb-true u.train t e) from to train)
+      | inl e ↦ adds.chained u v n (eqb-true u.train t e) from to train
       | inr e ↦
           let apart : IsApart d u.train = λ about. eqb-false u.train t e (same_Some u.train t (sym about ∙ adds.about)) in
           let other : IsApart d v.train = subst (IsApart d) train.same_train apart in

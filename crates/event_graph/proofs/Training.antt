@@ -38,7 +38,7 @@ use Rattle.event_arcs.proofs.Owning.{other_decision}
 use Rattle.event_graph.proofs.Deciding.{placed_after, HasAdded}
 use Rattle.event_graph.proofs.Extending.{with_train}
 
-pub train_joins : (node : Node) (d : Decision) (ops : List Op) (each : List Placed) (orders : Ordered) (paths : Timed) (before : Placed) (t : ℕ) (arcs : List Arc) → MayAddTrain node d ops each orders paths before t → AddsTrain node d t arcs
+pub train_joins : (node : Node) (d : Decision) (ops : List Op) (each : List Placed) (orders : Ordered) (paths : Timed) (before : Placed) (t : ℕ) (arcs : List Arc) → MayAddTrain node d ops each orders paths before t → AddsTrain node d t paths.arcs arcs
     → MayJoin (with_decision node d) ops paths arcs
 train_joins node d ops each orders paths before t arcs may adds = record {
   ops_are = may.ops_are;
@@ -247,7 +247,7 @@ elsewhere_decides node d t state is about past = record {
     have : HaveRoutes next
     have u there = route_after node d u (apart u there) (all_have_routes node state.each is.placed u there)
 
-    adds : AddsTrain node d t []
+    adds : AddsTrain node d t state.arcs []
     adds = record {
       about = about;
       sound = All-nil (IsArcOf next);

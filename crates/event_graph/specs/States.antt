@@ -1,5 +1,5 @@
 -- What is kept of a node, and what a decision adds to it.
-use Rattle.std.specs.Prelude.{◌≡◌, ℕ, ◌-◌, ◌<◌, ◌≤◌, List, All, Contains, Some, length, take, slice_set, ◌⊎◌}
+use Rattle.std.specs.Prelude.{◌≡◌, ℕ, ◌-◌, ◌<◌, ◌≤◌, List, ◌++◌, All, Contains, Some, length, take, slice_set, ◌⊎◌}
 use Rattle.disp_model.specs.declared.train.Op.{Op}
 use Rattle.disp_model.specs.declared.problem.Problem.{Problem}
 use Rattle.disp_model.specs.declared.decision.Decision.{Decision}
@@ -48,13 +48,14 @@ IsOldOrNew node d new a b =
     (IsForced node a × IsForced node b × ((n : Op) → GoesTo (with_decision node d) a n
     → GoesTo node a n)) ⊎ LeadsAsOrdered (with_decision node d) new a b
 
--- the arcs of the train, and those of orders that have changed
-pub record AddsTrain (node : Node) (d : Decision) (t : ℕ) (new : List Arc) : Type 0 where
+-- behind a list that stands for the node before, the arcs of the train, and those of orders that
+-- have changed
+pub record AddsTrain (node : Node) (d : Decision) (t : ℕ) (old new : List Arc) : Type 0 where
   pub about : train_of_decision d ≡ Some t
   pub sound : All (IsArcOf (with_decision node d)) new
   pub chained : (u v : Op) (sum : ℕ) → u.train ≡ t → IsForced (with_decision node d) u
       → IsForced (with_decision node d) v → IsTrainArc (with_decision node d) u v sum
-      → LeadsAlong node new u v sum
+      → LeadsAlong node (old ++ new) u v sum
   pub ordered : (a b : Op) → Contains node.decisions (First a b) → IsForced (with_decision node d) a
       → IsForced (with_decision node d) b → Conflicts node.problem a b → IsOldOrNew node d new a b
 

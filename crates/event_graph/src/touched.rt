@@ -6,6 +6,7 @@ ghost use Rattle.disp_model.specs.Valid.{train_at};
 ghost use Rattle.disp_model.specs.WellFormed.{operation_count};
 ghost use Rattle.disp_model.specs.Node.{Node, node_at, with_decision};
 ghost use Rattle.route_sets.specs.Sets.{op_of_train, AreRoutesOf};
+ghost use Rattle.event_arcs.specs.Listed.{AreArcsOf};
 ghost use Rattle.event_arcs.specs.Placed.{IsPlaced, ArePlaced};
 ghost use Rattle.event_arcs.specs.Owned.{train_of_decision};
 ghost use Rattle.event_graph.specs.Touched.{StaysAs, AddsChanged};
@@ -13,7 +14,7 @@ ghost use Rattle.event_graph.specs.States.{AreOrdersOf, AddsTrain};
 
 use crate::orders::Orders;
 use disp_model::{Memory, Problem};
-use event_arcs::{Placed, add_chain};
+use event_arcs::{Placed, add_chain_anew};
 use incremental_paths::Arc;
 use route_sets::Routes;
 use std::alloc::Global;
@@ -83,7 +84,7 @@ fn add_changed(
 }
 
 /// The arcs that a decision about a train's routes adds, with what was kept of them before: those
-/// of the train, and those of orders that are touched.
+/// of the train that its routes before had not, and those of orders that are touched.
 pub(crate) fn arcs_of_train(
     alloc: Global,
     problem: &Problem,
@@ -97,15 +98,16 @@ pub(crate) fn arcs_of_train(
         × ArePlaced (node_at problem.now fixings decisions) each.now }
     requires size { orders.now.size ≡ operation_count problem.now.trains }
     ensures { (fixings : List Fixing) (decisions : List Decision) (decision : Decision)
-        → train_of_decision decision ≡ Some train
+        (given : List Arc) → train_of_decision decision ≡ Some train
         → IsPlaced (node_at problem.now fixings decisions) train old.now
         → ArePlaced (with_decision (node_at problem.now fixings decisions) decision) each.now
         → AreOrdersOf (node_at problem.now fixings decisions) orders.now.pairs
+        → AreArcsOf (node_at problem.now fixings decisions) given
         → IfOk result (λ arcs.
-        AddsTrain (node_at problem.now fixings decisions) decision train arcs.items) }
+        AddsTrain (node_at problem.now fixings decisions) decision train given arcs.items) }
 {
     let mut arcs = Vec::new(alloc);
-    add_chain(&mut arcs, problem, train, &each[train])?;
+    add_chain_anew(&mut arcs, problem, train, old, &each[train])?;
     add_changed(&mut arcs, problem, each, orders, old, train)?;
     Ok(arcs)
 }

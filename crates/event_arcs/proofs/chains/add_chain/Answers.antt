@@ -1,4 +1,4 @@
-use Rattle.std.proofs.Common.{List, ℕ, sym, subst, arith}
+use Rattle.std.proofs.Common.{List, [], ℕ, sym, subst, arith}
 use Rattle.disp_model.specs.Node.{node_at}
 use Rattle.disp_model.specs.Valid.{train_at}
 use Rattle.train_orders.specs.Orders.{IsOrder}
@@ -21,4 +21,4 @@ returns c = λ fixings decisions is.
     let problem = c.args.problem.now in
     let t = c.args.train in
     let order = subst (λ (l : List ℕ). IsOrder (train_at problem t) l) (sym c.order-order.ensures) (kept_order (node_at problem fixings decisions) t c.args.placed.now is) in
-    c.chain.ensures _ t (record { there = c.requires.there; are_routes = is.are_routes; is_order = order; first_is = is.first_is })
+    c.chain.ensures _ t [] tt (record { there = c.requires.there; are_routes = is.are_routes; is_order = order; first_is = is.first_is })

@@ -1,4 +1,4 @@
-use Rattle.std.proofs.Common.{◌≡◌, ◌+◌, ◌-◌, ℕ, subst, arith}
+use Rattle.std.proofs.Common.{◌≡◌, ◌+◌, ◌-◌, ◌++◌, ℕ, subst, arith}
 use Rattle.std.proofs.lemmas.Option.{slice_get-get_or}
 use Rattle.event_arcs.specs.Chained.{IsChained}
 use Rattle.event_arcs.proofs.Joining.{chain_done}
@@ -12,11 +12,11 @@ loop-place-preserved c =
     record {
       within = omega (arith, c.loop-place.invariant.within);
       fits = c.in_ok-last.ensures.fits;
-      chained = λ node t given.
-          c.in_ok-last.ensures.chained node t order place c.args.arcs.now.items given (slice_get-get_or order place 0 (omega (arith, c.loop-place.invariant.within, c.loop-place-test.true)))
-          (subst (λ (n : ℕ). IsChained node t order n c.args.arcs.now.items c.loop-place.arcs.items c.loop-place.last) above (c.loop-place.invariant.chained node t given));
+      chained = λ node t given by_old is.
+          c.in_ok-last.ensures.chained node t order place given (given ++ c.args.arcs.now.items) by_old is (slice_get-get_or order place 0 (omega (arith, c.loop-place.invariant.within, c.loop-place-test.true)))
+          (subst (λ (n : ℕ). IsChained node t order n (given ++ c.args.arcs.now.items) (given ++ c.loop-place.arcs.items) c.loop-place.last) above (c.loop-place.invariant.chained node t given by_old is));
     }
 
 pub returns : goal.returns
-returns c = λ node t given.
-    chain_done node t c.args.routes.now c.args.order.now c.args.first c.loop-place.place c.args.arcs.now.items c.loop-place.arcs.items c.loop-place.last given c.loop-place-test.false (c.loop-place.invariant.chained node t given)
+returns c = λ node t given by_old is.
+    chain_done node t c.args.routes.now c.args.order.now c.args.first c.loop-place.place (given ++ c.args.arcs.now.items) (given ++ c.loop-place.arcs.items) c.loop-place.last is c.loop-place-test.false (c.loop-place.invariant.chained node t given by_old is)
