@@ -189,6 +189,13 @@ impl Adviser {
         self.look_at_holders()
     }
 
+    /// The operation that goes first in the cheaper one of the two orders that were named last, where
+    /// it was looked at what both push.
+    pub fn cheaper_first(&self) -> Option<Op> {
+        let number = self.found.cheaper?;
+        Some(self.facts.op(number))
+    }
+
     /// The choice to take at the node of a graph, where the adviser knows one.
     ///
     /// # Errors
@@ -203,6 +210,7 @@ impl Adviser {
         requires { graph.now.problem ≡ problem.now }
     {
         self.look(problem, graph)?;
+        self.found.cheaper = None;
         let view = View {
             problem,
             graph,

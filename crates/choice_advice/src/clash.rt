@@ -14,6 +14,9 @@ pub(crate) struct Clash {
     /// What its orders cost, as `weight` adds it up; never where one of them closes a cycle.
     pub weight: u64,
     pub meeting: Meeting,
+    /// The operation that goes first in the order that costs less with all that it pushes, where
+    /// that is known; that of the lower number where both cost the same.
+    pub cheaper: Option<u32>,
 }
 
 /// What two orders weigh that cost so much.

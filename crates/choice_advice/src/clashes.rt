@@ -27,6 +27,18 @@ fn is_asked(view: View, seeker: &mut Seeker, one: u32, other: u32) -> bool {
     view.leads(seeker, behind, other)
 }
 
+/// The operation that goes first in the cheaper order of two that meet, by what it costs to have the
+/// one go first, and the other.
+fn cheaper_of(meeting: &Meeting, there: u64, back: u64) -> u32 {
+    if there == back {
+        meeting.first()
+    } else if there < back {
+        meeting.one
+    } else {
+        meeting.other
+    }
+}
+
 /// Looks for the clash that comes first: room for one look after another.
 #[derive(Drop)]
 pub(crate) struct Clashes {
@@ -116,6 +128,7 @@ impl Clashes {
         self.keep(Clash {
             weight: NEVER,
             meeting,
+            cheaper: None,
         })
     }
 
@@ -128,6 +141,7 @@ impl Clashes {
             Some(weight) => self.keep(Clash {
                 weight,
                 meeting: met.meeting,
+                cheaper: None,
             }),
             None => Ok(()),
         }
@@ -155,14 +169,18 @@ impl Clashes {
         Ok(())
     }
 
-    /// What the orders of two that meet weigh with all that they push.
-    fn pushed_weight(&mut self, view: View, meeting: &Meeting) -> u64 {
+    /// The clash of two that meet, as their orders weigh with all that they push.
+    fn pushed(&mut self, view: View, meeting: Meeting) -> Clash {
         let (one, other) = (meeting.one, meeting.other);
         let behind = view.spots.at(one).behind;
         let there = self.pusher.toll(view, other, meeting.one_until, behind);
         let behind = view.spots.at(other).behind;
         let back = self.pusher.toll(view, one, meeting.other_until, behind);
-        weight(there, back)
+        Clash {
+            weight: weight(there, back),
+            meeting,
+            cheaper: Some(cheaper_of(&meeting, there, back)),
+        }
     }
 
     /// The one of those that are kept that comes first by all that its orders push.
@@ -172,8 +190,8 @@ impl Clashes {
             let Some(clash) = self.first.pop() else {
                 return found;
             };
-            let weight = self.pushed_weight(view, &clash.meeting);
-            found = first_of(found, Clash { weight, ..clash });
+            let clash = self.pushed(view, clash.meeting);
+            found = first_of(found, clash);
         }
         found
     }

@@ -24,6 +24,9 @@ pub(crate) struct Found {
     crossings: Crossings,
     ways: Ways,
     seeker: Seeker,
+    /// Of the clash that came first, the operation that goes first in the cheaper order, where that
+    /// is known.
+    pub cheaper: Option<u32>,
 }
 
 impl Found {
@@ -41,6 +44,7 @@ impl Found {
             crossings: Crossings::new(alloc, count, trains)?,
             ways: Ways::new(alloc, count)?,
             seeker: Seeker::new(alloc, count)?,
+            cheaper: None,
         })
     }
 
@@ -79,7 +83,9 @@ impl Found {
     /// The clash that comes first.
     fn first_clash(&mut self, view: View, by: By, touching: bool) -> Result<Option<Clash>, Memory> {
         let (seeker, meetings) = (&mut self.seeker, &mut self.meetings);
-        self.clashes.find(view, seeker, meetings, by, touching)
+        let clash = self.clashes.find(view, seeker, meetings, by, touching)?;
+        self.cheaper = clash.and_then(|clash| clash.cheaper);
+        Ok(clash)
     }
 
     /// The fork that comes first.

@@ -6,7 +6,7 @@ ghost use Rattle.near_plans.specs.Plans.{IsBeside, IsFoundBeside};
 
 use branch_rules::{Pick, children};
 use cost_bound::cost;
-use disp_model::{Choice, Decision, Memory, Plan, Problem};
+use disp_model::{Choice, Decision, Memory, Op, Plan, Problem};
 use event_graph::{ExtendNo, Graph};
 use free_choices::{Adviser, Strategy, pick_free};
 use std::alloc::Global;
@@ -140,13 +140,14 @@ fn put_children(
     aim: Aim,
     graph: &mut Graph,
     choice: Choice,
+    cheaper: Option<Op>,
     waiting: &mut Vec<Waiting>,
 ) -> Result<(), Memory>
     requires { graph.old.problem ≡ aim.problem.now }
     ensures { graph.new ≡ graph.old }
 {
     let children = children(alloc, aim.problem, choice)?;
-    let first = preferred(aim.problem, graph, aim.target, children.as_slice());
+    let first = preferred(aim.problem, graph, aim.target, cheaper, children.as_slice());
     put_all(waiting, graph.decisions().len(), children.as_slice(), first)
 }
 
@@ -187,7 +188,8 @@ impl Outlook {
                 Ok(())
             }
             Some(Pick::Choice(choice)) => {
-                put_children(alloc, aim, graph, choice, &mut self.waiting)
+                let cheaper = adviser.cheaper_first();
+                put_children(alloc, aim, graph, choice, cheaper, &mut self.waiting)
             }
         }
     }

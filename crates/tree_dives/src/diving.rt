@@ -93,7 +93,7 @@ fn dive_down(
                     known,
                     &mut halves,
                     choice,
-                    &guide.target,
+                    guide,
                 )? {
                     return whole(halves, End::Closed);
                 }

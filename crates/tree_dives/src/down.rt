@@ -9,6 +9,7 @@ ghost use Rattle.tree_dives.specs.Downs.{sides_of, GoesDown};
 ghost use Rattle.share_bound.specs.Known.{HoldFor};
 
 use crate::grown::{Grown, append, append_back, push_branch, push_leaf};
+use crate::guide::Guide;
 use crate::leaves::leaves_of;
 use crate::prefer::preferred;
 use branch_rules::children;
@@ -17,7 +18,6 @@ use event_graph::{ExtendNo, Graph};
 use node_leaves::{Reckoning, child_leaf};
 use share_bound::KnownShares;
 use std::alloc::Global;
-use train_insertion::Target;
 
 /// A subtree of which one place is still to be filled: its nodes before that place, and those
 /// behind it, the last one first.
@@ -60,7 +60,7 @@ pub(crate) fn go_down(
     known: &mut KnownShares,
     halves: &mut Halves,
     choice: Choice,
-    target: &Target,
+    guide: &Guide,
 ) -> Result<bool, Memory>
     requires node { graph.old.problem ≡ problem.now }
     requires reckons { ReckonsFor problem.now reckoning.now }
@@ -75,7 +75,8 @@ pub(crate) fn go_down(
 {
     let children = children(alloc, problem, choice)?;
     push_branch(&mut halves.before, choice, children.len() as u32)?;
-    let place = preferred(problem, graph, target, children.as_slice());
+    let cheaper = guide.adviser.cheaper_first();
+    let place = preferred(problem, graph, &guide.target, cheaper, children.as_slice());
     let (first, rest) = children.as_slice().split_at(place);
     let left = leaves_of(alloc, problem, reckoning, graph, known, first)?;
     append(&mut halves.before, left)?;

@@ -1,7 +1,7 @@
 ghost use Rattle.std.specs.Prelude.{◌≡◌, ◌<◌, ◌≤◌, length, IfSome};
 
 use cost_bound::cost;
-use disp_model::{Decision, Problem};
+use disp_model::{Decision, Op, Problem};
 use event_graph::Graph;
 use train_insertion::Target;
 
@@ -35,12 +35,33 @@ fn is_aimed_at(target: &Target, decision: Decision) -> bool {
     }
 }
 
+/// Whether an operation goes first in an order.
+fn puts_first(decision: Decision, op: Op) -> bool {
+    match decision {
+        Decision::First { a, .. } => a == op,
+        _ => false,
+    }
+}
+
 /// The place of the first child that a target takes.
 fn aimed(target: &Target, children: &[Decision]) -> Option<usize>
     ensures { IfSome result (λ place. place < length children.now) }
 {
     for (place, decision) in children.iter().enumerate() {
         if is_aimed_at(target, *decision) {
+            return Some(place);
+        }
+    }
+    None
+}
+
+/// The place of the child in which an operation goes first.
+fn first_with(op: Option<Op>, children: &[Decision]) -> Option<usize>
+    ensures { IfSome result (λ place. place < length children.now) }
+{
+    let op = op?;
+    for (place, decision) in children.iter().enumerate() {
+        if puts_first(*decision, op) {
             return Some(place);
         }
     }
@@ -68,12 +89,14 @@ fn cheapest(problem: &Problem, graph: &mut Graph, children: &[Decision]) -> usiz
     found
 }
 
-/// The place of the child that a target takes. Where it takes none, that of the child that costs
-/// least among those that are not dead, the first one of several, or 0. The graph is as before.
+/// The place of the child that a target takes. Where it takes none, that in which the operation goes
+/// first that an adviser named; where that is in none, that of the child that costs least among
+/// those that are not dead, the first one of several, or 0. The graph is as before.
 pub fn preferred(
     problem: &Problem,
     graph: &mut Graph,
     target: &Target,
+    cheaper: Option<Op>,
     children: &[Decision],
 ) -> usize
     requires { graph.old.problem ≡ problem.now }
@@ -81,8 +104,11 @@ pub fn preferred(
     ensures within { result ≤ length children.now }
     ensures there { 0 < length children.now → result < length children.now }
 {
-    match aimed(target, children) {
-        Some(place) => place,
-        None => cheapest(problem, graph, children),
+    if let Some(place) = aimed(target, children) {
+        return place;
     }
+    if let Some(place) = first_with(cheaper, children) {
+        return place;
+    }
+    cheapest(problem, graph, children)
 }
