@@ -18,7 +18,7 @@ use Rattle.disp_model.specs.Arcs.{listings_of}
 use Rattle.disp_model.specs.Valid.{train_at}
 use Rattle.disp_model.specs.Earliest.{op_of}
 use Rattle.branch_rules.specs.declared.behind.Behind.{Behind}
-use Rattle.branch_rules.specs.Behind.{AreOf, Lists, AreFalling, ArePlacesOf, IsBehind, IsPlaced, ArePlaced}
+use Rattle.branch_rules.specs.Behind.{AreOf, Lists, AreFalling, ArePlacesOf, IsKnownBehind, IsPutBehind, ArePutBehind}
 use Rattle.branch_rules.proofs.Ending.{next_later, next_here, next_none}
 
 no_event : Event
@@ -78,8 +78,8 @@ of_before listings l r other (k, there, same) = elim (Contains-append_cases list
   | inr last ↦ absurd (other (sym same ∙ ap (λ (x : Listing). x.resource) (alone_there k l last)))
 ]
 
-pub put_behind : (place : ℕ) (listings : List Listing) (l : Listing) (before lists : List (Vec ℕ)) (own new : Vec ℕ) → l.resource < length lists → own ≡ get_or lists l.resource own → new.items ≡ own.items ++ place ∷ [] → ArePlaced place listings before lists
-    → ArePlaced place (listings ++ l ∷ []) before (set lists l.resource new)
+pub put_behind : (place : ℕ) (listings : List Listing) (l : Listing) (before lists : List (Vec ℕ)) (own new : Vec ℕ) → l.resource < length lists → own ≡ get_or lists l.resource own → new.items ≡ own.items ++ place ∷ [] → ArePutBehind place listings before lists
+    → ArePutBehind place (listings ++ l ∷ []) before (set lists l.resource new)
 put_behind place listings l before lists own new lt own_is new_is are = record {
   count = length-set lists l.resource new ∙ are.count;
   each = λ r places e. by r places (set_parts lists l.resource new r places lt e);
@@ -88,7 +88,7 @@ put_behind place listings l before lists own new lt own_is new_is are = record {
     stood : slice_get lists l.resource ≡ Some own
     stood = slice_get_read lists (length lists) l.resource own refl lt own_is
 
-    here : (old : Vec ℕ) → IsPlaced place (AreOf listings l.resource) old.items own.items → IsPlaced place (AreOfNow listings l l.resource) old.items new.items
+    here : (old : Vec ℕ) → IsPutBehind place (AreOf listings l.resource) old.items own.items → IsPutBehind place (AreOfNow listings l l.resource) old.items new.items
     here old is = record {
       kept = λ j h. in_new j (inl (is.kept j h));
       there = λ of. in_new place (inr refl);
@@ -106,10 +106,10 @@ put_behind place listings l before lists own new lt own_is new_is are = record {
         in_parts : (j : ℕ) → Contains new.items j → Contains own.items j ⊎ (j ≡ place)
         in_parts j h = elim (Contains-append_cases own.items (place ∷ []) j (subst (λ (xs : List ℕ). Contains xs j) new_is h)) [ inl has ↦ inl has | inr last ↦ inr (alone_there j place last) ]
 
-    by : (r : ℕ) (places : Vec ℕ) → ((r ≡ l.resource) × (places ≡ new)) ⊎ ((r ≢ l.resource) × (slice_get lists r ≡ Some places)) → (old : Vec ℕ) × (slice_get before r ≡ Some old) × IsPlaced place (AreOfNow listings l r) old.items places.items
+    by : (r : ℕ) (places : Vec ℕ) → ((r ≡ l.resource) × (places ≡ new)) ⊎ ((r ≢ l.resource) × (slice_get lists r ≡ Some places)) → (old : Vec ℕ) × (slice_get before r ≡ Some old) × IsPutBehind place (AreOfNow listings l r) old.items places.items
     by r places (inl (same, is)) =
         let was = are.each l.resource own stood in
-        (was.0, subst (λ (n : ℕ). slice_get before n ≡ Some was.0) (sym same) was.1, subst (λ (n : ℕ). IsPlaced place (AreOfNow listings l n) was.0.items places.items) (sym same) (subst (λ (v : Vec ℕ). IsPlaced place (AreOfNow listings l l.resource) was.0.items v.items) (sym is) (here was.0 was.2)))
+        (was.0, subst (λ (n : ℕ). slice_get before n ≡ Some was.0) (sym same) was.1, subst (λ (n : ℕ). IsPutBehind place (AreOfNow listings l n) was.0.items places.items) (sym same) (subst (λ (v : Vec ℕ). IsPutBehind place (AreOfNow listings l l.resource) was.0.items v.items) (sym is) (here was.0 was.2)))
     by r places (inr (other, e)) =
         let was = are.each r places e in
         let is = was.2 in (
@@ -123,7 +123,7 @@ put_behind place listings l before lists own new lt own_is new_is are = record {
           },
         )
 
-pub placed_none : (place : ℕ) (lists : List (Vec ℕ)) → ArePlaced place [] lists lists
+pub placed_none : (place : ℕ) (lists : List (Vec ℕ)) → ArePutBehind place [] lists lists
 placed_none place lists = record {
   count = refl;
   each = λ r places e. (
@@ -141,7 +141,7 @@ placed_none place lists = record {
 -- ---- behind the last event
 
 pub behind_none : (problem : Problem) (plan : List Event) (behind : Behind) → length behind.next.items ≡ length problem.trains → ((t : ℕ) → get_or behind.next.items t None ≡ None) → length behind.listed.items ≡ length problem.names
-    → ((r : ℕ) (places : Vec ℕ) → slice_get behind.listed.items r ≡ Some places → places.items ≡ []) → IsBehind problem plan (length plan) behind
+    → ((r : ℕ) (places : Vec ℕ) → slice_get behind.listed.items r ≡ Some places → places.items ≡ []) → IsKnownBehind problem plan (length plan) behind
 behind_none problem plan behind trains next resources listed = record {
   trains = trains;
   next = λ t lt. next t ∙ sym (next_none plan t (length plan) (omega arith));
@@ -159,8 +159,8 @@ behind_none problem plan behind trains next resources listed = record {
 
 -- ---- one event more
 
-pub behind_more : (problem : Problem) (plan : List Event) (i : ℕ) (e : Event) (old new : Behind) → slice_get plan i ≡ Some e → e.train < length problem.trains → new.next.items ≡ set old.next.items e.train (Some (i, e)) → ArePlaced i (listings_of problem (op_of e)) old.listed.items new.listed.items
-    → IsBehind problem plan (i + 1) old → IsBehind problem plan i new
+pub behind_more : (problem : Problem) (plan : List Event) (i : ℕ) (e : Event) (old new : Behind) → slice_get plan i ≡ Some e → e.train < length problem.trains → new.next.items ≡ set old.next.items e.train (Some (i, e)) → ArePutBehind i (listings_of problem (op_of e)) old.listed.items new.listed.items
+    → IsKnownBehind problem plan (i + 1) old → IsKnownBehind problem plan i new
 behind_more problem plan i e old new at train next_is placed was = record {
   trains = ap (λ (l : List (Option (ℕ × Event))). length l) next_is ∙ length-set old.next.items e.train (Some (i, e)) ∙ was.trains;
   next = λ t lt. ap (λ (l : List (Option (ℕ × Event))). get_or l t None) next_is ∙ next_at t lt (cases_eq t e.train);
@@ -182,7 +182,7 @@ behind_more problem plan i e old new at train next_is placed was = record {
     next_at t lt (inr other) =
         get_or-set_other old.next.items e.train t (Some (i, e)) None other ∙ was.next t lt ∙ sym (next_later plan t i no_event within (λ same. other (sym same ∙ ap (λ (x : Event). x.train) own)))
 
-    places_more : (r : ℕ) (before after : List ℕ) → IsPlaced i (AreOf (listings_of problem (op_of e)) r) before after → ArePlacesOf problem plan (i + 1) r before → ArePlacesOf problem plan i r after
+    places_more : (r : ℕ) (before after : List ℕ) → IsPutBehind i (AreOf (listings_of problem (op_of e)) r) before after → ArePlacesOf problem plan (i + 1) r before → ArePlacesOf problem plan i r after
     places_more r before after is are = record {
       each = λ j f le there lists. elim (cases_lt i j) [
         | inl lt ↦ is.kept j (are.each j f (omega (arith, lt)) there lists)
@@ -212,7 +212,7 @@ listings_within problem o train = by_found (slice_get (train_at problem o.train)
         let own : get_or (train_at problem o.train) o.op p ≡ p = same_Some _ p (sym (slice_get-get_or (train_at problem o.train) o.op p within) ∙ at) in
         subst (λ (q : Operation). All (λ l. l.resource < length problem.names) q.listings) own refers.listings k d lt
 
-pub places_are : (problem : Problem) (plan : List Event) (i r : ℕ) (behind : Behind) (own : Vec ℕ) (places : List ℕ) → r < length behind.listed.items → own ≡ get_or behind.listed.items r own → places ≡ own.items → IsBehind problem plan i behind → ArePlacesOf problem plan i r places
+pub places_are : (problem : Problem) (plan : List Event) (i r : ℕ) (behind : Behind) (own : Vec ℕ) (places : List ℕ) → r < length behind.listed.items → own ≡ get_or behind.listed.items r own → places ≡ own.items → IsKnownBehind problem plan i behind → ArePlacesOf problem plan i r places
 places_are problem plan i r behind own places lt own_is is known = subst (ArePlacesOf problem plan i r) (sym is) (known.listed r own (slice_get_read behind.listed.items (length behind.listed.items) r own refl lt own_is))
 
 pub places_within : (problem : Problem) (plan : List Event) (i r : ℕ) (places : List ℕ) → ArePlacesOf problem plan i r places → All (λ j. j < length plan) places

@@ -43,7 +43,7 @@ pub record ArePlacesOf (problem : Problem) (plan : List Event) (i r : ℕ) (plac
 
 -- of the events from a place on the first one of each train, and the places of those that list each
 -- resource
-pub record IsBehind (problem : Problem) (plan : List Event) (i : ℕ) (behind : Behind)
+pub record IsKnownBehind (problem : Problem) (plan : List Event) (i : ℕ) (behind : Behind)
     : Type 0 where
   pub trains : length behind.next.items ≡ length problem.trains
   pub next : (t : ℕ) → t < length problem.trains
@@ -55,19 +55,19 @@ pub record IsBehind (problem : Problem) (plan : List Event) (i : ℕ) (behind : 
 -- ---- a place more
 
 -- the place is put behind these where it is listed, and nothing else
-pub record IsPlaced (place : ℕ) (IsListed : Type 0) (before after : List ℕ) : Type 0 where
+pub record IsPutBehind (place : ℕ) (IsListed : Type 0) (before after : List ℕ) : Type 0 where
   pub kept : (j : ℕ) → Contains before j → Contains after j
   pub there : IsListed → Contains after place
   pub only : (j : ℕ) → Contains after j → Contains before j ⊎ ((j ≡ place) × IsListed)
   pub falling : ((j : ℕ) → Contains before j → place ≤ j) → AreFalling before → AreFalling after
 
 -- the place is put behind those of each resource of these listings
-pub record ArePlaced (place : ℕ) (listings : List Listing) (before after : List (Vec ℕ))
+pub record ArePutBehind (place : ℕ) (listings : List Listing) (before after : List (Vec ℕ))
     : Type 0 where
   pub count : length after ≡ length before
   pub each : (r : ℕ) (places : Vec ℕ) → slice_get after r ≡ Some places → (old : Vec ℕ)
       × (slice_get before r ≡ Some old)
-      × IsPlaced place (AreOf listings r) old.items places.items
+      × IsPutBehind place (AreOf listings r) old.items places.items
 
 -- ---- the first pair that clashes
 

@@ -4,7 +4,7 @@ ghost use Rattle.disp_model.specs.declared.train.Listing.{Listing};
 ghost use Rattle.disp_model.specs.declared.plan.Event.{Event};
 ghost use Rattle.disp_model.specs.Plan.{end_of};
 ghost use Rattle.branch_rules.specs.Pairs.{RiseAlong, ending_of};
-ghost use Rattle.branch_rules.specs.Behind.{AreFalling, ArePlaced, AreOfTrains, IsBehind, IsFirstFrom, IsTriedOn};
+ghost use Rattle.branch_rules.specs.Behind.{AreFalling, ArePutBehind, AreOfTrains, IsKnownBehind, IsFirstFrom, IsTriedOn};
 
 use crate::end::{End, duration_of, is_released, listings_of};
 use crate::pair::{Pair, earlier, pair_of};
@@ -57,8 +57,8 @@ fn put_event(next: &mut Vec<Option<(usize, Event)>>, place: usize, event: Event)
 fn put(listed: &mut Vec<Vec<usize>>, listing: Listing, place: usize) -> Result<(), Memory>
     requires { listing.resource < length listed.old.items }
     ensures { OnOk result ((listings : List Listing) (before : List (Vec ℕ))
-        → ArePlaced place listings before listed.old.items
-        → ArePlaced place (listings ++ listing ∷ []) before listed.new.items) }
+        → ArePutBehind place listings before listed.old.items
+        → ArePutBehind place (listings ++ listing ∷ []) before listed.new.items) }
 {
     listed[listing.resource as usize].push(place)?;
     Ok(())
@@ -67,7 +67,7 @@ fn put(listed: &mut Vec<Vec<usize>>, listing: Listing, place: usize) -> Result<(
 /// Puts a place behind those of the resources of all these listings.
 fn put_all(listed: &mut Vec<Vec<usize>>, listings: &[Listing], place: usize) -> Result<(), Memory>
     requires { All (λ l. l.resource < length listed.old.items) listings.now }
-    ensures { OnOk result (ArePlaced place listings.now listed.old.items listed.new.items) }
+    ensures { OnOk result (ArePutBehind place listings.now listed.old.items listed.new.items) }
 {
     for listing in listings {
         put(listed, *listing, place)?;
@@ -109,7 +109,7 @@ impl Behind {
     /// What is known behind the last event.
     pub(crate) fn none(alloc: Global, problem: &Problem) -> Result<Behind, Memory>
         ensures { IfOk result
-            (λ behind. (plan : List Event) → IsBehind problem.now plan (length plan) behind) }
+            (λ behind. (plan : List Event) → IsKnownBehind problem.now plan (length plan) behind) }
     {
         let next = no_events(alloc, problem.trains.len())?;
         let listed = no_places(alloc, problem.names.len())?;
@@ -120,7 +120,7 @@ impl Behind {
     /// after its duration.
     fn end_of(&self, problem: &Problem, place: usize, event: &Event) -> End
         requires { event.now.train < length self.now.next.items }
-        ensures { (plan : List Event) → IsBehind problem.now plan (place + 1) self.now
+        ensures { (plan : List Event) → IsKnownBehind problem.now plan (place + 1) self.now
             → ending_of result ≡ end_of problem.now.trains plan place event.now }
     {
         match self.next[event.train as usize] {
@@ -147,7 +147,7 @@ impl Behind {
         requires place { place < length events.now }
         requires rise { RiseAlong events.now }
         requires trains { AreOfTrains problem.now events.now }
-        requires behind { IsBehind problem.now events.now (place + 1) self.now }
+        requires behind { IsKnownBehind problem.now events.now (place + 1) self.now }
         requires known { IsFirstFrom problem.now events.now (place + 1) known }
         ensures { IsFirstFrom problem.now events.now place result }
     {
@@ -170,8 +170,8 @@ impl Behind {
     ) -> Result<(), Memory>
         requires place { place < length events.now }
         requires trains { AreOfTrains problem.now events.now }
-        requires behind { IsBehind problem.now events.now (place + 1) self.old }
-        ensures { OnOk result (IsBehind problem.now events.now place self.new) }
+        requires behind { IsKnownBehind problem.now events.now (place + 1) self.old }
+        ensures { OnOk result (IsKnownBehind problem.now events.now place self.new) }
     {
         let event = events[place];
         put_event(&mut self.next, place, event);

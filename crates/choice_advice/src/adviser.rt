@@ -189,8 +189,8 @@ impl Adviser {
         self.look_at_holders()
     }
 
-    /// The operation that goes first in the cheaper one of the two orders that were named last, where
-    /// it was looked at what both push.
+    /// The operation that goes first in the cheaper one of the two orders that were named last,
+    /// where it was looked at what both push.
     pub fn cheaper_first(&self) -> Option<Op> {
         let number = self.found.cheaper?;
         Some(self.facts.op(number))

@@ -27,8 +27,8 @@ fn is_asked(view: View, seeker: &mut Seeker, one: u32, other: u32) -> bool {
     view.leads(seeker, behind, other)
 }
 
-/// The operation that goes first in the cheaper order of two that meet, by what it costs to have the
-/// one go first, and the other.
+/// The operation that goes first in the cheaper order of two that meet, by what it costs to have
+/// the one go first, and the other.
 fn cheaper_of(meeting: &Meeting, there: u64, back: u64) -> u32 {
     if there == back {
         meeting.first()

@@ -57,7 +57,11 @@ impl Climb {
 
     /// Counts a round.
     fn count_round(&mut self, found: bool) {
-        self.vain = if found { 0 } else { self.vain.saturating_add(1) };
+        self.vain = if found {
+            0
+        } else {
+            self.vain.saturating_add(1)
+        };
     }
 
     /// How many trains are taken out next.
@@ -152,9 +156,7 @@ fn try_region(
         if climb.is_over(base.cost) {
             return Ok(());
         }
-        try_round(
-            alloc, problem, graph, adviser, base, climb, &region, depth,
-        )?;
+        try_round(alloc, problem, graph, adviser, base, climb, &region, depth)?;
     }
     Ok(())
 }

@@ -87,12 +87,7 @@ fn take_routes(
 }
 
 /// Has an operation come after the one that held a resource last, and hold it.
-fn take_order(
-    graph: &mut Graph,
-    going: Going,
-    last: &mut Option<Op>,
-    op: Op,
-) -> Result<(), Memory>
+fn take_order(graph: &mut Graph, going: Going, last: &mut Option<Op>, op: Op) -> Result<(), Memory>
     ensures { IsBeside graph.old graph.new }
 {
     let before = *last;
@@ -100,9 +95,7 @@ fn take_order(
     match before {
         Some(before)
             if before.train != op.train && (going.is_new(before.train) || going.is_new(op.train)) =>
-        {
-            add(graph, Decision::First { a: before, b: op })
-        }
+            { add(graph, Decision::First { a: before, b: op }) }
         _ => Ok(()),
     }
 }

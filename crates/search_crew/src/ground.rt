@@ -23,7 +23,8 @@ pub(crate) enum Ground<'p> {
     Dead(Leaf),
 }
 
-/// The ground of an edition with these fixings. The order of trains is kept from edition to edition.
+/// The ground of an edition with these fixings. The order of trains is kept from edition to
+/// edition.
 pub(crate) fn begin<'p>(
     alloc: Global,
     problem: &'p Problem,

@@ -18,8 +18,8 @@ use share_bound::KnownShares;
 use std::alloc::Global;
 use tree_dives::rewind_knowing;
 
-/// A graph of an edition, which is moved from work to work, what is known of shares where it is, and
-/// what guides its moves.
+/// A graph of an edition, which is moved from work to work, what is known of shares where it is,
+/// and what guides its moves.
 #[derive(Drop)]
 pub struct Explorer<'p> {
     pub graph: Graph<'p>,

@@ -5,6 +5,7 @@ const NODES_FOR_TRAIN: u32 = 400;
 
 /// but at no fewer than these, nor at more.
 const FEWEST_NODES: u32 = 4096;
+
 const MOST_NODES: u32 = 40_000;
 
 /// The same where changes may come.

@@ -50,8 +50,8 @@ fn follow(graph: &mut Graph, known: &mut KnownShares, decision: Decision) -> Res
 }
 
 /// Branches at the node of a graph, and goes down to the child that is preferred. The others become
-/// leaves. Says whether a place is left to be filled, which is that child's: none is where the child
-/// is dead.
+/// leaves. Says whether a place is left to be filled, which is that child's: none is where the
+/// child is dead.
 pub(crate) fn go_down(
     alloc: Global,
     problem: &Problem,

@@ -89,9 +89,9 @@ fn cheapest(problem: &Problem, graph: &mut Graph, children: &[Decision]) -> usiz
     found
 }
 
-/// The place of the child that a target takes. Where it takes none, that in which the operation goes
-/// first that an adviser named; where that is in none, that of the child that costs least among
-/// those that are not dead, the first one of several, or 0. The graph is as before.
+/// The place of the child that a target takes. Where it takes none, that in which the operation
+/// goes first that an adviser named; where it does in none, that of the child that costs least
+/// among those that are not dead, the first one of several, or 0. The graph is as before.
 pub fn preferred(
     problem: &Problem,
     graph: &mut Graph,

@@ -6,9 +6,10 @@ loop-init c = (beside_itself c.take_over.new.graph, λ root beside found. found)
 
 pub loop-preserved : goal.loop-preserved
 loop-preserved c =
-    let inv = c.loop.invariant in
-    (beside_beside c.take_over.new.graph c.loop.graph c.try_round.new.graph inv.0 c.try_round.ensures.beside,
-     λ root beside found. c.try_round.ensures.plan root (beside_beside root c.take_over.new.graph c.loop.graph beside inv.0) (inv.1 root beside found))
+    let inv = c.loop.invariant in (
+      beside_beside c.take_over.new.graph c.loop.graph c.try_round.new.graph inv.0 c.try_round.ensures.beside,
+      λ root beside found. c.try_round.ensures.plan root (beside_beside root c.take_over.new.graph c.loop.graph beside inv.0) (inv.1 root beside found),
+    )
 
 pub returns-then-is_over-clause-plan : goal.returns-then-is_over-clause-plan
 returns-then-is_over-clause-plan c =

@@ -5,7 +5,7 @@ use Rattle.std.proofs.lemmas.Result.{IfOk-weaker}
 use Rattle.disp_model.specs.declared.train.Listing.{Listing}
 use Rattle.disp_model.specs.declared.plan.Event.{Event}
 use Rattle.disp_model.specs.Earliest.{op_of}
-use Rattle.branch_rules.specs.Behind.{ArePlaced}
+use Rattle.branch_rules.specs.Behind.{ArePutBehind}
 use Rattle.branch_rules.proofs.Placing.{listings_within, behind_more}
 use Rattle.branch_rules.proofs.behind.Behind.take.Goals as goal
 
@@ -24,4 +24,4 @@ returns c =
     let e = get_or c.args.events.now c.args.place no_event in
     let at : slice_get c.args.events.now c.args.place ≡ Some e = slice_get-get_or c.args.events.now c.args.place no_event c.requires.place in
     IfOk-weaker c.put_all.result _ _ (λ done placed. behind_more c.args.problem.now c.args.events.now c.args.place e c.args.self.now (record { next = c.put_event.new.next; listed = c.put_all.new.listed }) at (c.requires.trains c.args.place e at) c.put_event.ensures
-    (subst (λ (ls : List Listing). ArePlaced c.args.place ls c.args.self.now.listed.items c.put_all.new.listed.items) c.listings_of.ensures placed) c.requires.behind) c.put_all.ensures
+    (subst (λ (ls : List Listing). ArePutBehind c.args.place ls c.args.self.now.listed.items c.put_all.new.listed.items) c.listings_of.ensures placed) c.requires.behind) c.put_all.ensures
