@@ -14,7 +14,7 @@ use std::alloc::Global;
 use train_insertion::{Draw, Target};
 use tree_dives::rewind;
 
-/// How many trains are taken out of a plan at first,
+/// How many trains are taken out of a plan at first: these or one more, by a draw,
 const FEWEST_OUT: usize = 2;
 
 /// and how many at most.
@@ -26,8 +26,15 @@ const ROUNDS_FOR_MORE: usize = 48;
 /// After so many of these it ends.
 const ROUNDS_IN_VAIN: usize = 192;
 
-/// How many rounds are made in a region.
-const ROUNDS_IN_REGION: u32 = 8;
+/// For so many trains of a problem one round is made in a region, since taking over the others takes
+/// the longer the more there are,
+const TRAINS_FOR_ROUND: usize = 12;
+
+/// but no more than these.
+const MOST_ROUNDS: usize = 8;
+
+/// How many trains a region has beside one for each two rounds.
+const TRAINS_IN_REGION: usize = 3;
 
 /// At how many nodes is looked at most in a round.
 const ROUND_NODES: u32 = 300;
@@ -65,8 +72,9 @@ impl Climb {
     }
 
     /// How many trains are taken out next.
-    fn count_out(&self) -> usize {
+    fn count_out(&mut self) -> usize {
         FEWEST_OUT
+            .saturating_add(self.draw.below(2))
             .saturating_add(self.vain / ROUNDS_FOR_MORE)
             .min(MOST_OUT)
     }
@@ -129,6 +137,12 @@ fn try_round(
     Ok(())
 }
 
+/// How many rounds are made in a region.
+fn rounds_in_region(problem: &Problem) -> usize {
+    let rounds = problem.trains.len() / TRAINS_FOR_ROUND;
+    rounds.max(1).min(MOST_ROUNDS)
+}
+
 /// Makes some rounds in a region of a plan that is drawn.
 fn try_region(
     alloc: Global,
@@ -143,7 +157,9 @@ fn try_region(
     ensures plan { (root : Node) → IsBeside root graph.old → IsFoundBeside root base.old.plan
         → IsFoundBeside root base.new.plan }
 {
-    let region = drawn_region(alloc, problem, base, &mut climb.draw)?;
+    let rounds = rounds_in_region(problem);
+    let count = TRAINS_IN_REGION.saturating_add(rounds / 2);
+    let region = drawn_region(alloc, problem, base, &mut climb.draw, count)?;
     rewind(graph, 0);
     let going = Going {
         out: &region,
@@ -152,7 +168,7 @@ fn try_region(
     let taken = take_over(alloc, problem, graph, base, going)?;
     climb.spend(taken);
     let depth = graph.decisions().len();
-    for _ in 0..ROUNDS_IN_REGION {
+    for _ in 0..rounds {
         if climb.is_over(base.cost) {
             return Ok(());
         }

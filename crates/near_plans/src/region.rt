@@ -5,9 +5,6 @@ use share_bound::cost_of;
 use std::alloc::Global;
 use train_insertion::{Draw, Target};
 
-/// How many trains a region has at most.
-const MOST_TRAINS: usize = 8;
-
 /// Of so many trains that are drawn beside the first all but one are near it, by and large.
 const NEAR: usize = 8;
 
@@ -120,12 +117,13 @@ fn next_train(draw: &mut Draw, near: &mut Vec<u32>, trains: usize) -> u32 {
     }
 }
 
-/// Some trains of a plan: one that is drawn, and others that are near it.
+/// Some trains of a plan, so many at most: one that is drawn, and others that are near it.
 pub(crate) fn drawn_region(
     alloc: Global,
     problem: &Problem,
     base: &Base,
     draw: &mut Draw,
+    count: usize,
 ) -> Result<Vec<u32>, Memory> {
     let mut region = Vec::new(alloc);
     let Some(first) = first_train(problem, base, draw) else {
@@ -133,7 +131,7 @@ pub(crate) fn drawn_region(
     };
     region.push(first)?;
     let mut near = trains_near(alloc, problem, base.plan.as_slice(), first)?;
-    for _ in 1..MOST_TRAINS {
+    for _ in 1..count {
         let train = next_train(draw, &mut near, problem.trains.len());
         note(&mut region, train)?;
     }

@@ -1,7 +1,7 @@
 use disp_model::Problem;
 
 /// At so many nodes for each train one searcher looks at a time, at most,
-const NODES_FOR_TRAIN: u32 = 400;
+const NODES_FOR_TRAIN: u32 = 600;
 
 /// but at no fewer than these, nor at more.
 const FEWEST_NODES: u32 = 4096;

@@ -6,6 +6,12 @@ use std::alloc::Global;
 use train_insertion::{INSERTIONS, Target, target};
 use tree_dives::Guide;
 
+/// How often trains are put in for a first target, for each train of the problem: no fewer times
+/// than by default, and no more than these.
+const INSERTIONS_FOR_TRAIN: u32 = 250;
+
+const MOST_INSERTIONS: u32 = 30_000;
+
 /// How many trains are put in for a target where an order of trains is known from the last one.
 const INSERTIONS_AGAIN: u32 = 4000;
 
@@ -16,11 +22,20 @@ pub(crate) struct Scout {
     pub lookout: Lookout,
 }
 
+/// How many trains are put in for a first target: the more there are, the more.
+fn insertions_for(problem: &Problem) -> u32 {
+    let trains = u32::try_from(problem.trains.len()).unwrap_or(u32::MAX);
+    trains
+        .saturating_mul(INSERTIONS_FOR_TRAIN)
+        .max(INSERTIONS)
+        .min(MOST_INSERTIONS)
+}
+
 /// How many trains are put in for a target, where this order of trains is known from the last one,
 /// if it is one.
-fn insertions_after(order: &[u32]) -> u32 {
+fn insertions_after(problem: &Problem, order: &[u32]) -> u32 {
     if order.is_empty() {
-        INSERTIONS
+        insertions_for(problem)
     } else {
         INSERTIONS_AGAIN
     }
@@ -36,7 +51,7 @@ impl Scout {
         lookout: Lookout,
         order: &mut Vec<u32>,
     ) -> Result<Scout, Memory> {
-        let insertions = insertions_after(order.as_slice());
+        let insertions = insertions_after(problem, order.as_slice());
         let target = target(alloc, problem, fixings, insertions, order)?;
         let guide = Guide::new(alloc, problem, target)?;
         Ok(Scout { guide, lookout })

@@ -1,6 +1,3 @@
-use Rattle.std.specs.Prelude.{◌≡◌}
-use Rattle.disp_model.specs.Node.{Node}
-use Rattle.near_plans.specs.Plans.{IsBeside}
 use Rattle.near_plans.proofs.Finding.{beside_at, beside_beside, some_found_beside}
 use Rattle.near_plans.proofs.neighbours.try_round.Goals as goal
 
