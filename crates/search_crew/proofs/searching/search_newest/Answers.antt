@@ -25,7 +25,7 @@ begin-requires g c =
     let on = looked_keeps before after c.edition.ensures.board c.edition.ensures.counts c.edition.ensures.looked in
     let at = at_work_on board c.args.rule c.args.edition before after on c.requires.at in
     let are : c.as_slice.result.now ≡ edition_of (known after).seen = search rules in
-    subst (λ (p : Problem). IsOfEdition (node_at p c.as_slice.result.now [])) (sym c.problem-2.ensures)
+    subst (λ (p : Problem). IsOfEdition (node_at p c.as_slice.result.now [])) (sym c.problem-3.ensures)
     (root_is_edition board c.args.rule c.args.edition after at c.as_slice.result.now are c.edition.ensures.legal)
 
 pub rounds-requires-clause-at : goal.rounds-requires-clause-at
@@ -43,4 +43,4 @@ rounds-requires-clause-ground g c = λ lifetimes outlived.
     let same : c.in_ok-number.field-0.number ≡ c.args.edition = search rules in
     let newest_is = sym same ∙ c.in_ok-number.ensures.edition.number in
     subst (λ (f : List Fixing). IsGround (problem_of board) f c.in_ok-ground.ground) (fixings_are board c.args.rule c.args.edition after at c.as_slice.result.now are newest_is)
-    (subst (λ (p : Problem). IsGround p c.as_slice.result.now c.in_ok-ground.ground) c.problem-2.ensures c.in_ok-ground.ensures)
+    (subst (λ (p : Problem). IsGround p c.as_slice.result.now c.in_ok-ground.ground) c.problem-3.ensures c.in_ok-ground.ensures)
