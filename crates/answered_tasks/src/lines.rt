@@ -1,4 +1,4 @@
-ghost use Rattle.std.specs.Prelude.{◌≡◌, IfOk, [], ◌∷◌, string_bytes};
+ghost use Rattle.std.specs.Prelude.{◌≡◌, IfOk, string_bytes};
 ghost use Rattle.answered_tasks.specs.Texts.{trains_line, operations_line, edition_line, optimal_line, infeasible_line, cost_or_none, unfinished_line, plan_line, valid_line, fault_line};
 
 use disp_model::{Event, List, Memory, Problem};

@@ -67,7 +67,8 @@ impl Pusher {
             return;
         };
         if time > *start && self.delay(number, time) && (number as usize) < paths.size() {
-            self.waiting.put(paths.place(number) as usize, number);
+            self.waiting
+                .put(paths.order().place(number) as usize, number);
         }
     }
 

@@ -17,7 +17,8 @@ fn may_lead(paths: &Paths, from: u32, to: u32) -> bool {
     if from as usize >= paths.size() || to as usize >= paths.size() {
         return false;
     }
-    paths.place(from) < paths.place(to) && length_of(paths, from) <= length_of(paths, to)
+    paths.order().place(from) < paths.order().place(to)
+        && length_of(paths, from) <= length_of(paths, to)
 }
 
 impl Seeker {

@@ -1,5 +1,5 @@
 -- The edition that there is to search.
-use Rattle.std.proofs.Common.{◌≡◌, ◌∙◌, ℕ, ◌≤◌, List, sym, ap, arith}
+use Rattle.std.proofs.Common.{◌≡◌, ◌∙◌, ℕ, ◌≤◌, ap, arith}
 use Rattle.disp_model.specs.declared.entry.Entry.{Entry}
 use Rattle.disp_model.specs.declared.settings.Rule.{Rule}
 use Rattle.disp_model.specs.History.{newest}
@@ -10,11 +10,11 @@ use Rattle.turn_lock.specs.Known.{Known}
 use Rattle.shared_board.specs.declared.board.Board.{Board}
 use Rattle.shared_board.specs.declared.pass.Pass.{Pass}
 use Rattle.shared_board.specs.declared.terms.Terms.{Terms}
-use Rattle.shared_board.specs.Board.{own_board, known, fetched, lines}
+use Rattle.shared_board.specs.Board.{known}
 use Rattle.shared_board.specs.Calls.{Enters}
 use Rattle.shared_board.proofs.Running.{seen_after}
 use Rattle.search_crew.specs.Working.{IsAtWork, KeepsOn}
-use Rattle.search_crew.proofs.Keeping.{at_work_on, entered_keeps}
+use Rattle.search_crew.proofs.Keeping.{at_work_on}
 
 -- it is the newest of what is seen
 pub edition_seen : (v w : Known Entry Terms) (edition : ℕ) → Enters v event.Next (reply.Work edition) w → edition ≤ newest w.seen

@@ -1,20 +1,15 @@
 -- Passes that are given to searchers.
-use Rattle.std.proofs.Common.{◌≡◌, ◌∙◌, ℕ, zero, suc, ◌+◌, ◌<◌, ◌≤◌, inl, inr, ⊎_elim, List, [], ◌∷◌, ◌++◌, Contains, length, refl, sym, ap, subst, arith}
-use Rattle.std.specs.Prelude.{Some, slice_get}
-use Rattle.std.proofs.lemmas.List.{append_assoc, append-nil}
+use Rattle.std.proofs.Common.{◌≡◌, ◌∙◌, ℕ, zero, suc, ◌+◌, ◌<◌, ◌≤◌, inr, ⊎_elim, List, [], ◌∷◌, ◌++◌, Contains, length, sym, ap, subst, arith}
+use Rattle.std.proofs.lemmas.List.{append_assoc}
 use Rattle.std.proofs.lemmas.List.Elements.{Contains-append_cases}
 use Rattle.plain_values.proofs.Lists.{contains_one}
 use Rattle.disp_model.specs.declared.entry.Entry.{Entry}
-use Rattle.disp_model.specs.declared.settings.Rule.{Rule}
 use Rattle.train_orders.proofs.Places.{get_push_cases}
-use Rattle.turn_lock.specs.Known.{Known, given_known, with_given}
+use Rattle.turn_lock.specs.Known.{Known, with_given}
 use Rattle.shared_board.specs.declared.board.Board.{Board}
-use Rattle.shared_board.specs.declared.pass.Pass.{Pass}
 use Rattle.shared_board.specs.declared.terms.Terms.{Terms}
-use Rattle.shared_board.specs.Board.{board_of, problem_of, own_board, known}
 use Rattle.shared_board.specs.Callers.{searcher_caller}
 use Rattle.shared_board.specs.Calls.{HasCaller}
-use Rattle.search_crew.specs.Working.{IsAtWork}
 use Rattle.crew_runs.specs.declared.searcher.Searcher.{Searcher}
 use Rattle.crew_runs.specs.Seats.{AreSeats, IsSeat, MaySeat, searchers_to, with_searchers}
 

@@ -1,5 +1,4 @@
-ghost use Rattle.std.specs.Prelude.{◌≡◌, ◌<◌, All, length};
-ghost use Rattle.std.specs.Thread.{IsSync};
+ghost use Rattle.std.specs.Prelude.{◌<◌, All};
 ghost use Rattle.crew_runs.specs.Seats.{IsSeated, HasRun, HaveRun};
 
 use crate::searcher::{Searcher, run_searcher};

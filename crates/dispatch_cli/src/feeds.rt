@@ -1,4 +1,4 @@
-ghost use Rattle.std.specs.Prelude.{◌≡◌, ◌≢◌, ◌≤◌, ◌+◌, All, List, ℕ, [], OnOk, OnErr, IfOk, IfErr, length};
+ghost use Rattle.std.specs.Prelude.{◌≡◌, ◌≢◌, ◌+◌, All, List, ℕ, [], OnOk, OnErr, IfOk, IfErr, length};
 ghost use Rattle.rolling_driver.specs.Opened.{AreNew};
 ghost use Rattle.dispatch_cli.specs.Feeds.{AreOpened, OpensOne, StopsFeed, StopsFeeds};
 

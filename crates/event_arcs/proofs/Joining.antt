@@ -30,7 +30,7 @@ use Rattle.incremental_paths.specs.declared.arc.Arc.{Arc}
 use Rattle.incremental_paths.proofs.Members.{joined, longest_ge}
 use Rattle.incremental_paths.proofs.Walking.{Follows_part, steps_part}
 use Rattle.event_arcs.specs.Listed.{IsArcOf, LeadsOver, AreArcsOf}
-use Rattle.event_arcs.specs.Chained.{Extends, LeadsAlong, Joins, LeadsByRoutes, IsOrderGiven, EndsAt, StandsFrom, IsChained, AddsChain, AddsChains}
+use Rattle.event_arcs.specs.Chained.{Extends, LeadsAlong, LeadsOnceGrown, LeadsByRoutes, IsOrderGiven, EndsAt, StandsFrom, IsChained, AddsChain, AddsChains}
 use Rattle.event_arcs.proofs.Leading.{leads_then}
 
 -- ---- lists that grow
@@ -189,7 +189,7 @@ leads_as_before before node t routes given same are arcs = record {
 }
 
 -- the list leads from one forced operation to another already
-pub joins_given : (node : Node) (u v : Op) (sum : ℕ) (given arcs : List Arc) → LeadsAlong node given u v sum → Joins node u v sum (given ++ arcs) (given ++ arcs)
+pub joins_given : (node : Node) (u v : Op) (sum : ℕ) (given arcs : List Arc) → LeadsAlong node given u v sum → LeadsOnceGrown node u v sum (given ++ arcs) (given ++ arcs)
 joins_given node u v sum given arcs way = record {
   extends = extends_none node (given ++ arcs);
   leads = leads_kept given (given ++ arcs) (number_of node.problem u) (number_of node.problem v) sum (λ arc there. Contains-append_left given arcs arc there) way;
@@ -197,7 +197,7 @@ joins_given node u v sum given arcs way = record {
 
 -- the arc from one forced operation to another is added
 pub joins_push : (node : Node) (t p q first sum : ℕ) (given arcs new : List Arc) → first ≡ number_of node.problem (op_of_train t 0) → IsForced node (op_of_train t p) → IsForced node (op_of_train t q)
-    → IsTrainArc node (op_of_train t p) (op_of_train t q) sum → new ≡ arcs ++ record { from = first + p; to = first + q; length = sum } ∷ [] → Joins node (op_of_train t p) (op_of_train t q) sum (given ++ arcs) (given ++ new)
+    → IsTrainArc node (op_of_train t p) (op_of_train t q) sum → new ≡ arcs ++ record { from = first + p; to = first + q; length = sum } ∷ [] → LeadsOnceGrown node (op_of_train t p) (op_of_train t q) sum (given ++ arcs) (given ++ new)
 joins_push node t p q first sum given arcs new first_is one other step new_is = record {
   extends = subst (Extends node (given ++ arcs)) (sym behind) (extends_push node (given ++ arcs) added is_arc);
   leads = subst (λ (n : ℕ). LeadsOver (given ++ new) n (number_of node.problem (op_of_train t q)) sum) from_is (subst (λ (n : ℕ). LeadsOver (given ++ new) (first + p) n sum) to_is listed);
@@ -223,7 +223,7 @@ joins_push node t p q first sum given arcs new first_is one other step new_is = 
 
 -- a forced operation behind a forced one
 pub chained_on : (node : Node) (t : ℕ) (order : List ℕ) (place p q sum : ℕ) (base arcs new : List Arc) → IsOrder (train_at node.problem t) order → slice_get order place ≡ Some q → IsForced node (op_of_train t q)
-    → IsTrainArc node (op_of_train t p) (op_of_train t q) sum → Joins node (op_of_train t p) (op_of_train t q) sum arcs new → IsChained node t order (place + 1) base arcs (Some p) → IsChained node t order place base new (Some q)
+    → IsTrainArc node (op_of_train t p) (op_of_train t q) sum → LeadsOnceGrown node (op_of_train t p) (op_of_train t q) sum arcs new → IsChained node t order (place + 1) base arcs (Some p) → IsChained node t order place base new (Some q)
 chained_on node t order place p q sum base arcs new is here forced step joins chained = record {
   extends = extends_then node base arcs new chained.extends joins.extends;
   last_stands = record { at = place; from = omega arith; here = here; forced = forced };

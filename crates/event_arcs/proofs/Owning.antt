@@ -161,6 +161,10 @@ module _ (problem : Problem) (fixings own_fixings : List Fixing) (decisions own_
   pub own_routes : (routes : Routes) → AreRoutesOf own t routes → AreRoutesOf all t routes
   own_routes routes says = record {
     left = (λ left. route_to_all (says.left.0 left), λ has. says.left.1 (route_to_own has));
+    sums = λ o. (
+      λ some. let on = (says.sums o).0 some in (on.0, to_all on.0 on.1, on.2),
+      λ on. (says.sums o).1 (on.0, to_own on.0 on.1, on.2),
+    );
     marks = λ o. mark_to_all o (mark_at routes.marks.items o) (says.marks o);
     ordered = λ a b from to one other.
         let both = says.ordered a b from to one other in

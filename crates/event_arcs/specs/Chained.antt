@@ -23,7 +23,7 @@ LeadsAlong node arcs u v arc_length = LeadsOver arcs (number_of node.problem u)
     (number_of node.problem v) arc_length
 
 -- the list leads from one operation to the other once it has grown
-pub record Joins (node : Node) (u v : Op) (sum : ℕ) (old new : List Arc) : Type 0 where
+pub record LeadsOnceGrown (node : Node) (u v : Op) (sum : ℕ) (old new : List Arc) : Type 0 where
   pub extends : Extends node old new
   pub leads : LeadsAlong node new u v sum
 

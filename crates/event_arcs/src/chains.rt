@@ -9,7 +9,7 @@ ghost use Rattle.disp_model.specs.Arcs.{IsTrainArc};
 ghost use Rattle.route_sets.specs.Sets.{op_of_train, AreRoutesOf};
 ghost use Rattle.event_arcs.specs.Listed.{AreArcsOf};
 ghost use Rattle.event_arcs.specs.Placed.{IsPlaced, ArePlaced};
-ghost use Rattle.event_arcs.specs.Chained.{LeadsAlong, Joins, IsGivenBy, IsOrderGiven, IsChained, AddsChain, AddsChains};
+ghost use Rattle.event_arcs.specs.Chained.{LeadsAlong, LeadsOnceGrown, IsGivenBy, IsOrderGiven, IsChained, AddsChain, AddsChains};
 
 use crate::placed::Placed;
 use disp_model::{Memory, Problem};
@@ -53,7 +53,7 @@ fn join(
         → first ≡ number_of node.problem (op_of_train t 0)
         → IsForced node (op_of_train t before) → IsForced node (op_of_train t op)
         → IsTrainArc node (op_of_train t before) (op_of_train t op) sum
-        → OnOk result (Joins node (op_of_train t before) (op_of_train t op) sum
+        → OnOk result (LeadsOnceGrown node (op_of_train t before) (op_of_train t op) sum
         (given ++ arcs.old.items) (given ++ arcs.new.items)) }
 {
     let sum = routes.least_between(before, op);

@@ -8,7 +8,6 @@ use Rattle.disp_model.specs.declared.entry.Entry.{Entry}
 use Rattle.disp_model.specs.declared.entry.Entry.TheVariants.{Asked, Unread, Shown, Grown, Published, Settled, Stopped}
 use Rattle.disp_model.specs.declared.entry.Unasked.TheVariants.{Unreadable, Long, TooMany}
 use Rattle.disp_model.specs.declared.limits.TheConstants.{MOST_LINES}
-use Rattle.feed_reader.specs.declared.read.Reading.{Reading}
 use Rattle.feed_reader.specs.declared.read.Reading.TheVariants as reading
 use Rattle.feed_reader.specs.Answered.{AnswersText, AnswersLine, AnswerLines, AnswersAs, AnsweredSome, AnswersNext, IsReadTo, one_too_many}
 

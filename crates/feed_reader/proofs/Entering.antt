@@ -1,21 +1,19 @@
 -- What a line leaves of the entries of its feed's lines.
-use Rattle.std.proofs.Common.{◌≡◌, ◌∙◌, ℕ, ◌+◌, Bool, true, List, [], ◌∷◌, ◌++◌, length, refl, sym, ap, subst}
+use Rattle.std.proofs.Common.{◌≡◌, ◌∙◌, ℕ, ◌+◌, List, [], ◌∷◌, ◌++◌, refl, ap}
 use Rattle.std.proofs.lemmas.Bool.{eq-eqb}
 use Rattle.disp_model.specs.declared.entry.Entry.{Entry}
 use Rattle.disp_model.specs.declared.entry.Entry.TheVariants.{Asked, Unread, Shown}
 use Rattle.disp_model.specs.declared.entry.Unasked.{Unasked}
 use Rattle.disp_model.specs.declared.entry.Unasked.TheVariants.{Unreadable}
 use Rattle.disp_model.specs.declared.fixing.Change.{Change}
-use Rattle.dispatch_core.specs.declared.event.CoreEvent.{CoreEvent}
 use Rattle.dispatch_core.specs.declared.event.CoreEvent.TheVariants as event
 use Rattle.dispatch_core.specs.declared.event.CoreReply.{CoreReply}
 use Rattle.dispatch_core.specs.declared.event.CoreReply.TheVariants as reply
-use Rattle.dispatch_core.specs.Replies.{IsAsk, IsShow, Steps}
+use Rattle.dispatch_core.specs.Replies.{IsAsk, IsShow}
 use Rattle.dispatch_core.specs.States.{Core}
 use Rattle.fixing_lines.specs.Requests.{IsAsked, IsUnreadable, show_text}
 use Rattle.turn_lock.specs.Known.{Known}
 use Rattle.shared_board.specs.declared.terms.Terms.{Terms}
-use Rattle.shared_board.specs.Callers.{is_line_of}
 use Rattle.shared_board.specs.Calls.{Enters}
 use Rattle.shared_board.specs.Onward.{entries_by}
 use Rattle.shared_board.proofs.Onward.{one_more}

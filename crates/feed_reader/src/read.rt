@@ -4,7 +4,7 @@ ghost use Rattle.disp_outside.specs.Lines.{NoneLeft};
 ghost use Rattle.shared_board.specs.Board.{board_of, own_board, known, lines};
 ghost use Rattle.shared_board.specs.Calls.{IsFeed};
 ghost use Rattle.shared_board.specs.Onward.{entries_by, PassGoesOn};
-ghost use Rattle.feed_reader.specs.Answered.{AnsweredSome, AnswersAs, AnswersNext, IsReadTo, one_too_many};
+ghost use Rattle.feed_reader.specs.Answered.{AnsweredSome, AnswersAs, AnswersNext, one_too_many};
 
 use crate::enter::{enter_text, enter_unread};
 use disp_model::{MOST_LINES, Memory, Unasked};

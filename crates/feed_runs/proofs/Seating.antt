@@ -1,6 +1,5 @@
 -- Passes that are given to feeds.
 use Rattle.std.proofs.Common.{◌≡◌, ◌∙◌, ℕ, zero, suc, ◌<◌, inl, ⊎_elim, List, [], ◌∷◌, ◌++◌, Contains, length, sym, ap, subst, arith}
-use Rattle.std.specs.Prelude.{slice_get}
 use Rattle.std.proofs.lemmas.List.{append_assoc}
 use Rattle.std.proofs.lemmas.List.Elements.{Contains-append_cases}
 use Rattle.plain_values.proofs.Lists.{contains_none_where, contains_one}

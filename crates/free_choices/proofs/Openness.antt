@@ -1,16 +1,15 @@
 -- What is enough for a choice to be picked under the free rule.
-use Rattle.std.proofs.Common.{◌≡◌, ◌≢◌, ◌∙◌, ℕ, suc, ◌+◌, ◌<◌, ◌≤◌, List, [], ◌∷◌, ◌++◌, length, get_or, true, Some, None, refl, sym, ap, subst, arith, inl, inr}
+use Rattle.std.proofs.Common.{◌≡◌, ◌≢◌, ◌∙◌, ℕ, suc, ◌+◌, ◌<◌, ◌≤◌, List, [], ◌∷◌, length, true, Some, None, refl, sym, ap, subst, arith, inl, inr}
 use Rattle.std.specs.Prelude.{All, Contains, slice_get, nat_eq, ◌⊎◌, ◌==◌}
 use Rattle.std.specs.List.{list_any}
 use Rattle.std.proofs.lemmas.Bool.{cases_lt, eq-eqb}
-use Rattle.std.proofs.lemmas.List.Elements.{All-cons, All-contains, Contains-append_left, Contains-append_right, Contains-get_or}
+use Rattle.std.proofs.lemmas.List.Elements.{All-cons, All-contains}
 use Rattle.std.proofs.lemmas.Option.{same_Some}
 use Rattle.std.proofs.lemmas.List.Folds.{list_any-from_Any}
 use Rattle.disp_model.specs.declared.train.Op.{Op}
 use Rattle.disp_model.specs.declared.train.Listing.{Listing}
 use Rattle.disp_model.specs.declared.plan.Event.{Event}
-use Rattle.disp_model.specs.declared.decision.Decision.{Decision}
-use Rattle.disp_model.specs.declared.decision.Decision.TheVariants.{First, Run as RunIt}
+use Rattle.disp_model.specs.declared.decision.Decision.TheVariants.{First}
 use Rattle.disp_model.specs.declared.decision.Choice.TheVariants.{Route, Order, Run}
 use Rattle.disp_model.specs.declared.settings.Rule.TheVariants.{Free}
 use Rattle.disp_model.specs.declared.problem.Problem.{Problem}
@@ -18,8 +17,8 @@ use Rattle.disp_model.specs.Train.{IsExit, IsRoute}
 use Rattle.disp_model.specs.Plan.{end_of, Ending}
 use Rattle.disp_model.specs.Fixing.{after}
 use Rattle.disp_model.specs.Valid.{train_at, IsValid}
-use Rattle.disp_model.specs.Node.{Node, with_decision}
-use Rattle.disp_model.specs.Routes.{AgreesWithDecision, IsAllowed, HasRoute, IsForced, Starts}
+use Rattle.disp_model.specs.Node.{Node}
+use Rattle.disp_model.specs.Routes.{IsAllowed, IsForced, Starts}
 use Rattle.disp_model.specs.Arcs.{listings_of, release_of, min_of, Conflicts, GoesTo}
 use Rattle.disp_model.specs.Walks.{IsLongest, HasCycle}
 use Rattle.disp_model.specs.Choices.{IsEnd, IsOpenOrder}
@@ -34,7 +33,7 @@ use Rattle.disp_laws.proofs.LongestSteps.{longest_step}
 use Rattle.disp_laws.proofs.EarliestPlans.{longest_at}
 use Rattle.disp_laws.proofs.EarliestEnds.{event_ends, one_end_time, release_within}
 use Rattle.incremental_paths.proofs.Members.{Contains-filter}
-use Rattle.route_sets.specs.Sets.{op_of_train as op_at}
+use Rattle.route_sets.specs.Sets.{op_of_train as op_at, IsOnSome}
 use Rattle.branch_rules.specs.declared.pick.Pick.{Pick}
 use Rattle.branch_rules.specs.declared.pick.Pick.TheVariants.{Choice, Plan}
 use Rattle.branch_rules.specs.Picks.{IsPickAt}
@@ -94,22 +93,8 @@ route_is_picked node o forced parts no_exit = by_first forced.allowed.0 forced.a
 
 -- ---- an operation to run or to skip
 
--- what is allowed after one more decision was so before
-allowed_before : (node : Node) (decision : Decision) (t : ℕ) (route : List ℕ) → IsAllowed (with_decision node decision) t route → IsAllowed node t route
-allowed_before node decision t route allowed = record {
-  is_route = allowed.is_route;
-  fixings_agree = allowed.fixings_agree;
-  decisions_agree = λ k d lt.
-      All-contains (AgreesWithDecision t route) (node.decisions ++ decision ∷ []) (get_or node.decisions k d) allowed.decisions_agree
-      (Contains-append_left node.decisions (decision ∷ []) (get_or node.decisions k d) (Contains-get_or node.decisions k d lt));
-}
-
-pub run_is_picked : (node : Node) (o : Op) → o.train < length node.problem.trains → (IsForced node o → ⊥) → HasRoute (with_decision node (RunIt o)) o.train → IsPicked node Free (Some (Run o))
-run_is_picked node o there free has =
-    let one = has.0 in
-    let allowed = allowed_before node (RunIt o) o.train one has.1 in
-    let has_it : Contains one o.op =
-    All-contains (AgreesWithDecision o.train one) (node.decisions ++ RunIt o ∷ []) (RunIt o) has.1.decisions_agree (Contains-append_right node.decisions (RunIt o ∷ []) (RunIt o) (0, omega arith, refl)) refl in
+pub run_is_picked : (node : Node) (o : Op) → o.train < length node.problem.trains → (IsForced node o → ⊥) → IsOnSome node o.train o.op → IsPicked node Free (Some (Run o))
+run_is_picked node o there free (one, allowed, has_it) =
     elim (route_or_all node o.train (λ route. Contains route o.op) there (contained_or_not o.op)) [
       | inl all ↦ absurd (free (record { train = there; allowed = (one, allowed); each_has = all }))
       | inr (other, also, not) ↦ (

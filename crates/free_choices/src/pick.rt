@@ -60,37 +60,32 @@ fn tested_touch(
     Some(Choice::Order(a, b))
 }
 
-/// Whether an operation is run, where that is open. The graph is as before.
-fn tested_run(problem: &Problem, graph: &mut Graph, op: Op) -> Result<Option<Choice>, Memory>
-    requires { graph.old.problem ≡ problem.now }
-    ensures same { graph.new ≡ graph.old }
-    ensures picked { IfOk result
-        (λ found. IfSome found (λ choice. IsPicked graph.old Free (Some choice))) }
+/// Whether an operation is run, where that is open.
+fn tested_run(problem: &Problem, graph: &Graph, op: Op) -> Option<Choice>
+    requires { graph.now.problem ≡ problem.now }
+    ensures { IfSome result (λ choice. IsPicked graph.now Free (Some choice)) }
 {
-    if is_open_run(problem, graph, op)? {
-        Ok(Some(Choice::Run(op)))
+    if is_open_run(problem, graph, op) {
+        Some(Choice::Run(op))
     } else {
-        Ok(None)
+        None
     }
 }
 
-/// The choice that is advised, where it is open and something is to be picked. The graph is as
-/// before.
-fn tested(problem: &Problem, graph: &mut Graph, advice: Advice) -> Result<Option<Choice>, Memory>
-    requires { graph.old.problem ≡ problem.now }
-    ensures same { graph.new ≡ graph.old }
-    ensures picked { IfOk result
-        (λ found. IfSome found (λ choice. IsPicked graph.old Free (Some choice))) }
+/// The choice that is advised, where it is open and something is to be picked.
+fn tested(problem: &Problem, graph: &Graph, advice: Advice) -> Option<Choice>
+    requires { graph.now.problem ≡ problem.now }
+    ensures { IfSome result (λ choice. IsPicked graph.now Free (Some choice)) }
 {
     match advice {
-        Advice::Route(op) => Ok(tested_route(problem, graph, op)),
-        Advice::Order { a, b, resource } => Ok(tested_order(problem, graph, a, b, resource)),
+        Advice::Route(op) => tested_route(problem, graph, op),
+        Advice::Order { a, b, resource } => tested_order(problem, graph, a, b, resource),
         Advice::Touch {
             a,
             b,
             resource,
             fork,
-        } => Ok(tested_touch(problem, graph, a, b, resource, fork)),
+        } => tested_touch(problem, graph, a, b, resource, fork),
         Advice::Run(op) => tested_run(problem, graph, op),
     }
 }
@@ -109,36 +104,33 @@ fn first_route(problem: &Problem, graph: &Graph) -> Option<Choice>
 }
 
 /// The choice that an adviser names by a look at all choices, where there is one, it is open and
-/// something is to be picked. The graph is as before.
+/// something is to be picked.
 fn thought_out(
     problem: &Problem,
-    graph: &mut Graph,
+    graph: &Graph,
     adviser: &mut Adviser,
     strategy: Strategy,
 ) -> Result<Option<Choice>, Memory>
-    requires { graph.old.problem ≡ problem.now }
-    ensures same { graph.new ≡ graph.old }
-    ensures picked { IfOk result
-        (λ found. IfSome found (λ choice. IsPicked graph.old Free (Some choice))) }
+    requires { graph.now.problem ≡ problem.now }
+    ensures { IfOk result
+        (λ found. IfSome found (λ choice. IsPicked graph.now Free (Some choice))) }
 {
-    match adviser.advise(problem, graph, strategy)? {
-        Some(advice) => tested(problem, graph, advice),
-        None => Ok(None),
-    }
+    let Some(advice) = adviser.advise(problem, graph, strategy)? else {
+        return Ok(None);
+    };
+    Ok(tested(problem, graph, advice))
 }
 
 /// The choice that an adviser names, where there is one, it is open and something is to be picked.
-/// The graph is as before.
 fn advised(
     problem: &Problem,
-    graph: &mut Graph,
+    graph: &Graph,
     adviser: &mut Adviser,
     strategy: Strategy,
 ) -> Result<Option<Choice>, Memory>
-    requires { graph.old.problem ≡ problem.now }
-    ensures same { graph.new ≡ graph.old }
-    ensures picked { IfOk result
-        (λ found. IfSome found (λ choice. IsPicked graph.old Free (Some choice))) }
+    requires { graph.now.problem ≡ problem.now }
+    ensures { IfOk result
+        (λ found. IfSome found (λ choice. IsPicked graph.now Free (Some choice))) }
 {
     if strategy == Strategy::Any {
         if let Some(choice) = first_route(problem, graph) {
@@ -159,7 +151,7 @@ fn fallen_back(alloc: Global, problem: &Problem, graph: &Graph) -> Result<Pick, 
 
 /// What the free rule finds at the node of a graph, which is not dead: an open choice, or the plan
 /// of earliest starts where that is valid. Which open choice it is follows the strategy of an
-/// adviser for this problem, as far as that knows one. The graph is as before.
+/// adviser for this problem, as far as that knows one.
 ///
 /// # Errors
 ///
@@ -167,14 +159,13 @@ fn fallen_back(alloc: Global, problem: &Problem, graph: &Graph) -> Result<Pick, 
 pub fn pick_free(
     alloc: Global,
     problem: &Problem,
-    graph: &mut Graph,
+    graph: &Graph,
     adviser: &mut Adviser,
     strategy: Strategy,
 ) -> Result<Pick, Memory>
-    requires problem { graph.old.problem ≡ problem.now }
-    requires alive { IsDead graph.old → ⊥ }
-    ensures same { graph.new ≡ graph.old }
-    ensures picked { IfOk result (IsPickBy Free graph.old) }
+    requires problem { graph.now.problem ≡ problem.now }
+    requires alive { IsDead graph.now → ⊥ }
+    ensures { IfOk result (IsPickBy Free graph.now) }
 {
     match advised(problem, graph, adviser, strategy)? {
         Some(choice) => Ok(Pick::Choice(choice)),

@@ -364,16 +364,6 @@ impl OrderedPaths {
         &self.order
     }
 
-    /// The node's place in that order.
-    pub fn place(&self, node: u32) -> u32
-        requires { IsNode self.now.network node }
-        ensures within { result < length self.now.network.lowers }
-        ensures is { result ≡ slice_index self.now.places node }
-        ensures rising { AreRising self.now.network.arcs self.now.places }
-    {
-        self.order.place(node)
-    }
-
     /// The arcs that are kept, in the order in which they were added.
     pub fn arcs(&self) -> &[Arc]
         ensures all { result.now ≡ self.now.network.arcs }

@@ -181,16 +181,6 @@ impl Paths {
         self.ordered.order()
     }
 
-    /// The node's place in that order.
-    pub fn place(&self, node: u32) -> u32
-        requires { IsNode self.now node }
-        ensures within { result < length self.now.lowers }
-        ensures rising { (places : List ℕ) × AreRising self.now.arcs places
-            × (result ≡ slice_index places node) }
-    {
-        self.ordered.place(node)
-    }
-
     /// The arcs that are kept, in the order in which they were added.
     pub fn arcs(&self) -> &[Arc]
         ensures all { result.now ≡ self.now.arcs }

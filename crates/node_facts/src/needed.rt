@@ -11,7 +11,7 @@ ghost use Rattle.node_facts.specs.Known.{AreOnEach};
 use crate::demands::{Demand, may_go};
 use crate::sums::has_way;
 use disp_model::{List, Memory, Operation};
-use route_marks::{Mark, Row, marks_of};
+use route_marks::{Mark, Row, passed_of};
 use std::alloc::Global;
 
 /// Whether an operation is marked.
@@ -132,6 +132,6 @@ pub(crate) fn needed_of(
         return all_marked(alloc, train.len());
     }
     let rows = rows_of(alloc, train, order, places, demands, sums)?;
-    let marks = marks_of(alloc, train, order, places, &rows)?;
-    marked(alloc, &marks)
+    let passed = passed_of(alloc, train, order, places, &rows)?;
+    marked(alloc, &passed.marks)
 }

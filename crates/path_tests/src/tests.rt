@@ -250,8 +250,9 @@ fn add_along<L: Ledger>(
     assert!(rt; kept < 1000);
     assert!(rt; (arc.from as usize) < nodes);
     assert!(rt; (arc.to as usize) < nodes);
-    let low = paths.place(arc.from);
-    let high = paths.place(arc.to);
+    let order = paths.order();
+    let low = order.place(arc.from);
+    let high = order.place(arc.to);
     assert!(rt; low < high);
     let start = paths.length(arc.from);
     let end = paths.length(arc.to);

@@ -9,7 +9,6 @@ use Rattle.shared_board.specs.declared.terms.Terms.{Terms}
 use Rattle.shared_board.specs.Board.{board_of, own_board, known, fetched}
 use Rattle.crew_runs.specs.Seats.{AreSeats, IsSeated, with_searchers}
 use Rattle.feed_runs.specs.Readers.{AreReaders, AreReady, with_readers}
-use Rattle.feed_runs.specs.declared.reader.Reader.{Reader}
 use Rattle.rolling_driver.specs.declared.opening.Run.{Run}
 use Rattle.rolling_driver.specs.declared.opening.Left.{Left}
 use Rattle.rolling_driver.specs.declared.opening.Left.TheVariants.{Feeds, Readers}

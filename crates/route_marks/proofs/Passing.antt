@@ -16,7 +16,7 @@ use Rattle.train_orders.proofs.Places.{set_at, set_elsewhere, same_number}
 use Rattle.train_orders.proofs.Ordered.{contains_here, contains_later}
 use Rattle.route_marks.specs.declared.marks.Mark.{Mark}
 use Rattle.route_marks.specs.Ways.{StepsAlong, Goes, IsRowWalk, Chain, IsLeastOnRows, IsOnEach, last_of}
-use Rattle.route_marks.specs.Marks.{ArePlaces, IsLaid, Relaxes, IsLowest, IsOnly, Makes, IsMark, mark_at, Crosses, IsPass, MarksEntered}
+use Rattle.route_marks.specs.Marks.{ArePlaces, IsLaid, Relaxes, IsLowest, IsOnly, Makes, IsMark, mark_at, Crosses, IsPass, MarksEntered, HasSums}
 use Rattle.route_marks.proofs.Chaining.{chain_more, LastStep, chain_last, chain_walk, walk_parts, steps_row, row_steps, goes_on, goes_below, chain_above, ending, last_here}
 
 -- ---- sums and marks
@@ -339,6 +339,31 @@ enters train order rows left sums reach marks laid all is = record {
           | inl same ↦ (sym same, sym (same_Some 0 n (same_Some (Some 0) (Some n) (sym (set_at (replicate (length train) None) e (Some 0) (omega (arith, inside, length-replicate {A = Option ℕ} (length train) None))) ∙ subst (λ (x : ℕ). slice_get (set (replicate (length train) None) e (Some 0)) x ≡ Some (Some n)) same found))))
           | inr other ↦ absurd (none_sum (length train) o n (sym (set_elsewhere (replicate (length train) None) e o (Some 0) other) ∙ found))
         ]
+
+-- ---- the end
+
+-- each operation that some walk has is known, by a sum that is at most that of the walk
+sum_known : (train : List Operation) (order : List ℕ) (rows : List (List ℕ)) (sums : List (Option ℕ)) (reach : ℕ) (marks : List (Option Mark)) (o : ℕ) (front : List ℕ) → IsPass train order rows 0 sums reach marks
+    → Chain order rows (last_of order) front o → (n : ℕ) × (slice_get sums o ≡ Some (Some n)) × (n ≤ sum_by (duration_of train) front)
+sum_known train order rows sums reach marks o front pass chain = by (chain_last order rows (last_of order) front o chain)
+  where
+    by : ((front ≡ []) × (last_of order ≡ o)) ⊎ LastStep order rows (last_of order) front o → (n : ℕ) × (slice_get sums o ≡ Some (Some n)) × (n ≤ sum_by (duration_of train) front)
+    by (inl h) = (pass.starts.0, subst (λ (x : ℕ). slice_get sums x ≡ Some (Some pass.starts.0)) h.1 pass.starts.1, omega (arith, pass.starts.2))
+    by (inr last) =
+        let known = pass.known last.steps.place last.op o last.before last.steps.here (omega arith) last.chain last.steps in
+        (known.0, known.1, subst (λ (l : List ℕ). known.0 ≤ sum_by (duration_of train) l) (sym last.is) known.2)
+
+pub has_sums : (train : List Operation) (order : List ℕ) (rows : List (List ℕ)) (left : ℕ) (sums : List (Option ℕ)) (reach : ℕ) (marks : List (Option Mark)) → left ≤ 0 → IsPass train order rows left sums reach marks → HasSums train order rows sums
+has_sums train order rows zero sums reach marks all pass = record {
+  least = λ o n is. record {
+    reached = pass.sound o n is;
+    at_most = λ front chain.
+        let known = sum_known train order rows sums reach marks o front pass chain in
+        omega (arith, known.2, same_Some n known.0 (same_Some (Some n) (Some known.0) (sym is ∙ known.1)));
+  };
+  known = λ o front chain. let known = sum_known train order rows sums reach marks o front pass chain in (known.0, known.1);
+}
+has_sums train order rows (suc left) sums reach marks all pass = absurd (omega (arith, all))
 
 -- ---- what a pass reads
 

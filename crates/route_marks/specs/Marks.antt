@@ -120,3 +120,11 @@ pub record HasMarks (train : List Operation) (order : List ℕ) (steps : List (L
     (marks : List (Option Mark)) : Type 0 where
   pub long : length marks ≡ length train
   pub are_marks : AreRouteMarks train order steps 0 marks
+
+-- the least sums of durations up to the operations that some walk has
+pub record HasSums (train : List Operation) (order : List ℕ) (rows : List (List ℕ))
+    (sums : List (Option ℕ)) : Type 0 where
+  pub least : (o n : ℕ) → slice_get sums o ≡ Some (Some n)
+      → IsLeastOnRows train order rows (last_of order) o n
+  pub known : (o : ℕ) (front : List ℕ) → Chain order rows (last_of order) front o
+      → (n : ℕ) × (slice_get sums o ≡ Some (Some n))

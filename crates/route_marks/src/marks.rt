@@ -1,6 +1,6 @@
 ghost use Rattle.std.specs.Prelude.{◌≡◌, ◌≢◌, ◌+◌, ◌<◌, ◌^◌, All, IfOk, MatchOption, Some, length, slice_get};
 ghost use Rattle.train_orders.specs.Orders.{IsOrder};
-ghost use Rattle.route_marks.specs.Marks.{ArePlaces, IsLaid, lowered, Relaxes, IsLowest, IsOnly, Makes, IsPass, MarksEntered, HasMarks};
+ghost use Rattle.route_marks.specs.Marks.{ArePlaces, IsLaid, lowered, Relaxes, IsLowest, IsOnly, Makes, IsPass, MarksEntered, HasMarks, HasSums};
 
 use crate::row::Row;
 use disp_model::{List, Memory, Operation};
@@ -15,6 +15,15 @@ pub struct Mark {
     pub sum: u64,
     /// The one operation that routes go on to from it.
     pub next: Option<u32>,
+}
+
+/// What the walks along rows have of a train's operations.
+#[derive(Drop)]
+pub struct Passed {
+    /// The least sum of durations up to each operation that some walk has.
+    pub sums: Vec<Option<u64>>,
+    /// The marks of the operations that each walk has.
+    pub marks: Vec<Option<Mark>>,
 }
 
 /// How far a pass has come that goes from the entry on.
@@ -142,18 +151,21 @@ fn entered(alloc: Global, train: &[Operation], order: &[u32]) -> Result<Pass, Me
     Ok(Pass { sums, reach, marks })
 }
 
-/// The marks of the operations that each walk from the entry has which goes along rows, by an order
-/// of the train from the exit back. Fails for memory alone.
-pub fn marks_of(
+/// What the walks from the entry that go along rows have of the operations, by an order of the train
+/// from the exit back. Fails for memory alone.
+pub fn passed_of(
     alloc: Global,
     train: &[Operation],
     order: &[u32],
     places: &[usize],
     rows: &List<Row>,
-) -> Result<Vec<Option<Mark>>, Memory>
+) -> Result<Passed, Memory>
     requires laid { IsLaid train.now order.now rows.now }
     requires places { ArePlaces train.now order.now places.now }
-    ensures { IfOk result (λ marks. HasMarks train.now order.now rows.now marks.items) }
+    ensures sums { IfOk result
+        (λ passed. HasSums train.now order.now rows.now passed.sums.items) }
+    ensures marks { IfOk result
+        (λ passed. HasMarks train.now order.now rows.now passed.marks.items) }
 {
     let mut pass = entered(alloc, train, order)?;
     let mut place = order.len();
@@ -161,5 +173,8 @@ pub fn marks_of(
         place -= 1;
         visit(&mut pass, train, order, places, rows, place);
     }
-    Ok(pass.marks)
+    Ok(Passed {
+        sums: pass.sums,
+        marks: pass.marks,
+    })
 }

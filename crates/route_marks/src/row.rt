@@ -5,7 +5,7 @@ use std::alloc::Global;
 use std::marker::Model;
 
 /// How many operations of a row take no memory.
-const FEW: usize = 2;
+const FEW: usize = 4;
 
 /// The operations to which routes go on from one. Few of them stand in the row itself, since there
 /// are few mostly, and rows are made very often.
@@ -25,7 +25,7 @@ impl Model for Row {
 
     ghost view = { λ r. take r.count r.few ++ r.many.items };
 
-    ghost invariant = { λ r. (r.count ≤ 2) × (0 < r.count → r.many.items ≡ []) };
+    ghost invariant = { λ r. (r.count ≤ 4) × (0 < r.count → r.many.items ≡ []) };
 }
 
 impl Row {

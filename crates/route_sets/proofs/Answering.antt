@@ -1,6 +1,6 @@
 -- What is kept of a train's routes, and what is answered by it.
 use Rattle.std.proofs.Common.{◌≡◌, ℕ, ◌+◌, ◌-◌, ◌^◌, ◌<◌, ◌≤◌, List, [], length, get_or, Option, Some, None, true, false, sym, subst, ◌∙◌, arith}
-use Rattle.std.specs.Prelude.{slice_get, IsTrue, MatchOption, ◌↔◌}
+use Rattle.std.specs.Prelude.{slice_get, IsSome, IsTrue, MatchOption, ◌↔◌}
 use Rattle.std.proofs.lemmas.Bool.{false≢true}
 use Rattle.std.proofs.lemmas.Option.{none-some, slice_get-get_or}
 use Rattle.std.proofs.lemmas.List.{get_or_past, get_or_default}
@@ -23,10 +23,10 @@ use Rattle.route_sets.specs.declared.sweep.Swept.{Swept}
 use Rattle.route_sets.specs.Asks.{AreAsks}
 use Rattle.route_sets.specs.Sweeps.{HasWay, IsSwept}
 use Rattle.route_marks.specs.Ways.{last_of}
-use Rattle.route_marks.specs.Marks.{IsLaid, mark_at, HasMarks}
-use Rattle.route_sets.specs.Sets.{op_of_train, IsMarkOf, AreAllowedRows, AreRoutesOf}
+use Rattle.route_marks.specs.Marks.{IsLaid, mark_at, HasMarks, HasSums}
+use Rattle.route_sets.specs.Sets.{op_of_train, sum_at, IsMarkOf, AreAllowedRows, AreRoutesOf}
 use Rattle.route_sets.proofs.Walking.{IsTrimmedFor, route_is_way}
-use Rattle.route_sets.proofs.Knowing.{AreWalks, are_walks, marks_are, ordered_are, route_there, marked_forced}
+use Rattle.route_sets.proofs.Knowing.{AreWalks, are_walks, sums_are, marks_are, ordered_are, route_there, marked_forced}
 use Rattle.route_sets.proofs.Following.{begins_are, ends_are, short_are}
 
 -- ---- the train as it is read
@@ -90,9 +90,13 @@ has_way problem fixings decisions t asks order swept is =
 -- ---- where none is left
 
 pub none_are : (problem : Problem) (fixings : List Fixing) (decisions : List Decision) (t : ℕ) (asks : List Ask) (order : List ℕ) (swept : Swept) (routes : Routes) → IsFound problem fixings decisions t asks order swept → swept.holds ≡ false
-    → routes.left ≡ false → routes.marks.items ≡ [] → AreRoutesOf (node_at problem fixings decisions) t routes
-none_are problem fixings decisions t asks order swept routes is not_held not_left empty = record {
+    → routes.left ≡ false → routes.sums.items ≡ [] → routes.marks.items ≡ [] → AreRoutesOf (node_at problem fixings decisions) t routes
+none_are problem fixings decisions t asks order swept routes is not_held not_left no_sums empty = record {
   left = (λ left. absurd (false≢true (sym not_left ∙ left)), λ has. absurd (none has));
+  sums = λ o. (
+    λ some. absurd (false≢true (subst (λ (s : Option ℕ). IsSome s) (get_or_past [] o None (omega arith)) (subst (λ (l : List (Option ℕ)). IsSome (sum_at l o)) no_sums some))),
+    λ has. absurd (none (has.0, has.1)),
+  );
   marks = λ o. subst (λ (l : List (Option Mark)). MatchOption (mark_at l o) (IsForced node (op_of_train t o) → ⊥) (IsMarkOf node t o)) (sym empty)
       (subst (λ (m : Option Mark). MatchOption m (IsForced node (op_of_train t o) → ⊥) (IsMarkOf node t o)) (sym (get_or_past [] o None (omega arith))) (λ forced. none forced.allowed));
   ordered = λ a b from to first second. unmarked a from first;
@@ -128,13 +132,14 @@ pub is_laid : (problem : Problem) (fixings : List Fixing) (decisions : List Deci
 is_laid problem fixings decisions t asks order swept is held = (walks problem fixings decisions t asks order swept is held).is_laid
 
 pub some_are : (problem : Problem) (fixings : List Fixing) (decisions : List Decision) (t : ℕ) (asks : List Ask) (order : List ℕ) (swept : Swept) (routes : Routes) → IsFound problem fixings decisions t asks order swept → swept.holds ≡ true
-    → routes.left ≡ true → routes.entry ≡ last_of order → HasMarks (train_at problem t) order swept.rows routes.marks.items → routes.order.items ≡ order → routes.rows ≡ swept.rows
+    → routes.left ≡ true → routes.entry ≡ last_of order → HasSums (train_at problem t) order swept.rows routes.sums.items → HasMarks (train_at problem t) order swept.rows routes.marks.items → routes.order.items ≡ order → routes.rows ≡ swept.rows
     → AreRoutesOf (node_at problem fixings decisions) t routes
-some_are problem fixings decisions t asks order swept routes is held left entry marks same_order same_rows =
+some_are problem fixings decisions t asks order swept routes is held left entry sums marks same_order same_rows =
     let are = walks problem fixings decisions t asks order swept is held in
     let node = node_at problem fixings decisions in
     record {
       left = (λ h. route_there node t order swept.rows are, λ h. left);
+      sums = sums_are node t order swept.rows routes.sums.items are sums;
       marks = marks_are node t order swept.rows routes.marks.items are marks;
       ordered = ordered_are node t order swept.rows routes.marks.items are marks;
       begins = begins_are node t order swept.rows routes.entry are entry;

@@ -1,5 +1,5 @@
 -- What is known of the allowed routes of a train.
-use Rattle.std.specs.Prelude.{◌≡◌, ◌↔◌, ℕ, zero, suc, ◌-◌, ◌<◌, ◌≤◌, ◌==◌, List, [], ◌∷◌, length, Option, Some, None, option_map, IsTrue, MatchOption, if◌then◌else◌}
+use Rattle.std.specs.Prelude.{◌≡◌, ◌↔◌, ℕ, zero, suc, ◌-◌, ◌<◌, ◌≤◌, ◌==◌, List, [], ◌∷◌, length, Contains, Option, Some, None, IsSome, slice_index_or, option_map, IsTrue, MatchOption, if◌then◌else◌}
 use Rattle.disp_model.specs.declared.train.Op.{Op}
 use Rattle.disp_model.specs.Node.{Node}
 use Rattle.disp_model.specs.Train.{IsExit}
@@ -73,9 +73,18 @@ pub record AreAllowedRows (node : Node) (t : ℕ) (order : List ℕ) (rows : Lis
   pub walk : (route : List ℕ) → IsAllowed node t route → IsRowWalk order rows (last_of order) route
   pub route : (route : List ℕ) → IsRowWalk order rows (last_of order) route → IsAllowed node t route
 
+-- the sum that is kept of an operation
+abbrev pub sum_at : List (Option ℕ) → ℕ → Option ℕ
+sum_at sums o = slice_index_or sums o None
+
+-- some allowed route has the operation
+abbrev pub IsOnSome : Node → ℕ → ℕ → Type 0
+IsOnSome node t o = (route : List ℕ) × IsAllowed node t route × Contains route o
+
 -- what is kept of a train's routes says which are allowed at the node
 pub record AreRoutesOf (node : Node) (t : ℕ) (routes : Routes) : Type 0 where
   pub left : IsTrue routes.left ↔ HasRoute node t
+  pub sums : (o : ℕ) → IsSome (sum_at routes.sums.items o) ↔ IsOnSome node t o
   pub marks : (o : ℕ) → MatchOption (mark_at routes.marks.items o)
       (IsForced node (op_of_train t o) → ⊥) (IsMarkOf node t o)
   pub ordered : (a b : ℕ) (from to : Mark) → mark_at routes.marks.items a ≡ Some from

@@ -12,7 +12,7 @@ ghost use Rattle.route_sets.specs.Sets.{AreRoutesOf};
 use crate::asks::asks_of;
 use crate::sweep::sweep;
 use disp_model::{Decision, Fixing, List, Memory, Problem};
-use route_marks::{Mark, Row, marks_of, places_of};
+use route_marks::{Mark, Row, passed_of, places_of};
 use std::alloc::Global;
 use train_orders::order_of;
 
@@ -23,6 +23,8 @@ pub struct Routes {
     left: bool,
     /// The operation that each route begins with.
     entry: u32,
+    /// The least sums of durations up to the operations that some allowed route has.
+    sums: Vec<Option<u64>>,
     /// The marks of the operations that each allowed route has.
     marks: Vec<Option<Mark>>,
     /// The operations from the exit back, where some route is allowed.
@@ -58,28 +60,29 @@ fn routes_by(
     let asks = asks_of(alloc, operations.len(), train, fixings, decisions)?;
     let swept = sweep(alloc, operations, &asks, &order)?;
     if !swept.holds {
-        let marks = Vec::new(alloc);
         return Ok(Routes {
             left: false,
             entry: 0,
-            marks,
+            sums: Vec::new(alloc),
+            marks: Vec::new(alloc),
             order: Vec::new(alloc),
             rows: List::new(alloc),
         });
     }
     let places = places_of(alloc, operations, &order)?;
-    let marks = marks_of(alloc, operations, &order, &places, &swept.rows)?;
+    let passed = passed_of(alloc, operations, &order, &places, &swept.rows)?;
     Ok(Routes {
         left: true,
         entry: last_of(&order),
-        marks,
+        sums: passed.sums,
+        marks: passed.marks,
         order,
         rows: swept.rows,
     })
 }
 
 impl Routes {
-    ghost use Rattle.route_sets.specs.Sets.{op_of_train, AreAllowedRows, follow, IsOnlyRoute, parting, IsAloneUnparted};
+    ghost use Rattle.route_sets.specs.Sets.{op_of_train, sum_at, IsOnSome, AreAllowedRows, follow, IsOnlyRoute, parting, IsAloneUnparted};
 
     /// The routes of a train that the fixings and the decisions allow. Takes time linear in the
     /// operations of the train, their successors, the fixings and the decisions.
@@ -127,6 +130,16 @@ impl Routes {
         !self.left
     }
 
+    /// The least sum of durations up to an operation that some allowed route has.
+    fn sum(&self, op: u32) -> Option<u64>
+        ensures { result ≡ sum_at self.now.sums.items op }
+    {
+        match self.sums.as_slice().get(op as usize) {
+            Some(sum) => *sum,
+            None => None,
+        }
+    }
+
     /// The mark of an operation that each allowed route has.
     fn mark(&self, op: u32) -> Option<Mark>
         ensures { result ≡ mark_at self.now.marks.items op }
@@ -161,6 +174,14 @@ impl Routes {
             → IsTrue result ↔ IsForced node (op_of_train t op) }
     {
         self.mark(op).is_some()
+    }
+
+    /// Whether some allowed route has the operation.
+    pub fn may_have(&self, op: u32) -> bool
+        ensures { (node : Node) (t : ℕ) → AreRoutesOf node t self.now
+            → IsTrue result ↔ IsOnSome node t op }
+    {
+        self.sum(op).is_some()
     }
 
     /// The operation that each allowed route goes on to from a forced one.

@@ -1,9 +1,5 @@
 -- The ground of an edition.
-use Rattle.std.proofs.Common.{◌≡◌, ◌∙◌, inl, inr, arith, ℕ, ◌<◌, ◌≤◌, List, [], take, length, sym, ap, subst}
-use Rattle.std.specs.Prelude.{Some}
-use Rattle.std.proofs.lemmas.List.{take-append-le}
-use Rattle.disp_model.specs.declared.entry.Entry.{Entry}
-use Rattle.disp_model.specs.declared.fixing.Change.{Change}
+use Rattle.std.proofs.Common.{◌≡◌, ◌∙◌, inl, inr, arith, ℕ, ◌<◌, ◌≤◌, List, [], sym, ap, subst}
 use Rattle.disp_model.specs.declared.fixing.Fixing.{Fixing}
 use Rattle.disp_model.specs.declared.problem.Problem.{Problem}
 use Rattle.disp_model.specs.declared.settings.Rule.{Rule}
@@ -16,11 +12,9 @@ use Rattle.dispatch_core.proofs.Replacing.{newest_fixings}
 use Rattle.event_graph.specs.Joined.{IsOfEdition}
 use Rattle.history_laws.proofs.Legality.{editions_are}
 use Rattle.shared_board.specs.declared.board.Board.{Board}
-use Rattle.shared_board.specs.declared.news.Edition.{Edition}
 use Rattle.shared_board.specs.declared.pass.Pass.{Pass}
 use Rattle.shared_board.specs.Board.{problem_of, known}
 use Rattle.shared_board.specs.Calls.{IsLegalSeen}
-use Rattle.shared_board.specs.Fresh.{IsEditionIn}
 use Rattle.shared_board.proofs.Onward.{newest_up}
 use Rattle.shared_board.proofs.Owing.{fixings_on}
 use Rattle.search_crew.specs.declared.ground.Ground.{Ground}

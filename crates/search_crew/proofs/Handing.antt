@@ -13,7 +13,6 @@ use Rattle.disp_model.specs.History.{fixings_after}
 use Rattle.disp_model.specs.Node.{Node, node_at, with_decision}
 use Rattle.disp_model.specs.Trees.{children_of}
 use Rattle.disp_model.specs.Valid.{IsValid}
-use Rattle.open_nodes.specs.declared.work.Fragment.{Fragment}
 use Rattle.open_nodes.specs.declared.work.Work.{Work}
 use Rattle.tree_growth.specs.Grown.{Helps, GrowsBelow, branches}
 use Rattle.dispatch_core.specs.States.{IsExamined}

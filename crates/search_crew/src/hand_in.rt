@@ -1,4 +1,4 @@
-ghost use Rattle.std.specs.Prelude.{◌≡◌, ◌≤◌, ℕ, All, List, Some, IfOk, true};
+ghost use Rattle.std.specs.Prelude.{◌≡◌, List, Some, IfOk, true};
 ghost use Rattle.disp_model.specs.declared.plan.Event.{Event};
 ghost use Rattle.disp_model.specs.declared.settings.Rule.{Rule as RuleOf};
 ghost use Rattle.disp_model.specs.History.{fixings_after};

@@ -1,4 +1,4 @@
-ghost use Rattle.std.specs.Prelude.{◌≡◌, ℕ, List, IfOk, Some, Ok};
+ghost use Rattle.std.specs.Prelude.{◌≡◌, List, IfOk, Some, Ok};
 ghost use Rattle.disp_model.specs.declared.fixing.Fixing.{Fixing as FixingOf};
 ghost use Rattle.disp_model.specs.declared.answer.Answer.{Answer as AnswerOf};
 ghost use Rattle.disp_model.specs.declared.settings.Rule.{Rule as RuleOf};

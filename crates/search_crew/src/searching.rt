@@ -1,7 +1,5 @@
-ghost use Rattle.std.specs.Prelude.{◌≡◌, ◌≤◌, [], ℕ, IfOk};
-ghost use Rattle.disp_model.specs.Node.{node_at};
+ghost use Rattle.std.specs.Prelude.{◌≡◌, IfOk};
 ghost use Rattle.disp_model.specs.History.{fixings_after};
-ghost use Rattle.event_graph.specs.Joined.{IsOfEdition};
 ghost use Rattle.node_leaves.specs.Reckoned.{ReckonsFor};
 ghost use Rattle.shared_board.specs.Board.{board_of, problem_of, own_board, known};
 ghost use Rattle.shared_board.specs.Calls.{IsSearcher};

@@ -4,6 +4,7 @@
 //! stopped.
 #![tactic(auto)]
 
+mod amount;
 mod effort;
 mod explorer;
 mod growth;

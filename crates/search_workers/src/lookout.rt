@@ -1,12 +1,12 @@
+use crate::amount::Amount;
 use disp_model::Problem;
 
-/// At so many nodes for each train one searcher looks at a time, at most,
-const NODES_FOR_TRAIN: u32 = 600;
-
-/// but at no fewer than these, nor at more.
-const FEWEST_NODES: u32 = 4096;
-
-const MOST_NODES: u32 = 40_000;
+/// At how many nodes one searcher of a problem looks at a time, at most.
+const NODES: Amount = Amount {
+    for_train: 600,
+    fewest: 4096,
+    most: 40_000,
+};
 
 /// The same where changes may come.
 const PROMPT_NODES: u32 = 4096;
@@ -57,15 +57,6 @@ pub(crate) struct Look {
     pub nodes: u32,
 }
 
-/// At how many nodes one searcher of a problem looks at a time, at most.
-fn nodes_for(problem: &Problem) -> u32 {
-    let trains = u32::try_from(problem.trains.len()).unwrap_or(u32::MAX);
-    trains
-        .saturating_mul(NODES_FOR_TRAIN)
-        .max(FEWEST_NODES)
-        .min(MOST_NODES)
-}
-
 impl Lookout {
     /// The lookout of a searcher at this place that looks at so many nodes at a time, at most.
     /// Where no branch is allowed it never looks.
@@ -86,7 +77,7 @@ impl Lookout {
     /// The lookout of a searcher at a place of so many where the problem stays as it is: the more
     /// trains there are, the more it looks at a time, and the more searchers, the less.
     pub fn steady(problem: &Problem, place: u32, count: u32, budget: u32) -> Lookout {
-        let most = nodes_for(problem).saturating_mul(2) / count.saturating_add(1).max(1);
+        let most = NODES.of(problem).saturating_mul(2) / count.saturating_add(1).max(1);
         Lookout::of(place, most, budget)
     }
 

@@ -1,3 +1,4 @@
+use crate::amount::Amount;
 use crate::growth::{Growth, size_of};
 use crate::lookout::Lookout;
 use disp_model::{Fixing, Memory, Plan, Problem};
@@ -6,11 +7,12 @@ use std::alloc::Global;
 use train_insertion::{INSERTIONS, Target, target};
 use tree_dives::Guide;
 
-/// How often trains are put in for a first target, for each train of the problem: no fewer times
-/// than by default, and no more than these.
-const INSERTIONS_FOR_TRAIN: u32 = 250;
-
-const MOST_INSERTIONS: u32 = 30_000;
+/// How many trains are put in for a first target.
+const FIRST_INSERTIONS: Amount = Amount {
+    for_train: 250,
+    fewest: INSERTIONS,
+    most: 30_000,
+};
 
 /// How many trains are put in for a target where an order of trains is known from the last one.
 const INSERTIONS_AGAIN: u32 = 4000;
@@ -22,20 +24,11 @@ pub(crate) struct Scout {
     pub lookout: Lookout,
 }
 
-/// How many trains are put in for a first target: the more there are, the more.
-fn insertions_for(problem: &Problem) -> u32 {
-    let trains = u32::try_from(problem.trains.len()).unwrap_or(u32::MAX);
-    trains
-        .saturating_mul(INSERTIONS_FOR_TRAIN)
-        .max(INSERTIONS)
-        .min(MOST_INSERTIONS)
-}
-
 /// How many trains are put in for a target, where this order of trains is known from the last one,
 /// if it is one.
 fn insertions_after(problem: &Problem, order: &[u32]) -> u32 {
     if order.is_empty() {
-        insertions_for(problem)
+        FIRST_INSERTIONS.of(problem)
     } else {
         INSERTIONS_AGAIN
     }

@@ -1,4 +1,4 @@
-ghost use Rattle.std.specs.Prelude.{◌≡◌, IfOk};
+ghost use Rattle.std.specs.Prelude.{IfOk};
 ghost use Rattle.dispatch_core.specs.Asked.{MayStep};
 ghost use Rattle.dispatch_core.specs.Replies.{Steps};
 ghost use Rattle.search_workers.specs.Searched.{CoreGoesOn, IsSearchEvent, IsTurn};

@@ -5,7 +5,6 @@ use Rattle.std.proofs.lemmas.Bool.{eq-eqb}
 use Rattle.disp_model.specs.declared.entry.Entry.{Entry}
 use Rattle.disp_model.specs.declared.entry.Entry.TheVariants.{Asked}
 use Rattle.disp_model.specs.declared.fixing.Change.{Change}
-use Rattle.disp_model.specs.declared.reply.Reply.{Reply}
 use Rattle.dispatch_core.specs.declared.event.CoreEvent.TheVariants as event
 use Rattle.dispatch_core.specs.declared.event.CoreReply.{CoreReply}
 use Rattle.dispatch_core.specs.declared.event.CoreReply.TheVariants as reply

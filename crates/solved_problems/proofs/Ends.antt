@@ -1,8 +1,8 @@
 -- What the history of a run says, once all passes are joined.
-use Rattle.std.proofs.Common.{◌≡◌, ◌∙◌, ℕ, zero, suc, ◌+◌, ◌<◌, ◌≤◌, ◌⊎◌, inl, inr, ⊎_elim, Bool, true, false, cond, List, [], ◌∷◌, ◌++◌, All, Contains, get_or, length, refl, sym, ap, subst, arith}
-use Rattle.std.specs.Prelude.{◌≢◌, Some, slice_get, filter}
-use Rattle.std.proofs.lemmas.Bool.{cases_lt, eq-eqb}
-use Rattle.std.proofs.lemmas.List.Elements.{All-contains, All-from_get_or}
+use Rattle.std.proofs.Common.{◌≡◌, ◌∙◌, ℕ, ◌+◌, ◌<◌, ◌≤◌, ◌⊎◌, inl, inr, ⊎_elim, true, List, [], ◌∷◌, ◌++◌, All, Contains, get_or, length, refl, ap, arith}
+use Rattle.std.specs.Prelude.{◌≢◌, Some, slice_get}
+use Rattle.std.proofs.lemmas.Bool.{eq-eqb}
+use Rattle.std.proofs.lemmas.List.Elements.{All-contains}
 use Rattle.std.proofs.lemmas.Option.{slice_get-get_or, slice_get_within}
 use Rattle.plain_values.proofs.Lists.{contains_none_where}
 use Rattle.disp_model.specs.declared.entry.Entry.{Entry}
@@ -16,10 +16,9 @@ use Rattle.disp_model.specs.Legal.{IsLegal}
 use Rattle.search_workers.specs.Searched.{IsOfSearch}
 use Rattle.turn_lock.specs.Known.{Known, StartsWith}
 use Rattle.turn_lock.specs.Section.{OwnsPlaces}
-use Rattle.turn_lock.proofs.Beginnings.{starts_back, starts_get}
+use Rattle.turn_lock.proofs.Beginnings.{starts_back}
 use Rattle.shared_board.specs.declared.terms.Terms.{Terms}
-use Rattle.shared_board.specs.Callers.{caller_of, is_line_of, lines_of, searcher_caller}
-use Rattle.shared_board.specs.Onward.{entries_by}
+use Rattle.shared_board.specs.Callers.{caller_of, is_line_of}
 use Rattle.shared_board.proofs.LineCounts.{behind_get}
 use Rattle.joined_passes.specs.Joined.{joined_all}
 use Rattle.joined_passes.proofs.Owning.{place_of, no_line}

@@ -1,5 +1,5 @@
 -- The history of a problem that is solved with changes asked before the search.
-use Rattle.std.specs.Prelude.{◌≡◌, ◌≢◌, ℕ, suc, ◌+◌, ◌≤◌, true, List, [], ◌∷◌, ◌++◌, All, Contains, Some, length, slice_get}
+use Rattle.std.specs.Prelude.{◌≡◌, ◌≢◌, ℕ, suc, ◌+◌, ◌≤◌, List, [], ◌∷◌, ◌++◌, All}
 use Rattle.disp_model.specs.declared.entry.Entry.{Entry}
 use Rattle.disp_model.specs.declared.entry.Entry.TheVariants.{Asked, Unread, Shown, Grown, Published, Settled, Stopped}
 use Rattle.disp_model.specs.declared.entry.Mark.TheVariants.{Working}
@@ -16,7 +16,7 @@ use Rattle.turn_lock.specs.Section.{OwnsPlaces}
 use Rattle.shared_board.specs.declared.pass.Pass.{Pass}
 use Rattle.shared_board.specs.declared.terms.Terms.{Terms}
 use Rattle.shared_board.specs.Board.{known, lines}
-use Rattle.shared_board.specs.Callers.{caller_of, is_line_of, lines_of}
+use Rattle.shared_board.specs.Callers.{caller_of, lines_of}
 use Rattle.shared_board.specs.Onward.{entries_by}
 
 -- the entry of the line of this number of the feed 0, which asks for a change that is taken

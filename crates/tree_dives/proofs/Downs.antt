@@ -16,7 +16,7 @@ use Rattle.node_leaves.proofs.Showing.{no_route_leaf, cycle_leaf}
 use Rattle.disp_model.specs.Trees.{children_of}
 use Rattle.disp_model.specs.declared.settings.Rule.{Rule}
 use Rattle.disp_laws.proofs.OpenChoices.{picked_is_choice}
-use Rattle.tree_growth.specs.Grown.{GrowsBelow, Helps, KeepsBound, branches}
+use Rattle.tree_growth.specs.Grown.{GrowsBelow, Helps, IsGrownLeaf, branches}
 use Rattle.tree_growth.proofs.Children.{children_fit}
 use Rattle.tree_dives.specs.Halves.{Sides}
 use Rattle.tree_dives.specs.Downs.{GoesDown}
@@ -54,9 +54,9 @@ module _ (rule : Rule) (choice : Choice) (here below : Node) (old : Sides) (k : 
 
   -- no child is followed: the one that would be is refused, and is a leaf too
   pub none_followed : (first last : List Decision) (decision : Decision) (left right : List TreeNode) (leaf : TreeLeaf) (bound : ℕ) (left_bounds right_bounds : List ℕ) → children_of here.problem choice ≡ first ++ decision ∷ last
-      → ((best : Option ℕ) → GrowsBelow rule best (map (with_decision here) first) left left_bounds) → KeepsBound rule (with_decision here decision) leaf bound → ((best : Option ℕ) → GrowsBelow rule best (map (with_decision here) last) right right_bounds) → branches left ≡ 0 → branches right ≡ 0
+      → ((best : Option ℕ) → GrowsBelow rule best (map (with_decision here) first) left left_bounds) → IsGrownLeaf rule (with_decision here decision) leaf bound → ((best : Option ℕ) → GrowsBelow rule best (map (with_decision here) last) right right_bounds) → branches left ≡ 0 → branches right ≡ 0
       → GoesDown rule choice here old below (record { before = (((old.before ++ Branch choice k ∷ []) ++ left) ++ Leaf leaf ∷ []) ++ right; before_bounds = ((old.before_bounds ++ left_bounds) ++ bound ∷ []) ++ right_bounds; behind = old.behind; behind_bounds = old.behind_bounds }) false
-  none_followed first last decision left right leaf bound left_bounds right_bounds parts one keeps other none none_right =
+  none_followed first last decision left right leaf bound left_bounds right_bounds parts one grown other none none_right =
       subst (λ (b : List ℕ). GoesDown rule choice here old below (record { before = (((old.before ++ Branch choice k ∷ []) ++ left) ++ Leaf leaf ∷ []) ++ right; before_bounds = b; behind = old.behind; behind_bounds = old.behind_bounds }) false) (grouped old.before_bounds left_bounds (bound ∷ []) right_bounds)
       (subst (λ (t : List TreeNode). GoesDown rule choice here old below (record { before = t; before_bounds = old.before_bounds ++ ((left_bounds ++ bound ∷ []) ++ right_bounds); behind = old.behind; behind_bounds = old.behind_bounds }) false) (grouped (old.before ++ Branch choice k ∷ []) left (Leaf leaf ∷ []) right)
       (all_leaves ((left ++ Leaf leaf ∷ []) ++ right) ((left_bounds ++ bound ∷ []) ++ right_bounds) grows (omega (arith, branches_append (left ++ Leaf leaf ∷ []) right, branches_leaf left leaf, none, none_right))))
@@ -69,4 +69,4 @@ module _ (rule : Rule) (choice : Choice) (here below : Node) (old : Sides) (k : 
           subst (λ (l : List Node). GrowsBelow rule best l ((left ++ Leaf leaf ∷ []) ++ right) ((left_bounds ++ bound ∷ []) ++ right_bounds))
           (append_assoc (map (with_decision here) first) (with_decision here decision ∷ []) (map (with_decision here) last) ∙ sym (ap (map (with_decision here)) parts ∙ map-append (with_decision here) first (decision ∷ last)))
           (side_by_side rule best (map (with_decision here) first ++ with_decision here decision ∷ []) (map (with_decision here) last) (left ++ Leaf leaf ∷ []) right (left_bounds ++ bound ∷ []) right_bounds
-          (side_by_side rule best (map (with_decision here) first) (with_decision here decision ∷ []) left (Leaf leaf ∷ []) left_bounds (bound ∷ []) (one best) (leaf_alone rule best (with_decision here decision) leaf bound keeps)) (other best))
+          (side_by_side rule best (map (with_decision here) first) (with_decision here decision ∷ []) left (Leaf leaf ∷ []) left_bounds (bound ∷ []) (one best) (leaf_alone rule best (with_decision here decision) leaf bound grown)) (other best))

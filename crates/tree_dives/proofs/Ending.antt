@@ -28,7 +28,7 @@ use Rattle.tree_dives.specs.Wholes.{IsDiveWhole, with_leaf}
 use Rattle.tree_dives.specs.declared.given.Dive.{Dive}
 use Rattle.tree_dives.specs.declared.stage.End.{End}
 use Rattle.tree_dives.specs.declared.stage.End.TheVariants.{Closed, Plan, Open}
-use Rattle.tree_dives.proofs.Growing.{keeps, leaf_alone, branches_append, branches_leaf, branches_back}
+use Rattle.tree_dives.proofs.Growing.{grown, leaf_alone, branches_append, branches_leaf, branches_back}
 
 -- what the first place has beside it
 abbrev pub nothing_beside : Sides
@@ -64,7 +64,7 @@ module _ (rule : Rule) (best : Option ℕ) (root : Node) (allowance : ℕ) where
 
     leaf_grows : GrowsBelow rule best (root ∷ []) dive.nodes dive.bounds
     leaf_grows = rw (whole.nodes, whole.bounds)
-        (complete (Leaf (leaf_held shown) ∷ []) (bound_in shown ∷ []) (leaf_alone rule best here (leaf_held shown) (bound_in shown) (keeps rule here shown is)))
+        (complete (Leaf (leaf_held shown) ∷ []) (bound_in shown ∷ []) (leaf_alone rule best here (leaf_held shown) (bound_in shown) (grown rule here shown is)))
 
     -- the last place is a leaf
     pub ended_dive : branches_in sides ≤ allowance → IsEndOf rule root best allowance dive.nodes dive.bounds end → IsDive rule root best allowance dive

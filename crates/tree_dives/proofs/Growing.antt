@@ -9,6 +9,8 @@ use Rattle.disp_model.specs.declared.tree.TreeNode.{TreeNode}
 use Rattle.disp_model.specs.declared.tree.TreeNode.TheVariants.{Branch, Leaf}
 use Rattle.disp_model.specs.declared.tree.Verdict.TheVariants.{Optimal}
 use Rattle.disp_model.specs.Node.{Node, with_decision}
+use Rattle.disp_model.specs.Nodes.{IsDead}
+use Rattle.disp_model.specs.Shares.{IsBound}
 use Rattle.disp_model.specs.Trees.{children_of}
 use Rattle.node_leaves.specs.declared.leaf.NodeLeaf.{NodeLeaf}
 use Rattle.node_leaves.specs.declared.leaf.NodeLeaf.TheVariants.{Dead, Open}
@@ -16,7 +18,7 @@ use Rattle.node_leaves.specs.Shown.{ListsBy, IsLeafOf}
 use Rattle.tree_dives.specs.Halves.{Sides, Completes, AreSidesComplete, IsBelowNode}
 use Rattle.disp_model.specs.declared.settings.Rule.{Rule}
 use Rattle.disp_model.specs.declared.settings.Rule.TheVariants.{Fixed, Free}
-use Rattle.tree_growth.specs.Grown.{Helps, LeafCounts, KeepsBound, GrowsBelow, branches}
+use Rattle.tree_growth.specs.Grown.{Helps, LeafCounts, KeepsBound, IsGrownLeaf, GrowsBelow, branches}
 use Rattle.tree_dives.specs.Leaves.{leaf_held, bound_in}
 
 -- whatever a leaf lists counts for nothing
@@ -37,9 +39,17 @@ counts_listed Fixed (Costs walks) bound by = tt
 counts_listed Fixed (Shares walks trains) bound by = absurd by
 counts_listed Free leaf bound by = tt
 
-pub keeps : (rule : Rule) (node : Node) (shown : NodeLeaf) → IsLeafOf rule node shown → KeepsBound rule node (leaf_held shown) (bound_in shown)
+keeps : (rule : Rule) (node : Node) (shown : NodeLeaf) → IsLeafOf rule node shown → KeepsBound rule node (leaf_held shown) (bound_in shown)
 keeps rule node (Dead leaf) is = record { holds = is.holds (Optimal 0); counts = counts_none rule leaf; fits = is.fits }
 keeps rule node (Open leaf bound) is = record { holds = is.holds bound (omega arith); counts = counts_listed rule leaf bound is.lists; fits = is.fits }
+
+-- what a node shows is a leaf that is grown
+pub grown : (rule : Rule) (node : Node) (shown : NodeLeaf) → IsLeafOf rule node shown → IsGrownLeaf rule node (leaf_held shown) (bound_in shown)
+grown rule node shown is = record { keeps = keeps rule node shown is; own = own_bound shown is }
+  where
+    own_bound : (shown : NodeLeaf) → IsLeafOf rule node shown → (IsDead node → ⊥) → IsBound node rule (bound_in shown)
+    own_bound (Dead leaf) is alive = absurd (alive is.dead)
+    own_bound (Open leaf bound) is alive = is.is_bound
 
 -- side by side
 pub side_by_side : (rule : Rule) (best : Option ℕ) (places more : List Node) (tree tree_more : List TreeNode) (bounds bounds_more : List ℕ) → GrowsBelow rule best places tree bounds → GrowsBelow rule best more tree_more bounds_more → GrowsBelow rule best (places ++ more) (tree ++ tree_more) (bounds ++ bounds_more)
@@ -54,8 +64,8 @@ side_by_side rule best (node ∷ places) more (Branch choice children ∷ tree) 
     (one.0, one.1, subst (λ (l : List Node). GrowsBelow rule best l (tree ++ tree_more) (bounds ++ bounds_more)) (append_assoc below places more) (side_by_side rule best (below ++ places) more tree tree_more bounds bounds_more one.2 other))
 
 -- one leaf
-pub leaf_alone : (rule : Rule) (best : Option ℕ) (node : Node) (leaf : TreeLeaf) (bound : ℕ) → KeepsBound rule node leaf bound → GrowsBelow rule best (node ∷ []) (Leaf leaf ∷ []) (bound ∷ [])
-leaf_alone rule best node leaf bound keeps = (keeps, tt)
+pub leaf_alone : (rule : Rule) (best : Option ℕ) (node : Node) (leaf : TreeLeaf) (bound : ℕ) → IsGrownLeaf rule node leaf bound → GrowsBelow rule best (node ∷ []) (Leaf leaf ∷ []) (bound ∷ [])
+leaf_alone rule best node leaf bound is = (is, tt)
 
 -- one leaf more
 pub leaf_more : (rule : Rule) (best : Option ℕ) (node : Node) (decisions : List Decision) (i : ℕ) (d : Decision) (shown : NodeLeaf) (tree : List TreeNode) (bounds : List ℕ) → i < length decisions → IsLeafOf rule (with_decision node (get_or decisions i d)) shown
@@ -65,7 +75,7 @@ leaf_more rule best node decisions i d shown tree bounds lt is grows =
     let places : map (with_decision node) (take i decisions) ++ here ∷ [] ≡ map (with_decision node) (take (i + 1) decisions) =
     sym (ap (map (with_decision node)) (take_more decisions i d lt) ∙ map-append (with_decision node) (take i decisions) (get_or decisions i d ∷ [])) in
     subst (λ (l : List Node). GrowsBelow rule best l (tree ++ Leaf (leaf_held shown) ∷ []) (bounds ++ bound_in shown ∷ [])) places
-    (side_by_side rule best (map (with_decision node) (take i decisions)) (here ∷ []) tree (Leaf (leaf_held shown) ∷ []) bounds (bound_in shown ∷ []) grows (leaf_alone rule best here (leaf_held shown) (bound_in shown) (keeps rule here shown is)))
+    (side_by_side rule best (map (with_decision node) (take i decisions)) (here ∷ []) tree (Leaf (leaf_held shown) ∷ []) bounds (bound_in shown ∷ []) grows (leaf_alone rule best here (leaf_held shown) (bound_in shown) (grown rule here shown is)))
 
 -- a branch, with what grows at its children
 pub branch_alone : (rule : Rule) (best : Option ℕ) (node : Node) (choice : Choice) (children : ℕ) (tree : List TreeNode) (bounds : List ℕ) → Helps rule best node choice → children ≡ length (children_of node.problem choice)

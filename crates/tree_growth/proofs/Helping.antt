@@ -1,4 +1,4 @@
--- What grows at places helps and keeps its bounds, and the other way round.
+-- What grows at places helps and keeps its bounds.
 use Rattle.std.proofs.Common.{ℕ, List, [], ◌∷◌, ◌++◌, map}
 use Rattle.std.specs.Prelude.{Option}
 use Rattle.disp_model.specs.declared.settings.Rule.{Rule}
@@ -28,20 +28,9 @@ module _ (rule : Rule) (best : Option ℕ) where
   grows_keeps (top ∷ tree) [] bounds grows = absurd grows
   grows_keeps [] (node ∷ places) bounds grows = absurd grows
   grows_keeps (Leaf leaf ∷ tree) (node ∷ places) [] grows = absurd grows
-  grows_keeps (Leaf leaf ∷ tree) (node ∷ places) (bound ∷ bounds) grows = (grows.0, grows_keeps tree places bounds grows.1)
+  grows_keeps (Leaf leaf ∷ tree) (node ∷ places) (bound ∷ bounds) grows = (grows.0.keeps, grows_keeps tree places bounds grows.1)
   grows_keeps (Branch choice children ∷ tree) (node ∷ places) bounds grows = (
     picked_is_choice node rule choice grows.0.picked,
     grows.1,
     grows_keeps tree (map (with_decision node) (children_of node.problem choice) ++ places) bounds grows.2,
   )
-
-  -- what does both grows
-  pub both_grow : (tree : List TreeNode) (places : List Node) (bounds : List ℕ) → AreHelpful rule best places tree bounds → KeepBounds rule places tree bounds → GrowsBelow rule best places tree bounds
-  both_grow [] [] [] helps keeps = tt
-  both_grow [] [] (bound ∷ bounds) helps keeps = absurd keeps
-  both_grow (top ∷ tree) [] bounds helps keeps = absurd keeps
-  both_grow [] (node ∷ places) bounds helps keeps = absurd keeps
-  both_grow (Leaf leaf ∷ tree) (node ∷ places) [] helps keeps = absurd keeps
-  both_grow (Leaf leaf ∷ tree) (node ∷ places) (bound ∷ bounds) helps keeps = (keeps.0, both_grow tree places bounds helps keeps.1)
-  both_grow (Branch choice children ∷ tree) (node ∷ places) bounds helps keeps =
-      (helps.0, helps.1, both_grow tree (map (with_decision node) (children_of node.problem choice) ++ places) bounds helps.2 keeps.2)

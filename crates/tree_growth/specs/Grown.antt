@@ -36,6 +36,11 @@ pub record KeepsBound (rule : Rule) (node : Node) (leaf : TreeLeaf) (bound : ℕ
   pub counts : LeafCounts rule leaf bound
   pub fits : FitsLeaf leaf
 
+-- a leaf that is grown keeps its bound, and that is the node's own where the node is not dead
+pub record IsGrownLeaf (rule : Rule) (node : Node) (leaf : TreeLeaf) (bound : ℕ) : Type 0 where
+  pub keeps : KeepsBound rule node leaf bound
+  pub own : (IsDead node → ⊥) → IsBound node rule bound
+
 -- the nodes fill the places, from the first on: each branch helps, each leaf has a bound
 abbrev pub AreHelpful : Rule → Option ℕ → List Node → List TreeNode → List ℕ → Type 0
 AreHelpful rule best [] [] [] = Unit {0}
@@ -65,7 +70,8 @@ KeepBounds rule (node ∷ places) (Branch choice children ∷ tree) bounds =
     × KeepBounds rule (map (with_decision node) (children_of node.problem choice) ++ places) tree
     bounds
 
--- the nodes fill the places, from the first on: each branch helps, each leaf keeps its bound
+-- the nodes fill the places, from the first on: each branch helps, each leaf keeps the bound of its
+-- node
 abbrev pub GrowsBelow : Rule → Option ℕ → List Node → List TreeNode → List ℕ → Type 0
 GrowsBelow rule best [] [] [] = Unit {0}
 GrowsBelow rule best [] [] (bound ∷ bounds) = ⊥
@@ -73,7 +79,7 @@ GrowsBelow rule best [] (top ∷ tree) bounds = ⊥
 GrowsBelow rule best (node ∷ places) [] bounds = ⊥
 GrowsBelow rule best (node ∷ places) (Leaf leaf ∷ tree) [] = ⊥
 GrowsBelow rule best (node ∷ places) (Leaf leaf ∷ tree) (bound ∷ bounds) =
-    KeepsBound rule node leaf bound × GrowsBelow rule best places tree bounds
+    IsGrownLeaf rule node leaf bound × GrowsBelow rule best places tree bounds
 GrowsBelow rule best (node ∷ places) (Branch choice children ∷ tree) bounds =
     Helps rule best node choice × (children ≡ length (children_of node.problem choice))
     × GrowsBelow rule best (map (with_decision node) (children_of node.problem choice) ++ places)

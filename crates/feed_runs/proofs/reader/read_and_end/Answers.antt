@@ -1,4 +1,4 @@
-use Rattle.std.proofs.Common.{◌≡◌, ◌∙◌, ℕ, List, IfSome, sym, ap, subst}
+use Rattle.std.proofs.Common.{◌≡◌, ◌∙◌, ℕ, List, IfSome, sym, subst}
 use Rattle.disp_model.specs.declared.entry.Entry.{Entry}
 use Rattle.shared_board.specs.Board.{known}
 use Rattle.shared_board.specs.Onward.{entries_by}

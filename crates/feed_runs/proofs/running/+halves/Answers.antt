@@ -1,4 +1,4 @@
-use Rattle.std.proofs.Common.{◌++◌, List, sym, subst}
+use Rattle.std.proofs.Common.{◌++◌, sym, subst}
 use Rattle.feed_runs.specs.Readers.{HaveRead}
 use Rattle.feed_runs.proofs.Halving.{have_both}
 use Rattle.feed_runs.proofs.running.+halves.Goals as goal

@@ -19,8 +19,8 @@ returns-then-not-has_way c =
     c.requires.sums (λ some. false≢true (c.if-not-has_way.ensures.1 some)) is)
     c.all_marked.ensures
 
-pub marks_of-requires-clause-laid : goal.marks_of-requires-clause-laid
-marks_of-requires-clause-laid c =
+pub passed_of-requires-clause-laid : goal.passed_of-requires-clause-laid
+passed_of-requires-clause-laid c =
     let entry : IsSome (sum_at c.args.sums.now (last_of c.args.order.now)) =
     subst (λ (e : ℕ). IsSome (sum_at c.args.sums.now e)) c.requires.entry (c.if-not-has_way.ensures.0 refl) in
     laid c.args.train.now c.args.order.now c.args.places.now c.args.demands.now c.args.sums.now c.in_ok-rows.rows
@@ -35,7 +35,7 @@ returns c =
     let sums = c.args.sums.now in
     let marks : List (Option Mark) = c.deref.result.now in
     let has : HasMarks train order c.in_ok-rows.rows marks =
-    subst (λ (l : List (Option Mark)). HasMarks train order c.in_ok-rows.rows l) (sym c.deref.ensures.value) c.in_ok-marks.ensures in
+    subst (λ (l : List (Option Mark)). HasMarks train order c.in_ok-rows.rows l) (sym c.deref.ensures.value) c.in_ok-passed.ensures.marks in
     let entry : IsSome (sum_at sums (last_of order)) = subst (λ (e : ℕ). IsSome (sum_at sums e)) c.requires.entry (c.if-not-has_way.ensures.0 refl) in
     let each : AreOnEach train places demands c.args.entry (map is_some marks) =
     subst (λ (e : ℕ). AreOnEach train places demands e (map is_some marks)) (sym c.requires.entry)

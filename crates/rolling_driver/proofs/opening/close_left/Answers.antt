@@ -1,4 +1,4 @@
-use Rattle.std.proofs.Common.{◌≡◌, ◌-◌, false, length, map, sym, subst, arith}
+use Rattle.std.proofs.Common.{◌≡◌, ◌-◌, false, subst, arith}
 use Rattle.std.proofs.lemmas.List.{get_or-map, length-map}
 use Rattle.rolling_driver.proofs.opening.close_left.Goals as goal
 

@@ -1,9 +1,7 @@
-use Rattle.std.proofs.Common.{◌≡◌, ℕ, List, Option, Some, subst}
-use Rattle.disp_model.specs.declared.plan.Event.{Event}
+use Rattle.std.proofs.Common.{◌≡◌, subst}
 use Rattle.disp_model.specs.History.{fixings_after}
 use Rattle.disp_model.specs.Node.{node_at}
 use Rattle.shared_board.specs.Board.{problem_of, known}
-use Rattle.search_workers.specs.declared.growth.Growth.{Growth}
 use Rattle.search_workers.specs.Grown.{IsGrownOf}
 use Rattle.search_crew.proofs.Handing.{examined_of, growth_of, plan_of}
 use Rattle.search_crew.proofs.hand_in.hand_in_growth.Goals as goal

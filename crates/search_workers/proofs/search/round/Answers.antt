@@ -1,5 +1,4 @@
-use Rattle.std.proofs.Common.{◌∙◌, ap}
-use Rattle.disp_model.specs.declared.settings.Settings.{Settings}
+use Rattle.std.proofs.Common.{◌∙◌}
 use Rattle.search_workers.proofs.GoingOn.{on_on}
 use Rattle.search_workers.proofs.search.round.Goals as goal
 

@@ -11,7 +11,7 @@ use Rattle.tree_dives.specs.Leaves.{leaf_held, bound_in}
 use Rattle.tree_dives.specs.Halves.{IsBelowNode}
 use Rattle.tree_dives.specs.Downs.{sides_of}
 use Rattle.tree_growth.proofs.Children.{children_few}
-use Rattle.tree_dives.proofs.Growing.{keeps, deeper_by_one}
+use Rattle.tree_dives.proofs.Growing.{grown, deeper_by_one}
 use Rattle.tree_dives.proofs.Downs.{some_child, all_leaves, one_followed, none_followed}
 use Rattle.tree_dives.proofs.down.go_down.Goals as goal
 use Rattle.tree_dives.proofs.down.go_down.Goals.{After-split_at}
@@ -77,7 +77,7 @@ returns-clause-down c =
     (none_followed c.args.reckoning.now.rule c.args.choice node node (sides_of c.args.halves.now) c.len.result (counted d) c.split_at.result.0.now c.in-Some.last.now c.in-Some.followed.now c.in_ok-left.left.nodes.items c.in_ok-right.right.nodes.items (leaf_held c.in_ok-leaf.leaf) (bound_in c.in_ok-leaf.leaf) c.in_ok-left.left.bounds.items c.in_ok-right.right.bounds.items
     (parted d ∙ ap (λ (l : List Decision). c.split_at.result.0.now ++ l) c.in-Some.ensures.cases.0)
     (λ best. subst (λ (n : Node). GrowsBelow c.args.reckoning.now.rule best (map (with_decision n) c.split_at.result.0.now) c.in_ok-left.left.nodes.items c.in_ok-left.left.bounds.items) c.preferred-place.ensures.same (c.in_ok-left.ensures.grows best))
-    (keeps c.args.reckoning.now.rule (with_decision node c.in-Some.followed.now) c.in_ok-leaf.leaf (subst (λ (n : Node). IsLeafOf c.args.reckoning.now.rule (with_decision n c.in-Some.followed.now) c.in_ok-leaf.leaf) still c.in_ok-leaf.ensures.leaf))
+    (grown c.args.reckoning.now.rule (with_decision node c.in-Some.followed.now) c.in_ok-leaf.leaf (subst (λ (n : Node). IsLeafOf c.args.reckoning.now.rule (with_decision n c.in-Some.followed.now) c.in_ok-leaf.leaf) still c.in_ok-leaf.ensures.leaf))
     (λ best. subst (λ (n : Node). GrowsBelow c.args.reckoning.now.rule best (map (with_decision n) c.in-Some.last.now) c.in_ok-right.right.nodes.items c.in_ok-right.right.bounds.items) kept (c.in_ok-right.ensures.grows best))
     c.in_ok-left.ensures.leaves c.in_ok-right.ensures.leaves)
 

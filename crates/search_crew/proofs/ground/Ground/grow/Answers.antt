@@ -1,4 +1,4 @@
-use Rattle.std.proofs.Common.{◌≡◌, [], List, rules, subst}
+use Rattle.std.proofs.Common.{◌≡◌, [], rules, subst}
 use Rattle.std.proofs.lemmas.Result.{IfOk-weaker}
 use Rattle.disp_model.specs.Node.{node_at}
 use Rattle.node_leaves.specs.Shown.{IsDeadLeaf}
