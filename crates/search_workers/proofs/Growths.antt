@@ -17,7 +17,7 @@ use Rattle.tree_dives.specs.declared.given.Dive.{Dive}
 use Rattle.tree_dives.specs.declared.stage.End.{End}
 use Rattle.tree_dives.specs.declared.stage.End.TheVariants as ends
 use Rattle.tree_dives.specs.Dives.{EndsInPlan, IsEndOf, IsDive}
-use Rattle.tree_dives.proofs.Growing.{keeps, leaf_alone}
+use Rattle.tree_dives.proofs.Growing.{grown as grown_leaf, leaf_alone}
 use Rattle.dispatch_core.specs.States.{IsExamined}
 use Rattle.search_workers.specs.declared.growth.Growth.{Growth}
 use Rattle.search_workers.specs.declared.growth.Growth.TheVariants as growth
@@ -35,7 +35,7 @@ plan_within node best bounds plan edition ends =
 pub alone_grows : (rule : Rule) (node : Node) (best : Option ℕ) (allowance bound : ℕ) (leaf : TreeLeaf) → IsDeadLeaf node leaf
     → (grown : Growth) → grown ≡ growth.Subtree (Leaf leaf ∷ []) (0 ∷ []) None → IsGrownOf rule node best allowance bound grown
 alone_grows rule node best allowance bound leaf is grown same =
-    subst (IsGrownOf rule node best allowance bound) (sym same) (leaf_alone rule best node leaf 0 (keeps rule node (Dead leaf) is), omega arith, λ found none. absurd (none-some found none))
+    subst (IsGrownOf rule node best allowance bound) (sym same) (leaf_alone rule best node leaf 0 (grown_leaf rule node (Dead leaf) is), omega arith, λ found none. absurd (none-some found none))
 
 module _ (rule : Rule) (node : Node) (best : Option ℕ) (allowance bound : ℕ) (dive : Dive) (is : IsDive rule node best allowance dive) where
   pub without_plan : IsGrownOf rule node best allowance bound (growth.Subtree dive.nodes dive.bounds None)
