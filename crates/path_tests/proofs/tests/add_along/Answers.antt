@@ -12,4 +12,4 @@ add_counted-requires-clause-short g c none =
     few_short network.lowers (network.arcs ++ c.args.arc ∷ []) c.requires.lowers (All-push (λ (a : Arc). a.length < 2 ^ 32) network.arcs c.args.arc c.requires.lengths (omega arith)) (omega (arith, length_push network.arcs c.args.arc, ap length c.arcs-kept.ensures.all)) none
 
 pub returns : goal.returns
-returns g c = record { steps = c.add_counted.ensures.few (omega (arith, c.place-low.ensures.is, c.place-high.ensures.is, ap (λ (l : List ℕ). slice_index l c.args.arc.from) c.order.ensures.is, ap (λ (l : List ℕ). slice_index l c.args.arc.to) c.order.ensures.is)) c.length-start.result c.length-end.result c.length-start.ensures.longest c.length-end.ensures.longest (omega arith) }
+returns g c = record { steps = c.add_counted.ensures.few (omega (arith, c.place-low.ensures.is, c.place-high.ensures.is, ap (λ (l : List ℕ). slice_index l c.args.arc.from) c.order-order.ensures.is, ap (λ (l : List ℕ). slice_index l c.args.arc.to) c.order-order.ensures.is)) c.length-start.result c.length-end.result c.length-start.ensures.longest c.length-end.ensures.longest (omega arith) }
