@@ -34,6 +34,3 @@ pub use reply::{Refusal, Reply};
 pub use settings::{Rule, Settings};
 pub use train::{Component, Listing, Op, Operation, Train};
 pub use tree::{ComponentWalk, Leaf, TrainWalks, Tree, TreeNode, Verdict};
-
-#[cfg(test)]
-mod tests;

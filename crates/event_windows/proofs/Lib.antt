@@ -1,3 +1,2 @@
 pub mod Numbering
 pub mod Fixing
-pub mod Trains

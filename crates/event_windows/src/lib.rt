@@ -11,6 +11,3 @@ mod times;
 
 pub use numbers::operations;
 pub use starts::{Window, windows};
-
-#[cfg(test)]
-mod tests;

@@ -15,6 +15,3 @@ pub use cell::Least;
 pub use packing::{NEWEST, SATURATED, answer_of, code_of};
 pub use pass::{CellPass, Known, Share};
 pub use plain_values::Memory;
-
-#[cfg(test)]
-mod tests;

@@ -23,6 +23,3 @@ pub use json::read_json;
 pub use judge::{allow, need};
 pub use rule::{Rule, Want};
 pub use unread::Unread;
-
-#[cfg(test)]
-mod tests;

@@ -11,6 +11,3 @@ mod tournament;
 
 pub use bounds::LeastBounds;
 pub use tournament::lesser;
-
-#[cfg(test)]
-mod tests;

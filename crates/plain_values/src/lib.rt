@@ -19,6 +19,3 @@ pub use memory::Memory;
 pub use number::{NumberNo, read_number};
 pub use push::push_text;
 pub use text::Text;
-
-#[cfg(test)]
-mod tests;

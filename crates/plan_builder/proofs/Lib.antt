@@ -5,4 +5,3 @@ pub mod Ordering
 pub mod Listing
 pub mod Places
 pub mod Showing
-pub mod Trains

@@ -13,6 +13,3 @@ mod stop;
 mod stops;
 
 pub use plan::earliest;
-
-#[cfg(test)]
-mod tests;

@@ -9,6 +9,3 @@ mod above;
 mod timed;
 
 pub use timed::TimedPaths;
-
-#[cfg(test)]
-mod tests;

@@ -20,6 +20,3 @@ pub use history::History;
 pub use lock::Turn;
 pub use pass::{Meeting, Pass, View};
 pub use plain_values::Memory;
-
-#[cfg(test)]
-mod tests;

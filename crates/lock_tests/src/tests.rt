@@ -1,0 +1,3 @@
+// What two callers of one lock see, and the least cost of the newest edition.
+mod cells;
+mod turns;

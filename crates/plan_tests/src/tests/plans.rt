@@ -1,0 +1,131 @@
+// The plans of two trains of two operations each, under arcs that order them.
+ghost use Rattle.std.specs.Prelude.{◌≡◌, ◌<◌, ◌^◌, [], ◌∷◌, None, IfOk, OnOk, All, length};
+
+use disp_model::{Event, List, Memory, Operation, Problem, Train};
+use incremental_paths::Paths;
+use plan_builder::earliest;
+use std::alloc::Global;
+use std::process::Abort;
+use std::test::Fail;
+
+/// An operation that lasts so long, with what may come next.
+fn lasting(alloc: Global, min: u32, next: &[u32]) -> Result<Operation, Memory>
+    ensures { IfOk result (λ o. o
+        ≡ record { lower = 0; upper = None; min = min; listings = []; next = next.now }) }
+{
+    Ok(Operation {
+        lower: 0,
+        upper: None,
+        min,
+        listings: List::new(alloc),
+        next: List::from_vec(Vec::from_slice(alloc, next)?),
+    })
+}
+
+/// A train of two operations, the first of which lasts so long.
+fn two_steps(alloc: Global, min: u32) -> Result<Train, Memory>
+    ensures { IfOk result (λ train. train
+        ≡ record { lower = 0; upper = None; min = min; listings = []; next = 1 ∷ [] }
+        ∷ record { lower = 0; upper = None; min = 0; listings = []; next = [] } ∷ []) }
+{
+    let first = lasting(alloc, min, &[1])?;
+    let second = lasting(alloc, 0, &[])?;
+    Ok(List::from_vec(vec![in alloc; first, second]?))
+}
+
+/// Two trains, whose first operations last 10 and 4. What they list does not matter here.
+fn two_trains(alloc: Global) -> Result<Problem, Memory>
+    ensures { IfOk result (λ problem. problem.trains
+        ≡ (record { lower = 0; upper = None; min = 10; listings = []; next = 1 ∷ [] }
+        ∷ record { lower = 0; upper = None; min = 0; listings = []; next = [] } ∷ [])
+        ∷ (record { lower = 0; upper = None; min = 4; listings = []; next = 1 ∷ [] }
+        ∷ record { lower = 0; upper = None; min = 0; listings = []; next = [] } ∷ []) ∷ []) }
+{
+    let slow = two_steps(alloc, 10)?;
+    let fast = two_steps(alloc, 4)?;
+    Ok(Problem {
+        trains: List::from_vec(vec![in alloc; slow, fast]?),
+        components: List::new(alloc),
+        names: List::new(alloc),
+    })
+}
+
+/// Each train's one route.
+fn both_routes(alloc: Global) -> Result<Vec<List<u32>>, Memory>
+    ensures { IfOk result (λ routes. routes.items ≡ (0 ∷ 1 ∷ []) ∷ (0 ∷ 1 ∷ []) ∷ []) }
+{
+    let first = List::from_vec(Vec::from_slice(alloc, &[0, 1])?);
+    let second = List::from_vec(Vec::from_slice(alloc, &[0, 1])?);
+    Ok(vec![in alloc; first, second]?)
+}
+
+/// Adds an arc.
+fn add(rt: &impl Abort, paths: &mut Paths, from: u32, to: u32, by: u32) -> Result<(), Fail>
+    requires nodes { length paths.old.lowers ≡ 4 }
+    requires lowers { All (λ lower. lower < 2 ^ 32) paths.old.lowers }
+    requires lengths { All (λ arc. arc.length < 2 ^ 32) paths.old.arcs }
+    ensures nodes { OnOk result (length paths.new.lowers ≡ 4) }
+    ensures lowers { OnOk result (All (λ lower. lower < 2 ^ 32) paths.new.lowers) }
+    ensures lengths { OnOk result (All (λ arc. arc.length < 2 ^ 32) paths.new.arcs) }
+{
+    let kept = paths.arcs().len();
+    assert!(rt; kept < 1000);
+    assert!(rt; from < 4 && to < 4);
+    paths.add(from, to, u64::from(by))?;
+    Ok(())
+}
+
+/// Four nodes, and these arcs between them.
+fn paths_of(rt: &impl Abort, alloc: Global, arcs: &[(u32, u32, u32)]) -> Result<Paths, Fail>
+    ensures { IfOk result (λ paths. length paths.lowers ≡ 4) }
+{
+    let mut paths = Paths::new(alloc, &[0, 0, 0, 0])?;
+    for (from, to, length) in arcs {
+        add(rt, &mut paths, *from, *to, *length)?;
+    }
+    Ok(paths)
+}
+
+/// An arc: its two nodes and its length.
+type Step = (u32, u32, u32);
+
+/// An event: its time, train and operation.
+type Start = (u64, u32, u32);
+
+/// The plan under these arcs is this one.
+fn compare(rt: &impl Abort, alloc: Global, arcs: &[Step], wanted: &[Start]) -> Result<(), Fail> {
+    let problem = two_trains(alloc)?;
+    let routes = both_routes(alloc)?;
+    let paths = paths_of(rt, alloc, arcs)?;
+    let plan = earliest(alloc, &problem, &routes, &paths)?;
+    let found = plan.as_slice();
+    assert_eq!(rt; found.len(), wanted.len());
+    for (event, start) in found.iter().zip(wanted) {
+        assert_eq!(rt; (event.time, event.train, event.operation), *start);
+    }
+    Ok(())
+}
+
+#[test]
+fn events_come_by_time_train_and_arcs(rt: HostRuntime) -> Result<(), Fail> {
+    // Without an order of the trains.
+    let arcs = [(0, 1, 10), (2, 3, 4)];
+    let plan = [(0, 0, 0), (0, 1, 0), (4, 1, 1), (10, 0, 1)];
+    compare(&rt, rt.alloc(), &arcs, &plan)?;
+
+    // The fast train first: at time 4 its end stands before the other's start.
+    let arcs = [(0, 1, 10), (2, 3, 4), (2, 0, 4), (3, 0, 0)];
+    let plan = [(0, 1, 0), (4, 1, 1), (4, 0, 0), (14, 0, 1)];
+    compare(&rt, rt.alloc(), &arcs, &plan)?;
+
+    // The slow train first.
+    let arcs = [(0, 1, 10), (2, 3, 4), (0, 2, 10), (1, 2, 0)];
+    let plan = [(0, 0, 0), (10, 0, 1), (10, 1, 0), (14, 1, 1)];
+    compare(&rt, rt.alloc(), &arcs, &plan)?;
+
+    // All at one time: the second train overtakes the first; an arc may stand twice.
+    let arcs = [(3, 0, 0), (0, 1, 0), (2, 3, 0), (3, 0, 0)];
+    let plan = [(0, 1, 0), (0, 1, 1), (0, 0, 0), (0, 0, 1)];
+    compare(&rt, rt.alloc(), &arcs, &plan)?;
+    Ok(())
+}

@@ -1,0 +1,99 @@
+// Two trains of two operations each, and when they may start.
+ghost use Rattle.std.specs.Prelude.{◌≡◌, [], ◌∷◌, IfOk};
+
+use disp_model::{Fixing, List, Memory, Op, Operation, Problem, Train};
+use event_windows::{Window, operations, windows};
+use std::alloc::Global;
+use std::test::Fail;
+
+/// An operation that may start from a time on, and until another, with what comes next.
+fn starting(
+    alloc: Global,
+    lower: u32,
+    upper: Option<u32>,
+    next: &[u32],
+) -> Result<Operation, Memory>
+    ensures { IfOk result (λ o. o
+        ≡ record { lower = lower; upper = upper; min = 1; listings = []; next = next.now }) }
+{
+    Ok(Operation {
+        lower,
+        upper,
+        min: 1,
+        listings: List::new(alloc),
+        next: List::from_vec(Vec::from_slice(alloc, next)?),
+    })
+}
+
+/// A train of two operations: from 2 on, and from 4 until 20.
+fn train(alloc: Global) -> Result<Train, Memory>
+    ensures { IfOk result (λ train. train
+        ≡ record { lower = 2; upper = None; min = 1; listings = []; next = 1 ∷ [] }
+        ∷ record { lower = 4; upper = Some 20; min = 1; listings = []; next = [] } ∷ []) }
+{
+    let entry = starting(alloc, 2, None, &[1])?;
+    let exit = starting(alloc, 4, Some(20), &[])?;
+    Ok(List::from_vec(vec![in alloc; entry, exit]?))
+}
+
+fn two_trains(alloc: Global) -> Result<Problem, Memory> {
+    let one = train(alloc)?;
+    let other = train(alloc)?;
+    Ok(Problem {
+        trains: List::from_vec(vec![in alloc; one, other]?),
+        components: List::new(alloc),
+        names: List::new(alloc),
+    })
+}
+
+fn started(at_train: u64, at_op: u64, time: u64) -> Fixing {
+    Fixing::Started {
+        at_train,
+        at_op,
+        time,
+    }
+}
+
+fn not_before(at_train: u64, at_op: u64, time: u64) -> Fixing {
+    Fixing::NotBefore {
+        at_train,
+        at_op,
+        time,
+    }
+}
+
+/// The window of a number.
+fn window_at(
+    alloc: Global,
+    problem: &Problem,
+    fixings: &[Fixing],
+    number: usize,
+) -> Result<Option<Window>, Memory> {
+    let windows = windows(alloc, problem, fixings)?;
+    Ok(windows.get(number).copied())
+}
+
+#[test]
+fn operations_stand_in_the_order_of_their_numbers(rt: HostRuntime) -> Result<(), Fail> {
+    let problem = two_trains(rt.alloc())?;
+    let ops = operations(rt.alloc(), &problem)?;
+    let wanted = [(0, 0), (0, 1), (1, 0), (1, 1)].map(|(train, op)| Op { train, op });
+    assert_eq!(rt; ops.as_slice(), wanted.as_slice());
+    Ok(())
+}
+
+#[test]
+fn fixings_move_windows(rt: HostRuntime) -> Result<(), Fail> {
+    let problem = two_trains(rt.alloc())?;
+    for (fixings, number, lower, upper) in [
+        ([started(0, 0, 7), started(0, 0, 9)], 0, 7, Some(7)),
+        ([not_before(1, 0, 5), not_before(1, 0, 3)], 2, 5, None),
+        ([not_before(1, 1, 5), started(1, 1, 4)], 3, 4, Some(4)),
+        ([not_before(0, 1, 5), started(9, 1, 4)], 1, 5, Some(20)),
+        ([started(9, 0, 8), not_before(0, 2, 9)], 2, 2, None),
+    ] {
+        let wanted = Some(Window { lower, upper });
+        assert_eq!(rt; window_at(rt.alloc(), &problem, &fixings, number)?, wanted);
+    }
+    Ok(())
+}
