@@ -19,7 +19,8 @@ use Rattle.disp_laws.proofs.LongestArcs.{one_train_arc}
 use Rattle.train_orders.proofs.Places.{contains_none, same_number}
 use Rattle.node_facts.specs.declared.demands.Demand.{Demand}
 use Rattle.node_facts.specs.declared.train.TrainKnowledge.{TrainKnowledge}
-use Rattle.node_facts.specs.Ways.{IsWay, way_sum, IsLeastSuch, IsLeastOf, HasSum, sum_at}
+use Rattle.node_facts.specs.Ways.{IsWay, way_sum, IsLeastSuch, IsLeastOf, HasSum}
+use Rattle.route_marks.specs.Marks.{sum_at}
 use Rattle.node_facts.specs.Known.{op_numbered, IsKnown, IsNearer}
 use Rattle.node_facts.proofs.Placing.{falls}
 use Rattle.node_facts.proofs.Allowing.{IsLaidOut, exit_first, falls_along, way_goes, allowed_is_way}

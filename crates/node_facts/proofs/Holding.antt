@@ -15,7 +15,7 @@ use Rattle.train_orders.specs.Orders.{IsInside}
 use Rattle.train_orders.proofs.Places.{at_contains, contains_none, same_number}
 use Rattle.node_facts.specs.declared.demands.Demand.{Demand}
 use Rattle.node_facts.specs.declared.train.TrainKnowledge.{TrainKnowledge}
-use Rattle.node_facts.specs.Ways.{sum_at}
+use Rattle.route_marks.specs.Marks.{sum_at}
 use Rattle.node_facts.specs.Holders.{Holds, noted, AreHolders}
 use Rattle.node_facts.specs.Known.{op_numbered, IsKnown, IsHolder}
 use Rattle.node_facts.proofs.Knowing.{forced_is}

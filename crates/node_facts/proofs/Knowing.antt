@@ -8,7 +8,8 @@ use Rattle.disp_model.specs.Routes.{HasRoute, IsForced}
 use Rattle.disp_laws.proofs.Paths.{is_in}
 use Rattle.disp_laws.proofs.RouteSearch.{each_within}
 use Rattle.node_facts.specs.declared.train.TrainKnowledge.{TrainKnowledge}
-use Rattle.node_facts.specs.Ways.{way_sum, IsLeastOf, HasSum, sum_at}
+use Rattle.node_facts.specs.Ways.{way_sum, IsLeastOf, HasSum}
+use Rattle.route_marks.specs.Marks.{sum_at}
 use Rattle.node_facts.specs.Known.{op_numbered, IsKnown}
 use Rattle.node_facts.proofs.Allowing.{IsLaidOut, way_goes, IsAsked, allowed_is_way, way_is_allowed}
 

@@ -14,12 +14,12 @@ use Rattle.train_orders.proofs.Places.{at_contains, contains_at, contains_none, 
 use Rattle.route_marks.specs.declared.marks.Mark.{Mark}
 use Rattle.route_marks.specs.Ways.{StepsAlong, Goes, IsRowWalk, Chain}
 use Rattle.route_marks.specs.Ways as walks
-use Rattle.route_marks.specs.Marks.{IsLaid, IsMark, mark_at, HasMarks}
+use Rattle.route_marks.specs.Marks.{IsLaid, IsMark, mark_at, HasMarks, sum_at}
 use Rattle.route_marks.proofs.Keeping.{earlier}
 use Rattle.node_facts.specs.declared.demands.Demand.{Demand}
 use Rattle.node_facts.specs.Known.{IsOnEachRoute, AreOnEach}
 use Rattle.node_facts.specs.Live.{AreRowsTo, AreLiveRows, IsLiveStep}
-use Rattle.node_facts.specs.Ways.{IsWay, way_sum, HasSum, AreSums, sum_at}
+use Rattle.node_facts.specs.Ways.{IsWay, way_sum, HasSum, AreSums}
 use Rattle.route_marks.specs.Ways.{last_of}
 use Rattle.node_facts.proofs.Knowing.{some_has}
 

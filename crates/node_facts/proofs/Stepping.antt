@@ -17,7 +17,8 @@ use Rattle.disp_laws.proofs.LeastSums.{not_before_on_route}
 use Rattle.train_orders.proofs.Places.{contains_none}
 use Rattle.node_facts.specs.declared.demands.Demand.{Demand}
 use Rattle.node_facts.specs.declared.train.TrainKnowledge.{TrainKnowledge}
-use Rattle.node_facts.specs.Ways.{IsWay, way_sum, HasSum, sum_at}
+use Rattle.node_facts.specs.Ways.{IsWay, way_sum, HasSum}
+use Rattle.route_marks.specs.Marks.{sum_at}
 use Rattle.node_facts.specs.Live.{IsLiveStep, IsOnlyStep}
 use Rattle.node_facts.specs.Known.{op_numbered, IsKnown, IsHolder}
 use Rattle.node_facts.proofs.Allowing.{allowed_is_way, way_is_allowed}

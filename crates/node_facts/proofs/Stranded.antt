@@ -9,7 +9,7 @@ use Rattle.std.proofs.lemmas.List.Sums.{sum_by-cons, sum_by-set}
 use Rattle.disp_model.specs.Node.{Node}
 use Rattle.disp_model.specs.Routes.{HasRoute, HasNoRoute}
 use Rattle.node_facts.specs.declared.train.TrainKnowledge.{TrainKnowledge}
-use Rattle.node_facts.specs.Ways.{sum_at}
+use Rattle.route_marks.specs.Marks.{sum_at}
 use Rattle.node_facts.specs.Known.{IsKnown, without_route}
 use Rattle.node_facts.specs.Orders.{AreKnown}
 use Rattle.node_facts.proofs.Knowing.{left_is}

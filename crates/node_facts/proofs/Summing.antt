@@ -13,7 +13,8 @@ use Rattle.train_orders.specs.Orders.{IsBehind, IsOrder}
 use Rattle.train_orders.proofs.Searching.{next_at}
 use Rattle.train_orders.proofs.Places.{contains_at, contains_none, same_number}
 use Rattle.node_facts.specs.declared.demands.Demand.{Demand}
-use Rattle.node_facts.specs.Ways.{MayGo, IsWay, way_sum, IsLeastSuch, IsLeastOf, lesser, HasSum, sum_at, AreSums, IsOnward, GoesOnward, IsSumBy}
+use Rattle.node_facts.specs.Ways.{MayGo, IsWay, way_sum, IsLeastSuch, IsLeastOf, lesser, HasSum, AreSums, IsOnward, GoesOnward, IsSumBy}
+use Rattle.route_marks.specs.Marks.{sum_at}
 
 -- ---- the least of numbers
 

@@ -3,7 +3,7 @@ use Rattle.std.specs.Prelude.{ℕ, List, Bool, Option, Some, None, false, IsTrue
 use Rattle.disp_model.specs.declared.train.Operation.{Operation}
 use Rattle.disp_model.specs.Train.{next_of}
 use Rattle.node_facts.specs.declared.demands.Demand.{Demand}
-use Rattle.node_facts.specs.Ways.{sum_at}
+use Rattle.route_marks.specs.Marks.{sum_at}
 use Rattle.node_facts.specs.Live.{IsOnlyStep}
 
 -- each way has h, and may go on from it to o alone

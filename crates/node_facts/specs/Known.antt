@@ -12,9 +12,9 @@ use Rattle.train_orders.specs.Orders.{IsOrder}
 use Rattle.node_facts.specs.declared.demands.Demand.{Demand}
 use Rattle.node_facts.specs.declared.train.TrainKnowledge.{TrainKnowledge}
 use Rattle.node_facts.specs.Demands.{AreDemands}
-use Rattle.node_facts.specs.Ways.{IsWay, AreSums, sum_at}
+use Rattle.node_facts.specs.Ways.{IsWay, AreSums}
 use Rattle.node_facts.specs.Holders.{AreHolders}
-use Rattle.route_marks.specs.Marks.{ArePlaces}
+use Rattle.route_marks.specs.Marks.{ArePlaces, sum_at}
 
 -- an operation of a train
 abbrev pub op_numbered : ℕ → ℕ → Op

@@ -3,7 +3,8 @@ use Rattle.std.specs.Prelude.{◌≡◌, ◌↔◌, ℕ, List, length, Contains,
 use Rattle.disp_model.specs.declared.train.Operation.{Operation}
 use Rattle.disp_model.specs.Train.{IsSuccessor}
 use Rattle.node_facts.specs.declared.demands.Demand.{Demand}
-use Rattle.node_facts.specs.Ways.{MayGo, sum_at}
+use Rattle.node_facts.specs.Ways.{MayGo}
+use Rattle.route_marks.specs.Marks.{sum_at}
 
 -- a route may go on from an operation to another, which has a way
 pub record IsLiveStep (places : List ℕ) (demands : List Demand) (sums : List (Option ℕ)) (o s : ℕ)

@@ -1,7 +1,8 @@
 -- The ways through a train that fixings and decisions allow, and their least sums of durations.
-use Rattle.std.specs.Prelude.{◌≡◌, ◌⊎◌, ℕ, ◌+◌, ◌-◌, ◌≤◌, List, [], ◌∷◌, length, All, Contains, Option, Some, None, slice_index, slice_index_or, min, MatchOption}
+use Rattle.std.specs.Prelude.{◌≡◌, ◌⊎◌, ℕ, ◌+◌, ◌-◌, ◌≤◌, List, [], ◌∷◌, length, All, Contains, Option, Some, None, slice_index, min, MatchOption}
 use Rattle.disp_model.specs.declared.train.Operation.{Operation}
 use Rattle.disp_model.specs.Train.{duration_of, IsSuccessor, IsExit}
+use Rattle.route_marks.specs.Marks.{sum_at}
 use Rattle.node_facts.specs.declared.demands.Demand.{Demand}
 use Rattle.node_facts.specs.Demands.{Allows}
 
@@ -39,9 +40,6 @@ pub record HasSum (train : List Operation) (places : List ℕ) (demands : List D
   pub rest : List ℕ
   pub way : IsWay train places demands o rest
   pub sum_is : way_sum train o rest ≡ sum
-
-abbrev pub sum_at : List (Option ℕ) → ℕ → Option ℕ
-sum_at sums o = slice_index_or sums o None
 
 -- of each operation the least sum of a way, or none where it has no way
 abbrev pub AreSums : List Operation → List ℕ → List Demand → List (Option ℕ) → Type 0

@@ -1,7 +1,7 @@
 ghost use Rattle.std.specs.Prelude.{◌≡◌, ◌↔◌, ◌<◌, ◌^◌, ℕ, IfOk, IfSome, Some, length};
 ghost use Rattle.train_orders.specs.Orders.{IsInside};
 ghost use Rattle.node_facts.specs.Holders.{Holds, noted, AreHolders};
-ghost use Rattle.node_facts.specs.Ways.{sum_at};
+ghost use Rattle.route_marks.specs.Marks.{sum_at};
 
 use crate::demands::Demand;
 use crate::needed::is_marked;

@@ -1,8 +1,8 @@
 ghost use Rattle.std.specs.Prelude.{◌≡◌, ◌↔◌, ◌+◌, ◌*◌, ◌<◌, ◌≤◌, ◌^◌, ℕ, All, IfOk, IfSome, IsSome, IsTrue, Some, length};
 ghost use Rattle.disp_model.specs.WellFormed.{IsAcyclic};
 ghost use Rattle.train_orders.specs.Orders.{IsInside, IsOrder};
-ghost use Rattle.node_facts.specs.Ways.{MayGo, IsLeastOf, lesser, sum_at, AreSums, IsOnward, GoesOnward, IsSumBy};
-ghost use Rattle.route_marks.specs.Marks.{ArePlaces};
+ghost use Rattle.node_facts.specs.Ways.{MayGo, IsLeastOf, lesser, AreSums, IsOnward, GoesOnward, IsSumBy};
+ghost use Rattle.route_marks.specs.Marks.{ArePlaces, sum_at};
 
 use crate::demands::{Demand, may_go};
 use disp_model::{Memory, Operation};

@@ -2,7 +2,8 @@ ghost use Rattle.std.specs.Prelude.{◌≡◌, ◌↔◌, ◌<◌, ◌≤◌, �
 ghost use Rattle.disp_model.specs.Node.{Node, node_at};
 ghost use Rattle.disp_model.specs.Routes.{HasRoute, IsForced};
 ghost use Rattle.disp_model.specs.Arcs.{IsTrainArc};
-ghost use Rattle.node_facts.specs.Ways.{sum_at, MayGo};
+ghost use Rattle.node_facts.specs.Ways.{MayGo};
+ghost use Rattle.route_marks.specs.Marks.{sum_at};
 ghost use Rattle.route_marks.specs.Ways.{last_of};
 
 use crate::demands::{Demand, demands_of, may_go, place_at};

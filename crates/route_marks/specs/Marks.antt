@@ -68,6 +68,10 @@ pub record IsMark (train : List Operation) (order : List ℕ) (rows : List (List
 abbrev pub mark_at : List (Option Mark) → ℕ → Option Mark
 mark_at marks o = slice_index_or marks o None
 
+-- the sum that is kept of an operation
+abbrev pub sum_at : List (Option ℕ) → ℕ → Option ℕ
+sum_at sums o = slice_index_or sums o None
+
 -- the marks of the operations from a place of the order on: of those that each walk has
 abbrev pub AreRouteMarks : List Operation → List ℕ → List (List ℕ) → ℕ → List (Option Mark) → Type 0
 AreRouteMarks train order rows left marks =

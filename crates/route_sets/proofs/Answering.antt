@@ -23,8 +23,8 @@ use Rattle.route_sets.specs.declared.sweep.Swept.{Swept}
 use Rattle.route_sets.specs.Asks.{AreAsks}
 use Rattle.route_sets.specs.Sweeps.{HasWay, IsSwept}
 use Rattle.route_marks.specs.Ways.{last_of}
-use Rattle.route_marks.specs.Marks.{IsLaid, mark_at, HasMarks, HasSums}
-use Rattle.route_sets.specs.Sets.{op_of_train, sum_at, IsMarkOf, AreAllowedRows, AreRoutesOf}
+use Rattle.route_marks.specs.Marks.{IsLaid, mark_at, HasMarks, HasSums, sum_at}
+use Rattle.route_sets.specs.Sets.{op_of_train, IsMarkOf, AreAllowedRows, AreRoutesOf}
 use Rattle.route_sets.proofs.Walking.{IsTrimmedFor, route_is_way}
 use Rattle.route_sets.proofs.Knowing.{AreWalks, are_walks, sums_are, marks_are, ordered_are, route_there, marked_forced}
 use Rattle.route_sets.proofs.Following.{begins_are, ends_are, short_are}

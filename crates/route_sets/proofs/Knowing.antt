@@ -28,8 +28,8 @@ use Rattle.route_sets.specs.declared.asks.Ask.{Ask}
 use Rattle.route_marks.specs.declared.marks.Mark.{Mark}
 use Rattle.route_sets.specs.Sweeps.{HasWay}
 use Rattle.route_marks.specs.Ways.{StepsAlong, Goes, IsRowWalk, Chain, IsOnEach, last_of}
-use Rattle.route_marks.specs.Marks.{IsLaid, IsMark, mark_at, HasMarks, HasSums}
-use Rattle.route_sets.specs.Sets.{op_of_train, sum_at, IsOnSome, IsMarkOf, AreMarksInOrder}
+use Rattle.route_marks.specs.Marks.{IsLaid, IsMark, mark_at, HasMarks, HasSums, sum_at}
+use Rattle.route_sets.specs.Sets.{op_of_train, IsOnSome, IsMarkOf, AreMarksInOrder}
 use Rattle.route_marks.proofs.Keeping.{earlier}
 use Rattle.route_sets.proofs.Walking.{IsTrimmedFor, row_at, route_is_walk, walk_is_route}
 use Rattle.route_marks.proofs.Chaining.{LastStep, chain_last, chain_walk, walk_parts, goes_on, goes_below, chain_above, last_here}

@@ -1,5 +1,5 @@
 -- What is known of the allowed routes of a train.
-use Rattle.std.specs.Prelude.{◌≡◌, ◌↔◌, ℕ, zero, suc, ◌-◌, ◌<◌, ◌≤◌, ◌==◌, List, [], ◌∷◌, length, Contains, Option, Some, None, IsSome, slice_index_or, option_map, IsTrue, MatchOption, if◌then◌else◌}
+use Rattle.std.specs.Prelude.{◌≡◌, ◌↔◌, ℕ, zero, suc, ◌-◌, ◌<◌, ◌≤◌, ◌==◌, List, [], ◌∷◌, length, Contains, Option, Some, None, IsSome, option_map, IsTrue, MatchOption, if◌then◌else◌}
 use Rattle.disp_model.specs.declared.train.Op.{Op}
 use Rattle.disp_model.specs.Node.{Node}
 use Rattle.disp_model.specs.Train.{IsExit}
@@ -10,7 +10,7 @@ use Rattle.train_orders.specs.Orders.{IsOrder}
 use Rattle.route_marks.specs.declared.marks.Mark.{Mark}
 use Rattle.route_sets.specs.declared.routes.Routes.{Routes}
 use Rattle.route_marks.specs.Ways.{IsRowWalk, last_of}
-use Rattle.route_marks.specs.Marks.{IsLaid, mark_at}
+use Rattle.route_marks.specs.Marks.{IsLaid, mark_at, sum_at}
 
 -- an operation of a train
 abbrev pub op_of_train : ℕ → ℕ → Op
@@ -72,10 +72,6 @@ pub record AreAllowedRows (node : Node) (t : ℕ) (order : List ℕ) (rows : Lis
   pub laid : IsLaid (train_at node.problem t) order rows
   pub walk : (route : List ℕ) → IsAllowed node t route → IsRowWalk order rows (last_of order) route
   pub route : (route : List ℕ) → IsRowWalk order rows (last_of order) route → IsAllowed node t route
-
--- the sum that is kept of an operation
-abbrev pub sum_at : List (Option ℕ) → ℕ → Option ℕ
-sum_at sums o = slice_index_or sums o None
 
 -- some allowed route has the operation
 abbrev pub IsOnSome : Node → ℕ → ℕ → Type 0

@@ -6,7 +6,7 @@ ghost use Rattle.disp_model.specs.Earliest.{IsFork};
 ghost use Rattle.route_marks.specs.Ways.{last_of};
 ghost use Rattle.disp_model.specs.Valid.{train_at};
 ghost use Rattle.train_orders.specs.Orders.{IsOrder};
-ghost use Rattle.route_marks.specs.Marks.{mark_at};
+ghost use Rattle.route_marks.specs.Marks.{mark_at, sum_at};
 ghost use Rattle.route_sets.specs.Sets.{AreRoutesOf};
 
 use crate::asks::asks_of;
@@ -82,7 +82,7 @@ fn routes_by(
 }
 
 impl Routes {
-    ghost use Rattle.route_sets.specs.Sets.{op_of_train, sum_at, IsOnSome, AreAllowedRows, follow, IsOnlyRoute, parting, IsAloneUnparted};
+    ghost use Rattle.route_sets.specs.Sets.{op_of_train, IsOnSome, AreAllowedRows, follow, IsOnlyRoute, parting, IsAloneUnparted};
 
     /// The routes of a train that the fixings and the decisions allow. Takes time linear in the
     /// operations of the train, their successors, the fixings and the decisions.

@@ -12,8 +12,8 @@ use Rattle.train_orders.specs.Orders.{IsOrder}
 use Rattle.train_orders.proofs.Places.{contains_at, contains_none, same_number}
 use Rattle.train_orders.proofs.Ordered.{contains_cases}
 use Rattle.node_facts.specs.declared.demands.Demand.{Demand}
-use Rattle.node_facts.specs.Ways.{MayGo, lesser, sum_at}
-use Rattle.route_marks.specs.Marks.{ArePlaces}
+use Rattle.node_facts.specs.Ways.{MayGo, lesser}
+use Rattle.route_marks.specs.Marks.{ArePlaces, sum_at}
 use Rattle.node_facts.proofs.Placing.{falls, apart, place_within}
 use Rattle.tree_checker.specs.TrainCosts.{Comes, EntersNexts, LeavesCosts, AreEntered, base_by}
 use Rattle.tree_checker.proofs.Coming.{comes_more, comes_last}

@@ -12,7 +12,8 @@ use Rattle.disp_laws.proofs.Paths.{IsIn, contains_in}
 use Rattle.disp_laws.proofs.RouteSearch.{each_within}
 use Rattle.disp_laws.proofs.Shares.{route_grows, reached_in, share_exists, train_there}
 use Rattle.node_facts.specs.declared.demands.Demand.{Demand}
-use Rattle.node_facts.specs.Ways.{IsWay, sum_at}
+use Rattle.node_facts.specs.Ways.{IsWay}
+use Rattle.route_marks.specs.Marks.{sum_at}
 use Rattle.node_facts.proofs.Allowing.{IsAsked, allowed_is_way, way_is_allowed, way_goes}
 use Rattle.node_facts.proofs.Stepping.{Through, through}
 use Rattle.problem_facts.specs.Prices.{own_price}

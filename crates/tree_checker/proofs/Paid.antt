@@ -11,7 +11,8 @@ use Rattle.train_orders.specs.Orders.{IsOrder}
 use Rattle.train_orders.proofs.Searching.{next_at}
 use Rattle.train_orders.proofs.Places.{contains_at, contains_none, same_number}
 use Rattle.node_facts.specs.declared.demands.Demand.{Demand}
-use Rattle.node_facts.specs.Ways.{IsWay, sum_at, IsLeastOf, GoesOnward}
+use Rattle.node_facts.specs.Ways.{IsWay, IsLeastOf, GoesOnward}
+use Rattle.route_marks.specs.Marks.{sum_at}
 use Rattle.node_facts.specs.Costs.{capped}
 use Rattle.tree_checker.specs.TrainCosts.{price_along, ArePrices, IsCostBy, AreCosts}
 

@@ -14,7 +14,7 @@ use Rattle.disp_laws.proofs.Shares.{train_there}
 use Rattle.node_facts.specs.declared.train.TrainKnowledge.{TrainKnowledge}
 use Rattle.node_facts.specs.Known.{IsKnown}
 use Rattle.node_facts.specs.Orders.{AreKnown}
-use Rattle.node_facts.specs.Ways.{sum_at}
+use Rattle.route_marks.specs.Marks.{sum_at}
 use Rattle.problem_facts.specs.Prices.{own_price}
 use Rattle.tree_checker.specs.TrainCosts.{AreEntered, base_by, reach_by, AreCosts, AreLowers, AreRaised, IsLeastCost, IsShown}
 use Rattle.tree_checker.proofs.Enough.{arrivals_once}

@@ -10,7 +10,8 @@ use Rattle.disp_model.specs.Node.{Node}
 use Rattle.disp_model.specs.Walks.{lower_of, IsWalk, EndsIn}
 use Rattle.disp_model.specs.Shares.{Arrival, AreWalksOn, greatest_to, IsShareOver, ShowsShare}
 use Rattle.node_facts.specs.declared.demands.Demand.{Demand}
-use Rattle.node_facts.specs.Ways.{MayGo, IsWay, sum_at, IsLeastSuch, GoesOnward}
+use Rattle.node_facts.specs.Ways.{MayGo, IsWay, IsLeastSuch, GoesOnward}
+use Rattle.route_marks.specs.Marks.{sum_at}
 use Rattle.node_facts.specs.Costs.{capped}
 use Rattle.tree_checker.specs.declared.landings.Landing.{Landing}
 

@@ -1,8 +1,8 @@
 ghost use Rattle.std.specs.Prelude.{◌≡◌, ◌∷◌, [], ◌+◌, ◌*◌, ◌<◌, ◌≤◌, ◌^◌, ℕ, All, IfOk, Some, length, max, slice_index, slice_set};
 ghost use Rattle.disp_model.specs.Train.{IsSuccessor, duration_of};
 ghost use Rattle.train_orders.specs.Orders.{IsInside, IsOrder};
-ghost use Rattle.node_facts.specs.Ways.{lesser, sum_at};
-ghost use Rattle.route_marks.specs.Marks.{ArePlaces};
+ghost use Rattle.node_facts.specs.Ways.{lesser};
+ghost use Rattle.route_marks.specs.Marks.{ArePlaces, sum_at};
 ghost use Rattle.tree_checker.specs.TrainCosts.{EntersNexts, LeavesCosts, AreEntered, base_by, reach_by};
 
 use disp_model::{Memory, Operation};

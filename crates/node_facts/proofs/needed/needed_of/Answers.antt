@@ -4,9 +4,8 @@ use Rattle.std.specs.Option.{is_some}
 use Rattle.std.proofs.lemmas.Bool.{false≢true}
 use Rattle.std.proofs.lemmas.Result.{IfOk-weaker}
 use Rattle.route_marks.specs.declared.marks.Mark.{Mark}
-use Rattle.route_marks.specs.Marks.{HasMarks}
+use Rattle.route_marks.specs.Marks.{HasMarks, sum_at}
 use Rattle.node_facts.specs.Known.{AreOnEach}
-use Rattle.node_facts.specs.Ways.{sum_at}
 use Rattle.route_marks.specs.Ways.{last_of}
 use Rattle.node_facts.proofs.Marking.{laid, needed_all, needed_marks}
 use Rattle.node_facts.proofs.needed.needed_of.Goals as goal

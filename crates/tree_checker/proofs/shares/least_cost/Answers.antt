@@ -3,8 +3,7 @@ use Rattle.disp_model.specs.declared.train.Operation.{Operation}
 use Rattle.disp_model.specs.Node.{node_at}
 use Rattle.disp_model.specs.Train.{IsEntry}
 use Rattle.train_orders.specs.Orders.{IsOrder}
-use Rattle.node_facts.specs.Ways.{sum_at}
-use Rattle.route_marks.specs.Marks.{ArePlaces}
+use Rattle.route_marks.specs.Marks.{ArePlaces, sum_at}
 use Rattle.node_facts.proofs.Assembling.{is_inside}
 use Rattle.problem_facts.specs.Prices.{own_price}
 use Rattle.tree_checker.specs.TrainCosts.{base_by, reach_by, IsLeastCost, AreCosts}

@@ -1,6 +1,6 @@
 use Rattle.std.proofs.Common.{List, Option, ℕ, refl, ap, ◌∙◌}
 use Rattle.std.proofs.lemmas.Bool.{false≢true}
-use Rattle.node_facts.specs.Ways.{sum_at}
+use Rattle.route_marks.specs.Marks.{sum_at}
 use Rattle.node_facts.proofs.Holding.{holder_is, no_holder}
 use Rattle.node_facts.proofs.train.TrainKnowledge.holder.Goals as goal
 

@@ -1,6 +1,6 @@
 use Rattle.std.proofs.Common.{List, Option, ℕ, subst}
 use Rattle.std.specs.Prelude.{IsTrue, IsSome, ◌↔◌}
-use Rattle.node_facts.specs.Ways.{sum_at}
+use Rattle.route_marks.specs.Marks.{sum_at}
 use Rattle.node_facts.proofs.Knowing.{left_is}
 use Rattle.node_facts.proofs.train.TrainKnowledge.is_left.Goals as goal
 
