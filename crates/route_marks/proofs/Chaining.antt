@@ -141,3 +141,11 @@ last_here train order rows laid = by (length order) refl
     by (suc k) long =
         let last : length order - 1 ≡ k = omega (arith, long) in
         (k, omega (arith, long), subst (λ (n : ℕ). slice_get order n ≡ Some (last_of order)) last (slice_get-get_or order (length order - 1) 0 (omega (arith, long))))
+
+-- where a chain leads to an operation, that stands in the order
+pub chain_place : (train : List Operation) (order : List ℕ) (rows : List (List ℕ)) (front : List ℕ) (o : ℕ) → IsLaid train order rows → Chain order rows (last_of order) front o → (k : ℕ) × (slice_get order k ≡ Some o)
+chain_place train order rows front o laid chain = by (chain_last order rows (last_of order) front o chain)
+  where
+    by : ((front ≡ []) × (last_of order ≡ o)) ⊎ LastStep order rows (last_of order) front o → (k : ℕ) × (slice_get order k ≡ Some o)
+    by (inl h) = let last = last_here train order rows laid in (last.0, subst (λ (x : ℕ). slice_get order last.0 ≡ Some x) h.1 last.2)
+    by (inr last) = let down = laid.down last.steps.place last.op o last.steps.here last.steps in (down.0, down.2)

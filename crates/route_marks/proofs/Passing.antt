@@ -4,7 +4,7 @@ use Rattle.std.specs.Prelude.{slice_get, Contains, All, sum_by, MatchOption, ◌
 use Rattle.std.specs.Option.{option_map_or}
 use Rattle.std.proofs.lemmas.Bool.{cases_lt}
 use Rattle.std.proofs.lemmas.Option.{none-some, same_Some, slice_get-get_or, slice_get_within}
-use Rattle.std.proofs.lemmas.List.{length-set, length-replicate, get_or-set_same, get_or-set_other}
+use Rattle.std.proofs.lemmas.List.{length-set, length-replicate, get_or-set_same, get_or-set_other, get_or_past}
 use Rattle.std.proofs.lemmas.List.Elements.{Contains-get_or, All-contains}
 use Rattle.std.proofs.lemmas.List.Sums.{sum_by-append, sum_by-cons}
 use Rattle.disp_model.specs.declared.train.Operation.{Operation}
@@ -16,7 +16,7 @@ use Rattle.train_orders.proofs.Places.{set_at, set_elsewhere, same_number}
 use Rattle.train_orders.proofs.Ordered.{contains_here, contains_later}
 use Rattle.route_marks.specs.declared.marks.Mark.{Mark}
 use Rattle.route_marks.specs.Ways.{StepsAlong, Goes, IsRowWalk, Chain, IsLeastOnRows, IsOnEach, last_of}
-use Rattle.route_marks.specs.Marks.{ArePlaces, IsLaid, Relaxes, IsLowest, IsOnly, Makes, IsMark, mark_at, Crosses, IsPass, MarksEntered, HasSums}
+use Rattle.route_marks.specs.Marks.{ArePlaces, IsLaid, Relaxes, IsLowest, IsOnly, Makes, IsMark, mark_at, Crosses, IsPass, MarksEntered, HasSums, sum_at}
 use Rattle.route_marks.proofs.Chaining.{chain_more, LastStep, chain_last, chain_walk, walk_parts, steps_row, row_steps, goes_on, goes_below, chain_above, ending, last_here}
 
 -- ---- sums and marks
@@ -45,21 +45,24 @@ pub record IsAt (train : List Operation) (order : List ℕ) (rows : List (List �
   pub here : slice_get order place ≡ Some at
   pub pass : IsPass train order rows (place + 1) sums reach marks
 
--- its sum is at most that of each chain to it
-at_most : (train : List Operation) (order : List ℕ) (rows : List (List ℕ)) (place at : ℕ) (sums : List (Option ℕ)) (reach : ℕ) (marks : List (Option Mark)) (front : List ℕ) → IsAt train order rows place at sums reach marks
-    → Chain order rows (last_of order) front at → (n : ℕ) × (slice_get sums at ≡ Some (Some n)) × (n ≤ sum_by (duration_of train) front)
-at_most train order rows place at sums reach marks front is chain = by (chain_last order rows (last_of order) front at chain)
+-- the pass has come to each operation that goes on to it
+come_before : (train : List Operation) (order : List ℕ) (rows : List (List ℕ)) (place at : ℕ) (sums : List (Option ℕ)) (reach : ℕ) (marks : List (Option Mark)) → IsAt train order rows place at sums reach marks
+    → (k p : ℕ) → slice_get order k ≡ Some p → StepsAlong order rows p at → place + 1 ≤ k
+come_before train order rows place at sums reach marks is k p on step =
+    let down = is.laid.down k p at on step in
+    let same = is.laid.one_place down.0 place at down.2 is.here in
+    omega (arith, down.1, same)
+
+-- where the pass has come to each operation that goes on to one, the sum of that one is at most that of each chain to it
+at_most : (train : List Operation) (order : List ℕ) (rows : List (List ℕ)) (left : ℕ) (sums : List (Option ℕ)) (reach : ℕ) (marks : List (Option Mark)) (o : ℕ) (front : List ℕ) → IsPass train order rows left sums reach marks
+    → ((k p : ℕ) → slice_get order k ≡ Some p → StepsAlong order rows p o → left ≤ k) → Chain order rows (last_of order) front o → (n : ℕ) × (slice_get sums o ≡ Some (Some n)) × (n ≤ sum_by (duration_of train) front)
+at_most train order rows left sums reach marks o front pass come chain = by (chain_last order rows (last_of order) front o chain)
   where
-    by : ((front ≡ []) × (last_of order ≡ at)) ⊎ LastStep order rows (last_of order) front at → (n : ℕ) × (slice_get sums at ≡ Some (Some n)) × (n ≤ sum_by (duration_of train) front)
-    by (inl h) = let start = is.pass.starts in (start.0, subst (λ (x : ℕ). slice_get sums x ≡ Some (Some start.0)) h.1 start.1, omega (arith, start.2))
-    by (inr last) = before last.op last.before last.is last.chain last.steps last.steps.place last.steps.here
-      where
-        before : (p : ℕ) (early : List ℕ) → front ≡ early ++ p ∷ [] → Chain order rows (last_of order) early p → StepsAlong order rows p at → (k : ℕ) → slice_get order k ≡ Some p
-            → (n : ℕ) × (slice_get sums at ≡ Some (Some n)) × (n ≤ sum_by (duration_of train) front)
-        before p early e chain step k on =
-            let down = is.laid.down k p at on step in
-            let same = is.laid.one_place down.0 place at down.2 is.here in
-            subst (λ (l : List ℕ). (n : ℕ) × (slice_get sums at ≡ Some (Some n)) × (n ≤ sum_by (duration_of train) l)) (sym e) (is.pass.known k p at early on (omega (arith, down.1, same)) chain step)
+    by : ((front ≡ []) × (last_of order ≡ o)) ⊎ LastStep order rows (last_of order) front o → (n : ℕ) × (slice_get sums o ≡ Some (Some n)) × (n ≤ sum_by (duration_of train) front)
+    by (inl h) = (pass.starts.0, subst (λ (x : ℕ). slice_get sums x ≡ Some (Some pass.starts.0)) h.1 pass.starts.1, omega (arith, pass.starts.2))
+    by (inr last) =
+        let known = pass.known last.steps.place last.op o last.before last.steps.here (come last.steps.place last.op last.steps.here last.steps) last.chain last.steps in
+        (known.0, known.1, subst (λ (l : List ℕ). known.0 ≤ sum_by (duration_of train) l) (sym last.is) known.2)
 
 -- a step so far leads to it, or behind it
 reach_below : (train : List Operation) (order : List ℕ) (rows : List (List ℕ)) (place at : ℕ) (sums : List (Option ℕ)) (reach : ℕ) (marks : List (Option Mark)) (front : List ℕ) → IsAt train order rows place at sums reach marks
@@ -77,10 +80,7 @@ reach_below train order rows place at sums reach marks front is chain = by (chai
     by (inl h) =
         let same = is.laid.one_place last.0 place at (subst (λ (x : ℕ). slice_get order last.0 ≡ Some x) h.1 last.2) is.here in
         omega (arith, within is.pass.near, last.1, same)
-    by (inr step) =
-        let down = is.laid.down step.steps.place step.op at step.steps.here step.steps in
-        let same = is.laid.one_place down.0 place at down.2 is.here in
-        is.pass.far step.steps.place step.op at place step.before step.steps.here (omega (arith, down.1, same)) step.chain step.steps is.here
+    by (inr step) = is.pass.far step.steps.place step.op at place step.before step.steps.here (come_before train order rows place at sums reach marks is step.steps.place step.op step.steps.here step.steps) step.chain step.steps is.here
 
 -- ---- where no step leads past it each walk has it
 
@@ -177,7 +177,7 @@ visits_none train order rows place at sums reach marks is empty = record {
 }
   where
     none : (front : List ℕ) → Chain order rows (last_of order) front at → ⊥
-    none front chain = let known = at_most train order rows place at sums reach marks front is chain in none-some known.0 (same_Some None (Some known.0) (sym empty ∙ known.1))
+    none front chain = let known = at_most train order rows (place + 1) sums reach marks at front is.pass (come_before train order rows place at sums reach marks is) chain in none-some known.0 (same_Some None (Some known.0) (sym empty ∙ known.1))
 
     own : (k p : ℕ) → slice_get order k ≡ Some p → place ≤ k → k ≤ place → p ≡ at
     own k p on le ge = let same : k ≡ place = omega (arith, le, ge) in same_Some p at (sym on ∙ subst (λ (n : ℕ). slice_get order n ≡ Some at) (sym same) is.here)
@@ -254,7 +254,7 @@ visits train order places rows place at sum through row sums reach marks new lea
     least_here = record {
       reached = own_front;
       at_most = λ front chain.
-          let known = at_most train order rows place at sums reach marks front is.is_at chain in
+          let known = at_most train order rows (place + 1) sums reach marks at front pass (come_before train order rows place at sums reach marks is.is_at) chain in
           let same : known.0 ≡ sum = same_Some known.0 sum (same_Some (Some known.0) (Some sum) (sym known.1 ∙ is.has)) in
           omega (arith, known.2, same);
     }
@@ -342,28 +342,27 @@ enters train order rows left sums reach marks laid all is = record {
 
 -- ---- the end
 
--- each operation that some walk has is known, by a sum that is at most that of the walk
-sum_known : (train : List Operation) (order : List ℕ) (rows : List (List ℕ)) (sums : List (Option ℕ)) (reach : ℕ) (marks : List (Option Mark)) (o : ℕ) (front : List ℕ) → IsPass train order rows 0 sums reach marks
-    → Chain order rows (last_of order) front o → (n : ℕ) × (slice_get sums o ≡ Some (Some n)) × (n ≤ sum_by (duration_of train) front)
-sum_known train order rows sums reach marks o front pass chain = by (chain_last order rows (last_of order) front o chain)
-  where
-    by : ((front ≡ []) × (last_of order ≡ o)) ⊎ LastStep order rows (last_of order) front o → (n : ℕ) × (slice_get sums o ≡ Some (Some n)) × (n ≤ sum_by (duration_of train) front)
-    by (inl h) = (pass.starts.0, subst (λ (x : ℕ). slice_get sums x ≡ Some (Some pass.starts.0)) h.1 pass.starts.1, omega (arith, pass.starts.2))
-    by (inr last) =
-        let known = pass.known last.steps.place last.op o last.before last.steps.here (omega arith) last.chain last.steps in
-        (known.0, known.1, subst (λ (l : List ℕ). known.0 ≤ sum_by (duration_of train) l) (sym last.is) known.2)
-
 pub has_sums : (train : List Operation) (order : List ℕ) (rows : List (List ℕ)) (left : ℕ) (sums : List (Option ℕ)) (reach : ℕ) (marks : List (Option Mark)) → left ≤ 0 → IsPass train order rows left sums reach marks → HasSums train order rows sums
-has_sums train order rows zero sums reach marks all pass = record {
-  least = λ o n is. record {
-    reached = pass.sound o n is;
-    at_most = λ front chain.
-        let known = sum_known train order rows sums reach marks o front pass chain in
-        omega (arith, known.2, same_Some n known.0 (same_Some (Some n) (Some known.0) (sym is ∙ known.1)));
-  };
-  known = λ o front chain. let known = sum_known train order rows sums reach marks o front pass chain in (known.0, known.1);
+has_sums train order rows left sums reach marks all pass = record {
+  are_sums = λ o. elim (cases_lt o (length sums)) [
+    | inl lt ↦ by o (sum_at sums o) (slice_get-get_or sums o None lt)
+    | inr past ↦
+        subst (λ (sum : Option ℕ). MatchOption sum ((front : List ℕ) → Chain order rows (last_of order) front o → ⊥) (IsLeastOnRows train order rows (last_of order) o)) (sym (get_or_past sums o None past))
+        (λ front chain. let known = sum_of o front chain in omega (arith, past, slice_get_within sums o (Some known.0) known.1))
+  ];
 }
-has_sums train order rows (suc left) sums reach marks all pass = absurd (omega (arith, all))
+  where
+    sum_of : (o : ℕ) (front : List ℕ) → Chain order rows (last_of order) front o → (n : ℕ) × (slice_get sums o ≡ Some (Some n)) × (n ≤ sum_by (duration_of train) front)
+    sum_of o front chain = at_most train order rows left sums reach marks o front pass (λ k p on step. omega (arith, all)) chain
+
+    by : (o : ℕ) (sum : Option ℕ) → slice_get sums o ≡ Some sum → MatchOption sum ((front : List ℕ) → Chain order rows (last_of order) front o → ⊥) (IsLeastOnRows train order rows (last_of order) o)
+    by o None is = λ front chain. let known = sum_of o front chain in none-some known.0 (same_Some None (Some known.0) (sym is ∙ known.1))
+    by o (Some n) is = record {
+      reached = pass.sound o n is;
+      at_most = λ front chain.
+          let known = sum_of o front chain in
+          omega (arith, known.2, same_Some n known.0 (same_Some (Some n) (Some known.0) (sym is ∙ known.1)));
+    }
 
 -- ---- what a pass reads
 

@@ -128,7 +128,6 @@ pub record HasMarks (train : List Operation) (order : List ℕ) (steps : List (L
 -- the least sums of durations up to the operations that some walk has
 pub record HasSums (train : List Operation) (order : List ℕ) (rows : List (List ℕ))
     (sums : List (Option ℕ)) : Type 0 where
-  pub least : (o n : ℕ) → slice_get sums o ≡ Some (Some n)
-      → IsLeastOnRows train order rows (last_of order) o n
-  pub known : (o : ℕ) (front : List ℕ) → Chain order rows (last_of order) front o
-      → (n : ℕ) × (slice_get sums o ≡ Some (Some n))
+  pub are_sums : (o : ℕ) → MatchOption (sum_at sums o)
+      ((front : List ℕ) → Chain order rows (last_of order) front o → ⊥)
+      (IsLeastOnRows train order rows (last_of order) o)

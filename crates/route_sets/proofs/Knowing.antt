@@ -1,9 +1,9 @@
 -- What the marks of a pass say of the allowed routes of a train.
-use Rattle.std.proofs.Common.{◌≡◌, ℕ, suc, ◌+◌, ◌-◌, ◌^◌, ◌<◌, ◌≤◌, List, [], ◌∷◌, ◌++◌, length, Option, Some, None, refl, sym, ap, subst, ◌∙◌, inl, inr, ◌⊎◌, arith, append_assoc}
+use Rattle.std.proofs.Common.{◌≡◌, ℕ, suc, ◌+◌, ◌-◌, ◌^◌, ◌<◌, ◌≤◌, List, [], ◌∷◌, ◌++◌, length, Option, Some, None, refl, sym, ap, subst, ◌∙◌, inl, inr, arith, append_assoc}
 use Rattle.std.specs.Prelude.{◌↔◌, IsSome, nat_eq, slice_get, Contains, MatchOption, sum_by}
 use Rattle.std.specs.List.{IsDistinct}
 use Rattle.std.proofs.lemmas.Bool.{false≢true, cases_lt, eq-eqb}
-use Rattle.std.proofs.lemmas.Option.{none-some, same_Some, slice_get-get_or, slice_get_within}
+use Rattle.std.proofs.lemmas.Option.{none-some, same_Some}
 use Rattle.std.proofs.lemmas.List.{get_or_past}
 use Rattle.std.proofs.lemmas.List.Elements.{Contains-append_right}
 use Rattle.std.proofs.lemmas.List.Sums.{sum_by-append}
@@ -27,12 +27,12 @@ use Rattle.train_orders.proofs.Ordered.{contains_here, one_place}
 use Rattle.route_sets.specs.declared.asks.Ask.{Ask}
 use Rattle.route_marks.specs.declared.marks.Mark.{Mark}
 use Rattle.route_sets.specs.Sweeps.{HasWay}
-use Rattle.route_marks.specs.Ways.{StepsAlong, Goes, IsRowWalk, Chain, IsOnEach, last_of}
+use Rattle.route_marks.specs.Ways.{StepsAlong, Goes, IsRowWalk, Chain, IsLeastOnRows, IsOnEach, last_of}
 use Rattle.route_marks.specs.Marks.{IsLaid, IsMark, mark_at, HasMarks, HasSums, sum_at}
 use Rattle.route_sets.specs.Sets.{op_of_train, IsOnSome, IsMarkOf, AreMarksInOrder}
 use Rattle.route_marks.proofs.Keeping.{earlier}
 use Rattle.route_sets.proofs.Walking.{IsTrimmedFor, row_at, route_is_walk, walk_is_route}
-use Rattle.route_marks.proofs.Chaining.{LastStep, chain_last, chain_walk, walk_parts, goes_on, goes_below, chain_above, last_here}
+use Rattle.route_marks.proofs.Chaining.{chain_walk, walk_parts, goes_on, goes_below, chain_above, last_here, chain_place}
 use Rattle.route_marks.proofs.Passing.{matched}
 
 -- ---- an order is no longer than its train
@@ -115,45 +115,27 @@ through node t order rows front o rest are chain goes = are.route (front ++ o �
 
 -- ---- the operations that some route has
 
--- where a chain leads to an operation, that stands in the order
-chain_place : (node : Node) (t : ℕ) (order : List ℕ) (rows : List (List ℕ)) (front : List ℕ) (o : ℕ) → AreWalks node t order rows → Chain order rows (last_of order) front o → (k : ℕ) × (slice_get order k ≡ Some o)
-chain_place node t order rows front o are chain = by (chain_last order rows (last_of order) front o chain)
-  where
-    by : ((front ≡ []) × (last_of order ≡ o)) ⊎ LastStep order rows (last_of order) front o → (k : ℕ) × (slice_get order k ≡ Some o)
-    by (inl h) = let last = last_here (train_at node.problem t) order rows are.is_laid in (last.0, subst (λ (x : ℕ). slice_get order last.0 ≡ Some x) h.1 last.2)
-    by (inr last) = let down = are.is_laid.down last.steps.place last.op o last.steps.here last.steps in (down.0, down.2)
-
--- a sum that is kept
-sum_some : (sums : List (Option ℕ)) (o n : ℕ) → slice_get sums o ≡ Some (Some n) → IsSome (sum_at sums o)
-sum_some sums o n is = subst (λ (s : Option ℕ). IsSome s) (same_Some (Some n) (sum_at sums o) (sym is ∙ slice_get-get_or sums o None (slice_get_within sums o (Some n) is))) refl
-
-known_sum : (sums : List (Option ℕ)) (o : ℕ) → IsSome (sum_at sums o) → (n : ℕ) × (slice_get sums o ≡ Some (Some n))
-known_sum sums o some = elim (cases_lt o (length sums)) [
-  | inl lt ↦ by (sum_at sums o) some (slice_get-get_or sums o None lt)
-  | inr past ↦ absurd (false≢true (subst (λ (s : Option ℕ). IsSome s) (get_or_past sums o None past) some))
-]
-  where
-    by : (sum : Option ℕ) → IsSome sum → slice_get sums o ≡ Some sum → (n : ℕ) × (slice_get sums o ≡ Some (Some n))
-    by None empty is = absurd (false≢true empty)
-    by (Some n) known is = (n, is)
-
 pub sums_are : (node : Node) (t : ℕ) (order : List ℕ) (rows : List (List ℕ)) (sums : List (Option ℕ)) → AreWalks node t order rows → HasSums (train_at node.problem t) order rows sums
     → (o : ℕ) → IsSome (sum_at sums o) ↔ IsOnSome node t o
-sums_are node t order rows sums are has o = (on, known)
+sums_are node t order rows sums are has o = by (sum_at sums o) (has.are_sums o)
   where
-    on : IsSome (sum_at sums o) → IsOnSome node t o
-    on some =
-        let sum = known_sum sums o some in
-        let reached = (has.least o sum.0 sum.1).reached in
-        let place = chain_place node t order rows reached.0 o are reached.1 in
-        let way = goes_on (train_at node.problem t) order rows place.0 o are.is_laid place.1 in
-        (reached.0 ++ o ∷ way.0, through node t order rows reached.0 o way.0 are reached.1 way.1, Contains-append_right reached.0 (o ∷ way.0) o (contains_here o way.0))
+    train : List Operation
+    train = train_at node.problem t
 
-    known : IsOnSome node t o → IsSome (sum_at sums o)
-    known (route, allowed, there) =
+    leads : (front : List ℕ) → Chain order rows (last_of order) front o → IsOnSome node t o
+    leads front chain =
+        let place = chain_place train order rows front o are.is_laid chain in
+        let way = goes_on train order rows place.0 o are.is_laid place.1 in
+        (front ++ o ∷ way.0, through node t order rows front o way.0 are chain way.1, Contains-append_right front (o ∷ way.0) o (contains_here o way.0))
+
+    chained : IsOnSome node t o → (front : List ℕ) × Chain order rows (last_of order) front o
+    chained (route, allowed, there) =
         let part = parted o route (is_in o route there) in
-        let sum = has.known o part.before (walk_parts order rows (last_of order) part.before o part.rest (subst (IsRowWalk order rows (last_of order)) part.is (are.walk route allowed))).0 in
-        sum_some sums o sum.0 sum.1
+        (part.before, (walk_parts order rows (last_of order) part.before o part.rest (subst (IsRowWalk order rows (last_of order)) part.is (are.walk route allowed))).0)
+
+    by : (sum : Option ℕ) → MatchOption sum ((front : List ℕ) → Chain order rows (last_of order) front o → ⊥) (IsLeastOnRows train order rows (last_of order) o) → IsSome sum ↔ IsOnSome node t o
+    by None none = (λ some. absurd (false≢true some), λ on. let way = chained on in absurd (none way.0 way.1))
+    by (Some n) least = (λ some. leads least.reached.0 least.reached.1, λ on. refl)
 
 -- ---- a mark
 
