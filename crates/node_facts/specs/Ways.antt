@@ -1,5 +1,5 @@
 -- The ways through a train that fixings and decisions allow, and their least sums of durations.
-use Rattle.std.specs.Prelude.{◌≡◌, ◌⊎◌, ℕ, ◌+◌, ◌-◌, ◌≤◌, List, [], ◌∷◌, length, All, Contains, Option, Some, None, slice_index, min, MatchOption}
+use Rattle.std.specs.Prelude.{◌≡◌, ◌⊎◌, ℕ, ◌+◌, ◌≤◌, List, [], ◌∷◌, All, Contains, Option, Some, None, min, MatchOption}
 use Rattle.disp_model.specs.declared.train.Operation.{Operation}
 use Rattle.disp_model.specs.Train.{duration_of, IsSuccessor, IsExit}
 use Rattle.route_marks.specs.Marks.{sum_at}
