@@ -7,12 +7,12 @@ use crate::found::{Found, by_any, by_time, by_toll};
 use crate::holders::Holders;
 use crate::layers::has_layers;
 use crate::links::Links;
-use crate::listed::listings_of;
 use crate::spots::{Rows, Spots};
 use crate::view::View;
 use disp_model::{Memory, Op, Problem};
 use event_graph::Graph;
 use incremental_paths::Paths;
+use problem_facts::listings_of;
 use route_sets::Routes;
 use std::alloc::Global;
 

@@ -1,10 +1,10 @@
 ghost use Rattle.std.specs.Prelude.{◌≡◌};
 
 use crate::holders::Holder;
-use crate::listed::listings_of;
 use crate::spots::{NEVER, Spot, Spots};
 use crate::view::View;
 use disp_model::Memory;
+use problem_facts::listings_of;
 use route_sets::Routes;
 use std::alloc::Global;
 

@@ -17,7 +17,6 @@ mod found;
 mod holders;
 mod layers;
 mod links;
-mod listed;
 mod meetings;
 mod pusher;
 mod queue;
@@ -28,4 +27,3 @@ mod view;
 mod ways;
 
 pub use adviser::{Advice, Adviser, Strategy};
-pub use listed::listings_of;

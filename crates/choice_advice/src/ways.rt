@@ -1,11 +1,11 @@
 use crate::facts::Facts;
 use crate::holders::Holder;
-use crate::listed::listings_of;
 use crate::seeker::Seeker;
 use crate::spots::NEVER;
 use crate::tolls::toll;
 use crate::view::View;
 use disp_model::{Listing, Memory};
+use problem_facts::listings_of;
 use route_sets::Routes;
 use std::alloc::Global;
 

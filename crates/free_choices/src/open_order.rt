@@ -5,9 +5,9 @@ ghost use Rattle.disp_model.specs.Earliest.{IsPicked};
 ghost use Rattle.free_choices.specs.Picks.{IsListed};
 
 use crate::span::span_of;
-use choice_advice::listings_of;
 use disp_model::{Op, Problem};
 use event_graph::Graph;
+use problem_facts::listings_of;
 
 /// The release time with which an operation lists a resource.
 pub(crate) fn release_at(problem: &Problem, op: Op, resource: u32) -> Option<u32>

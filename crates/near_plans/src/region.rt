@@ -1,6 +1,6 @@
 use crate::base::Base;
-use choice_advice::listings_of;
 use disp_model::{Component, Event, Memory, Op, Problem};
+use problem_facts::listings_of;
 use share_bound::cost_of;
 use std::alloc::Global;
 use train_insertion::{Draw, Target};

@@ -3,9 +3,9 @@ ghost use Rattle.near_plans.specs.Plans.{IsBeside};
 
 use crate::base::Base;
 use crate::region::{is_among, op_of};
-use choice_advice::listings_of;
 use disp_model::{Decision, Event, Memory, Op, Problem};
 use event_graph::{ExtendNo, Graph};
+use problem_facts::listings_of;
 use std::alloc::Global;
 use train_insertion::Target;
 

@@ -7,7 +7,7 @@ ghost use Rattle.problem_facts.specs.Conflicts.{IsShared, IsConflict};
 use disp_model::{Listing, Op, Problem};
 
 /// What an operation lists: nothing where there is no such operation.
-fn listings_of(problem: &Problem, op: Op) -> &[Listing]
+pub fn listings_of(problem: &Problem, op: Op) -> &[Listing]
     ensures { result.now ≡ listings_of problem.now op }
 {
     let Some(train) = problem.trains.as_slice().get(op.train as usize) else {
