@@ -1,11 +1,12 @@
 -- What a decided order makes of what is kept.
-use Rattle.std.proofs.Common.{◌≡◌, ◌∙◌, ℕ, ◌-◌, ◌≤◌, List, [], ◌∷◌, ◌++◌, length, take, Some, refl, sym, ap, subst, inl, inr, arith}
-use Rattle.std.specs.Prelude.{Contains}
+use Rattle.std.proofs.Common.{◌≡◌, ◌∙◌, ℕ, ◌-◌, ◌≤◌, List, [], ◌∷◌, ◌++◌, length, take, Bool, Some, refl, sym, ap, subst, inl, inr, arith}
+use Rattle.std.specs.Prelude.{◌↔◌, Contains, IsTrue}
 use Rattle.std.proofs.lemmas.List.{length-append, take-append-le, take_all, append-nil}
-use Rattle.std.proofs.lemmas.List.Elements.{All-push, All-pop, All-weaker, Contains-push, Contains-push_cases, Contains-append_left}
+use Rattle.std.proofs.lemmas.List.Elements.{All-push, All-pop, All-contains, All-weaker, Contains-push, Contains-push_cases, Contains-append_left}
 use Rattle.disp_model.specs.declared.train.Op.{Op}
 use Rattle.disp_model.specs.declared.decision.Decision.{Decision}
 use Rattle.disp_model.specs.declared.decision.Decision.TheVariants.{First}
+use Rattle.disp_model.specs.Numbers.{number_of}
 use Rattle.disp_model.specs.Node.{Node, with_decision}
 use Rattle.disp_model.specs.Routes.{AgreesWithDecision, IsForced}
 use Rattle.disp_model.specs.Walks.{HasCycle}
@@ -23,7 +24,7 @@ use Rattle.event_arcs.proofs.Offsets.{all_have_routes}
 use Rattle.event_arcs.proofs.Cycling.{same_cycles}
 use Rattle.disp_laws.proofs.LeavesStay.{HaveRoutes}
 use Rattle.event_graph.specs.declared.orders.Pair.{Pair}
-use Rattle.event_graph.specs.Pairs.{IsDecidedAt}
+use Rattle.event_graph.specs.Pairs.{IsDecidedAt, HasOrder}
 use Rattle.event_graph.specs.States.{pair_of, AreOrdersOf, GraphState, IsStateAt, without_last_of}
 use Rattle.event_graph.specs.declared.parts.Parts.{Parts}
 use Rattle.event_graph.specs.declared.changes.Change.TheVariants.{Nothing, Order}
@@ -204,3 +205,12 @@ may_add node ops parts each a b may is = record {
   placed = subst (ArePlaced node) (sym is) may.state.placed;
   arcs_are = may.state.arcs;
 }
+
+-- ---- whether it is decided
+
+pub has_decided : (node : Node) (pairs : List Pair) (number : ℕ) (a b : Op) (has : Bool) → AreOrdersOf node pairs → HasOperation node.problem a → HasOperation node.problem b → number ≡ number_of node.problem a → IsTrue has ↔ HasOrder pairs number a b
+    → IsTrue has ↔ Contains node.decisions (First a b)
+has_decided node pairs number a b has are one other is says = (λ yes. by (says.0 yes), λ decided. says.1 (pair_of node.problem a b, are.listed a b decided one other, record { from_is = sym is; first_is = refl; second_is = refl }))
+  where
+    by : HasOrder pairs number a b → Contains node.decisions (First a b)
+    by (pair, there, order) = subst (λ (d : Decision). Contains node.decisions d) (ap (λ (o : Op). First o pair.second) order.first_is ∙ ap (λ (o : Op). First a o) order.second_is) (All-contains (IsDecidedAt node) pairs pair are.decided there)

@@ -5,6 +5,7 @@ use Rattle.std.proofs.lemmas.Bool.{cases_lt}
 use Rattle.std.proofs.lemmas.Option.{slice_get_within, same_Some, slice_get-get_or, get_or_from_slice_get}
 use Rattle.std.proofs.lemmas.List.{length-map, get_or-map}
 use Rattle.std.proofs.lemmas.List.Elements.{All-contains}
+use Rattle.disp_model.specs.declared.train.Op.{Op}
 use Rattle.disp_model.specs.declared.decision.Decision.{Decision}
 use Rattle.disp_model.specs.declared.decision.Decision.TheVariants.{First}
 use Rattle.disp_model.specs.Numbers.{number_of}
@@ -17,7 +18,7 @@ use Rattle.train_orders.proofs.Places.{at_contains, contains_at}
 use Rattle.event_arcs.specs.Ordering.{LeadsAsOrdered, AddsOrder}
 use Rattle.event_arcs.proofs.Joining.{leads_kept}
 use Rattle.event_graph.specs.declared.orders.Pair.{Pair}
-use Rattle.event_graph.specs.Pairs.{IsDecidedAt, Touches, AddsTouching, IsPlaceOf, AddsFrom}
+use Rattle.event_graph.specs.Pairs.{IsDecidedAt, HasOrder, HasNoOrderFrom, Touches, AddsTouching, IsPlaceOf, AddsFrom}
 
 pub ordered_kept : (node : Node) (old new : List Arc) (pair : Pair) → ((arc : Arc) → Contains old arc → Contains new arc) → LeadsAsOrdered node old pair.first pair.second → LeadsAsOrdered node new pair.first pair.second
 ordered_kept node old new pair kept leads = record {
@@ -101,3 +102,38 @@ loop_on key keys number node inside pairs place next pair decision old mid new t
     let here : slice_get pairs (place - 1) ≡ Some pair = slice_get-get_or pairs (place - 1) pair within ∙ ap Some (sym (at ∙ ap (λ (ps : List Pair). get_or ps (place - 1) pair) same)) in
     added_more key number node pairs place next pair old mid new some here (subst (λ (ks : List ℕ). IsPlaceOf ks number place) mapped is)
     (subst (λ (ks : List ℕ). IsFront ks (place - 1) (slice_index ks (place - 1)) next) mapped front) before (subst (λ (d : Decision). AddsOrder node d mid new) decided adds)
+
+-- ---- whether an order is there
+
+pub from_at : (keys : List ℕ) (pairs : List Pair) (i : ℕ) (pair : Pair) → keys ≡ map (λ p. p.from) pairs → slice_get pairs i ≡ Some pair → slice_index keys i ≡ pair.from
+from_at keys pairs i pair mapped at = ap (λ (ks : List ℕ). slice_index ks i) mapped ∙ key_at (λ p. p.from) pairs i pair at
+
+pub none_yet : (keys : List ℕ) (pairs : List Pair) (place from : ℕ) (first second : Op) → keys ≡ map (λ p. p.from) pairs → IsFront keys (length keys) from place → HasNoOrderFrom pairs place from first second
+none_yet keys pairs place from first second mapped front i pair le at is =
+    front.none_behind i le (omega (arith, slice_get_within pairs i pair at, ap (λ (ks : List ℕ). length ks) mapped, length-map pairs (λ p. p.from))) (from_at keys pairs i pair mapped at ∙ is.from_is)
+
+-- the order that ends at a place
+pub pair_before : (keys : List ℕ) (pairs : List Pair) (place from : ℕ) (pair : Pair) → keys ≡ map (λ p. p.from) pairs → 0 < place → IsPlaceOf keys from place → pair ≡ get_or pairs (place - 1) pair → slice_get pairs (place - 1) ≡ Some pair
+pair_before keys pairs place from pair mapped some placed at =
+    let within : place - 1 < length pairs = omega (arith, some, placed.within, ap (λ (ks : List ℕ). length ks) mapped, length-map pairs (λ p. p.from)) in
+    slice_get-get_or pairs (place - 1) pair within ∙ ap Some (sym at)
+
+pub none_on : (keys : List ℕ) (pairs : List Pair) (place next from : ℕ) (pair : Pair) (first second : Op) → keys ≡ map (λ p. p.from) pairs → 0 < place → IsPlaceOf keys from place → IsFront keys (place - 1) (slice_index keys (place - 1)) next
+    → slice_get pairs (place - 1) ≡ Some pair → ((pair.first ≡ first) × (pair.second ≡ second) → ⊥) → HasNoOrderFrom pairs place from first second → HasNoOrderFrom pairs next from first second
+none_on keys pairs place next from pair first second mapped some placed front at other none i found le here is = elim (cases_lt i place) [
+  | inr past ↦ none i found past here is
+  | inl lt ↦ elim (cases_lt i (place - 1)) [
+    | inl early ↦ front.none_behind i le early (from_at keys pairs i found mapped here ∙ is.from_is ∙ sym (placed.last some))
+    | inr last ↦
+        let equal : i ≡ place - 1 = omega (arith, lt, last, some) in
+        let one : pair ≡ found = same_Some pair found (sym at ∙ subst (λ (k : ℕ). slice_get pairs k ≡ Some found) equal here) in
+        other (ap (λ (p : Pair). p.first) one ∙ is.first_is, ap (λ (p : Pair). p.second) one ∙ is.second_is)
+  ]
+]
+
+pub none_there : (pairs : List Pair) (place from : ℕ) (first second : Op) → place ≤ 0 → HasNoOrderFrom pairs place from first second → HasOrder pairs from first second → ⊥
+none_there pairs place from first second le none has = let found = at_contains pairs has.0 has.1 in none found.0 has.0 (omega (arith, le)) found.1 has.2
+
+pub order_there : (keys : List ℕ) (pairs : List Pair) (place from : ℕ) (pair : Pair) (first second : Op) → keys ≡ map (λ p. p.from) pairs → 0 < place → IsPlaceOf keys from place → slice_get pairs (place - 1) ≡ Some pair → (pair.first ≡ first) × (pair.second ≡ second)
+    → HasOrder pairs from first second
+order_there keys pairs place from pair first second mapped some placed at is = (pair, contains_at pairs pair (place - 1) at, record { from_is = sym (from_at keys pairs (place - 1) pair mapped at) ∙ placed.last some; first_is = is.0; second_is = is.1 })

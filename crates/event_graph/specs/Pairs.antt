@@ -1,5 +1,6 @@
 -- Orders that are decided, and the arcs that those of one operation add.
 use Rattle.std.specs.Prelude.{◌≡◌, ℕ, ◌-◌, ◌<◌, ◌≤◌, List, All, Contains, Some, map, length, slice_get, slice_index, ◌⊎◌}
+use Rattle.disp_model.specs.declared.train.Op.{Op}
 use Rattle.disp_model.specs.declared.decision.Decision.TheVariants.{First}
 use Rattle.disp_model.specs.Node.{Node}
 use Rattle.disp_model.specs.Routes.{IsForced}
@@ -23,6 +24,22 @@ pub record AreThreaded (pairs : List Pair) (by_first by_second : Threaded) : Typ
 -- the order is decided at the node
 abbrev pub IsDecidedAt : Node → Pair → Type 0
 IsDecidedAt node pair = Contains node.decisions (First pair.first pair.second)
+
+-- the order is that of the two operations, the first of which has the number
+pub record IsOrderOf (from : ℕ) (first second : Op) (pair : Pair) : Type 0 where
+  pub from_is : pair.from ≡ from
+  pub first_is : pair.first ≡ first
+  pub second_is : pair.second ≡ second
+
+-- the order of the two operations is among the orders
+abbrev pub HasOrder : List Pair → ℕ → Op → Op → Type 0
+HasOrder pairs from first second = (pair : Pair) × Contains pairs pair
+    × IsOrderOf from first second pair
+
+-- no order from a place on is that of the two operations
+abbrev pub HasNoOrderFrom : List Pair → ℕ → ℕ → Op → Op → Type 0
+HasNoOrderFrom pairs place from first second = (i : ℕ) (pair : Pair) → place ≤ i
+    → slice_get pairs i ≡ Some pair → IsOrderOf from first second pair → ⊥
 
 -- one of the order's operations has the number
 abbrev pub Touches : Pair → ℕ → Type 0

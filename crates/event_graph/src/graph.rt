@@ -1,6 +1,7 @@
-ghost use Rattle.std.specs.Prelude.{◌≡◌, ◌<◌, ℕ, [], IfOk, OnOk, OnErr, IfErr, MatchOption, length};
+ghost use Rattle.std.specs.Prelude.{◌≡◌, ◌↔◌, ◌<◌, ℕ, [], Contains, IsTrue, IfOk, OnOk, OnErr, IfErr, MatchOption, length};
 ghost use Rattle.disp_model.specs.WellFormed.{operation_count};
 ghost use Rattle.disp_model.specs.Numbers.{number_of};
+ghost use Rattle.disp_model.specs.declared.decision.Decision.TheVariants.{First};
 ghost use Rattle.disp_model.specs.Node.{node_at, with_decision};
 ghost use Rattle.disp_model.specs.Routes.{HasRoute};
 ghost use Rattle.disp_model.specs.Walks.{HasCycle};
@@ -118,6 +119,15 @@ impl<'p> Graph<'p> {
         ensures number { number_of self.now.problem result ≡ number }
     {
         self.ops[number as usize]
+    }
+
+    /// Whether the order of two operations is decided, the first before the second.
+    pub fn is_decided(&self, a: Op, b: Op) -> bool
+        requires from { HasOperation self.now.problem a }
+        requires to { HasOperation self.now.problem b }
+        ensures { IsTrue result ↔ Contains self.now.decisions (First a b) }
+    {
+        self.parts.orders.has(self.number(a), a, b)
     }
 
     /// The allowed routes of a train. Each train has one.

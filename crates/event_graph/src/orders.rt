@@ -1,10 +1,10 @@
-ghost use Rattle.std.specs.Prelude.{◌≡◌, ◌<◌, ◌-◌, ◌∷◌, ◌++◌, [], List, take, length, IfOk, OnOk, OnErr};
+ghost use Rattle.std.specs.Prelude.{◌≡◌, ◌<◌, ◌↔◌, ◌-◌, ◌∷◌, ◌++◌, [], List, take, length, IsTrue, IfOk, OnOk, OnErr};
 ghost use Rattle.disp_model.specs.declared.fixing.Fixing.{Fixing};
 ghost use Rattle.disp_model.specs.declared.decision.Decision.{Decision};
 ghost use Rattle.disp_model.specs.declared.decision.Decision.TheVariants.{First};
 ghost use Rattle.disp_model.specs.Node.{node_at};
 ghost use Rattle.event_arcs.specs.Placed.{ArePlaced};
-ghost use Rattle.event_graph.specs.Pairs.{Touches, AddsTouching};
+ghost use Rattle.event_graph.specs.Pairs.{HasOrder, Touches, AddsTouching};
 
 use disp_model::{Decision, Memory, Op, Problem};
 use event_arcs::{Placed, add_order};
@@ -29,6 +29,13 @@ fn decision_of(pair: Pair) -> Decision
         a: pair.first,
         b: pair.second,
     }
+}
+
+/// Whether the order is that of these two operations.
+fn is_of(pair: Pair, first: Op, second: Op) -> bool
+    ensures { IsTrue result ↔ ((pair.first ≡ first) × (pair.second ≡ second)) }
+{
+    pair.first == first && pair.second == second
 }
 
 /// The orders that are decided, threaded by either of their operations.
@@ -90,6 +97,21 @@ impl Orders {
         self.pairs.pop();
         self.by_first.pop();
         self.by_second.pop();
+    }
+
+    /// Whether the order of two operations is among them, the first of which has this number.
+    pub(crate) fn has(&self, from: u32, first: Op, second: Op) -> bool
+        requires { from < self.now.size }
+        ensures { IsTrue result ↔ HasOrder self.now.pairs from first second }
+    {
+        let mut place = self.by_first.last(from);
+        while place > 0 {
+            if is_of(self.pairs[place - 1], first, second) {
+                return true;
+            }
+            place = self.by_first.before(place - 1);
+        }
+        false
     }
 
     /// Adds the arcs of the orders whose first operation has this number.

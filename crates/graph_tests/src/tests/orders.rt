@@ -1,6 +1,9 @@
 // Two trains on one block: orders added, refused and taken back.
+ghost use Rattle.std.specs.Prelude.{◌≡◌, Some};
+ghost use Rattle.worked_problems.specs.Worked.{blocked_trains};
+
 use super::graphs::{extend, op, order, root};
-use disp_model::{Decision, Memory};
+use disp_model::{Decision, Memory, Op};
 use event_graph::{ExtendNo, Graph};
 use incremental_paths::Arc;
 use std::alloc::Global;
@@ -83,5 +86,34 @@ fn the_last_order_is_taken_back(rt: HostRuntime) -> Result<(), Fail> {
     let problem = two_trains_until(rt.alloc(), 3).expect(&rt, "two trains");
     let mut graph = root(&rt, rt.alloc(), &problem);
     check_undone(&rt, rt.alloc(), &mut graph);
+    Ok(())
+}
+
+/// Whether the one train is put before the other, and the other before the one.
+fn decided(graph: &Graph) -> (bool, bool)
+    requires { graph.now.problem.trains ≡ blocked_trains (Some 3) 0 }
+{
+    let one = Op { train: 0, op: 0 };
+    let other = Op { train: 1, op: 0 };
+    (graph.is_decided(one, other), graph.is_decided(other, one))
+}
+
+/// An order that is added is decided until it is taken back, and its reverse never is.
+fn check_decided(rt: &impl Abort, graph: &mut Graph)
+    requires { graph.old.problem.trains ≡ blocked_trains (Some 3) 0 }
+{
+    assert_eq!(rt; decided(graph), (false, false));
+    extend(rt, graph, order(0, 1));
+    assert_eq!(rt; decided(graph), (true, false));
+    assert!(rt; graph.decisions().len() > 0);
+    graph.undo();
+    assert_eq!(rt; decided(graph), (false, false));
+}
+
+#[test]
+fn an_order_is_decided_until_it_is_taken_back(rt: HostRuntime) -> Result<(), Fail> {
+    let problem = two_trains_until(rt.alloc(), 3).expect(&rt, "two trains");
+    let mut graph = root(&rt, rt.alloc(), &problem);
+    check_decided(&rt, &mut graph);
     Ok(())
 }
