@@ -3,3 +3,4 @@ mod Placing
 mod Looking
 mod Picking
 pub mod Shown
+mod Overlapping

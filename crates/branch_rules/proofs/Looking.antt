@@ -18,6 +18,7 @@ use Rattle.disp_model.specs.Earliest.{op_of, Clash, IsBelow}
 use Rattle.disp_laws.proofs.Picked.{same_op}
 use Rattle.disp_laws.proofs.RouteSearch.{Decided, both, same_number}
 use Rattle.disp_laws.proofs.LeavesDecided.{le_or_not, lt_or_not}
+use Rattle.first_overlaps.proofs.Looking.{same_op_or_not}
 use Rattle.branch_rules.specs.declared.pair.Pair.{Pair}
 use Rattle.branch_rules.specs.Pairs.{RiseAlong, IsPairOf, IsUpTo, IsEarlier, AreClashing, IsFirstPair, NoneClash}
 use Rattle.branch_rules.specs.Behind.{Lists, AreFalling, ArePlacesOf, IsTriedOn, IsFirstFrom, IsFirstWith}
@@ -54,12 +55,6 @@ of_two_trains e f pair is same = by is.names
     by (inr names) = omega (arith, is.trains, names.0.train, names.1.train, same)
 
 -- ---- whether a pair comes no later is decided
-
-same_op_or_not : (a b : Op) → Decided (a ≡ b)
-same_op_or_not a b = elim (both (same_number a.train b.train) (same_number a.op b.op)) [
-  | inl same ↦ inl (ap (λ (t : ℕ). record { train = t; op = a.op }) same.0 ∙ ap (λ (n : ℕ). record { train = b.train; op = n }) same.1)
-  | inr not ↦ inr (λ is. not (ap (λ (o : Op). o.train) is, ap (λ (o : Op). o.op) is))
-]
 
 either : {P Q : Type 0} → Decided P → Decided Q → Decided (P ⊎ Q)
 either (inl p) q = inl (inl p)

@@ -101,10 +101,10 @@ apart_trains : (a b : Op) (e f : Event) → a.train < b.train → (Starts a e ×
 apart_trains a b e f lt (inl names) same = omega (arith, lt, names.0.train, names.1.train, same)
 apart_trains a b e f lt (inr names) same = omega (arith, lt, names.0.train, names.1.train, same)
 
-abbrev Undecided : Node → Op → Op → Type 0
+abbrev pub Undecided : Node → Op → Op → Type 0
 Undecided node a b = (Contains node.decisions (First a b) → ⊥) × (Contains node.decisions (First b a) → ⊥)
 
-clash_undecided : (node : Node) (plan : List Event) (a b : Op) → IsEarliest node plan → a.train < b.train → Clash node.problem plan a b → Undecided node a b
+pub clash_undecided : (node : Node) (plan : List Event) (a b : Op) → IsEarliest node plan → a.train < b.train → Clash node.problem plan a b → Undecided node a b
 clash_undecided node plan a b earliest lt c = by c.names
   where
     met : Meets node plan
@@ -122,7 +122,7 @@ pair_is_first node plan pair earliest is =
       first = λ c d other. is.each c d other.trains other.clash;
     }
 
-not_valid : (node : Node) (plan : List Event) (a b : Op) → a.train < b.train → Clash node.problem plan a b → IsValid node.problem node.fixings plan → ⊥
+pub not_valid : (node : Node) (plan : List Event) (a b : Op) → a.train < b.train → Clash node.problem plan a b → IsValid node.problem node.fixings plan → ⊥
 not_valid node plan a b lt c valid = c.not_apart (valid.apart c.i c.j c.earlier c.later c.order c.earlier_there c.later_there (apart_trains a b c.earlier c.later lt c.names))
 
 fits : (node : Node) (changes : List Change) → IsEdition node.problem changes → node.fixings ≡ standing_of changes → AreFit node.problem node.fixings

@@ -2,39 +2,24 @@
 use Rattle.std.proofs.Common.{◌≡◌, ◌≢◌, ◌∙◌, ℕ, zero, suc, ◌+◌, ◌<◌, ◌≤◌, List, [], ◌∷◌, ◌++◌, length, get_or, set, drop, Option, Some, None, refl, sym, ap, subst, inl, inr, arith}
 use Rattle.std.specs.Prelude.{◌⊎◌, All, Contains, slice_get}
 use Rattle.std.specs.Global.{Vec}
-use Rattle.std.specs.Option.{option_map_or}
 use Rattle.std.proofs.lemmas.Bool.{cases_lt, cases_eq}
 use Rattle.std.proofs.lemmas.Option.{same_Some, slice_get_within, slice_get-get_or, slice_get_read}
 use Rattle.std.proofs.lemmas.List.{length-set, length-append, get_or_append_left, get_or_default, get_or-set_same, get_or-set_other}
 use Rattle.std.proofs.Math.Seq.{get_or-append_seam}
 use Rattle.std.proofs.lemmas.List.Elements.{Contains-append_left, Contains-append_right, Contains-append_cases}
-use Rattle.disp_model.specs.declared.train.Op.{Op}
 use Rattle.disp_model.specs.declared.train.Listing.{Listing}
-use Rattle.disp_model.specs.declared.train.Operation.{Operation}
 use Rattle.disp_model.specs.declared.plan.Event.{Event}
 use Rattle.disp_model.specs.declared.problem.Problem.{Problem}
 use Rattle.disp_model.specs.Plan.{first_of}
 use Rattle.disp_model.specs.Arcs.{listings_of}
-use Rattle.disp_model.specs.Valid.{train_at}
 use Rattle.disp_model.specs.Earliest.{op_of}
+use Rattle.first_overlaps.proofs.Filing.{set_parts}
 use Rattle.branch_rules.specs.declared.behind.Behind.{Behind}
 use Rattle.branch_rules.specs.Behind.{AreOf, Lists, AreFalling, ArePlacesOf, IsKnownBehind, IsPutBehind, ArePutBehind}
 use Rattle.branch_rules.proofs.Ending.{next_later, next_here, next_none}
 
 no_event : Event
 no_event = record { time = 0; train = 0; operation = 0 }
-
--- ---- lists in a list
-
-pub set_parts : {X : Type 0} (xs : List X) (p : ℕ) (y : X) (i : ℕ) (z : X) → p < length xs → slice_get (set xs p y) i ≡ Some z → ((i ≡ p) × (z ≡ y)) ⊎ ((i ≢ p) × (slice_get xs i ≡ Some z))
-set_parts [] p y i z lt e = absurd (omega (arith, lt))
-set_parts (x ∷ xs) zero y zero z lt e = inl (refl, sym (same_Some y z e))
-set_parts (x ∷ xs) zero y (suc i) z lt e = inr (λ is. omega (arith, is), e)
-set_parts (x ∷ xs) (suc p) y zero z lt e = inr (λ is. omega (arith, is), e)
-set_parts (x ∷ xs) (suc p) y (suc i) z lt e = elim (set_parts xs p y i z (omega (arith, lt)) e) [
-  | inl own ↦ inl (omega (arith, own.0), own.1)
-  | inr other ↦ inr (λ is. other.0 (omega (arith, is)), other.1)
-]
 
 -- ---- places in falling order
 
@@ -200,17 +185,6 @@ behind_more problem plan i e old new at train next_is placed was = record {
     }
 
 -- ---- what is listed has a name
-
-pub listings_within : (problem : Problem) (o : Op) → o.train < length problem.trains → All (λ l. l.resource < length problem.names) (listings_of problem o)
-listings_within problem o train = by_found (slice_get (train_at problem o.train) o.op) refl
-  where
-    by_found : (found : Option Operation) → slice_get (train_at problem o.train) o.op ≡ found → All (λ l. l.resource < length problem.names) (option_map_or (λ p. p.listings) found [])
-    by_found None at k d lt = absurd (omega (arith, lt))
-    by_found (Some p) at k d lt =
-        let within = slice_get_within (train_at problem o.train) o.op p at in
-        let refers = problem.well_formed.references o.train [] train o.op p within in
-        let own : get_or (train_at problem o.train) o.op p ≡ p = same_Some _ p (sym (slice_get-get_or (train_at problem o.train) o.op p within) ∙ at) in
-        subst (λ (q : Operation). All (λ l. l.resource < length problem.names) q.listings) own refers.listings k d lt
 
 pub places_are : (problem : Problem) (plan : List Event) (i r : ℕ) (behind : Behind) (own : Vec ℕ) (places : List ℕ) → r < length behind.listed.items → own ≡ get_or behind.listed.items r own → places ≡ own.items → IsKnownBehind problem plan i behind → ArePlacesOf problem plan i r places
 places_are problem plan i r behind own places lt own_is is known = subst (ArePlacesOf problem plan i r) (sym is) (known.listed r own (slice_get_read behind.listed.items (length behind.listed.items) r own refl lt own_is))

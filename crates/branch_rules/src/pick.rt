@@ -1,13 +1,14 @@
 ghost use Rattle.std.specs.Prelude.{◌≡◌, MatchOption, IfOk, IfSome, length};
 ghost use Rattle.disp_model.specs.declared.decision.Choice.TheVariants.{Order};
 ghost use Rattle.disp_model.specs.Nodes.{IsDead};
-ghost use Rattle.disp_model.specs.Earliest.{IsEarliest, IsFirstFork};
+ghost use Rattle.disp_model.specs.Earliest.{IsEarliest, IsFirstFork, IsFixedPick};
 ghost use Rattle.branch_rules.specs.Picks.{AreAlone, AreTheOnly, IsSomeNotAlone, IsPickAt};
 
 use crate::pair::Pair;
 use crate::sweep::first_clash;
 use disp_model::{Choice, List, Memory, Op, Plan, Problem};
 use event_graph::Graph;
+use first_overlaps::first_overlap;
 use plan_builder::earliest;
 use std::alloc::Global;
 
@@ -82,6 +83,36 @@ fn pick_by_plan(alloc: Global, problem: &Problem, graph: &Graph, plan: Plan) -> 
     }
 }
 
+/// The order of the first two operations that hold a resource at a time, where that is sure and each
+/// train has one route.
+fn first_order(alloc: Global, problem: &Problem, graph: &Graph) -> Result<Option<Choice>, Memory>
+    requires problem { graph.now.problem ≡ problem.now }
+    requires alive { IsDead graph.now → ⊥ }
+    requires alone { AreAlone graph.now (length problem.now.trains) }
+    ensures { IfOk result
+        (λ found. IfSome found (λ choice. IsFixedPick graph.now (Some choice))) }
+{
+    match first_overlap(alloc, problem, graph)? {
+        Some(overlap) => Ok(Some(Choice::Order(overlap.a, overlap.b))),
+        None => Ok(None),
+    }
+}
+
+/// What the plan of earliest starts shows at the node of a graph, which is not dead and at which
+/// each train has one route.
+fn pick_by_routes(alloc: Global, problem: &Problem, graph: &Graph) -> Result<Pick, Memory>
+    requires problem { graph.now.problem ≡ problem.now }
+    requires alive { IsDead graph.now → ⊥ }
+    requires alone { AreAlone graph.now (length problem.now.trains) }
+    ensures { IfOk result (IsPickAt graph.now) }
+{
+    let Some(singles) = only_routes(alloc, problem, graph)? else {
+        unreachable!();
+    };
+    let plan = earliest(alloc, problem, &singles, graph.paths())?;
+    pick_by_plan(alloc, problem, graph, plan)
+}
+
 /// What the fixed rule finds at the node of a graph, which is not dead.
 ///
 /// It is the route choice at the fork of the first train with two allowed routes. Where each train
@@ -100,9 +131,8 @@ pub fn pick_fixed(alloc: Global, problem: &Problem, graph: &Graph) -> Result<Pic
     if let Some(op) = first_fork(problem, graph) {
         return Ok(Pick::Choice(Choice::Route(op)));
     }
-    let Some(singles) = only_routes(alloc, problem, graph)? else {
-        unreachable!();
-    };
-    let plan = earliest(alloc, problem, &singles, graph.paths())?;
-    pick_by_plan(alloc, problem, graph, plan)
+    match first_order(alloc, problem, graph)? {
+        Some(choice) => Ok(Pick::Choice(choice)),
+        None => pick_by_routes(alloc, problem, graph),
+    }
 }

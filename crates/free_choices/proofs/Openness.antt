@@ -37,7 +37,8 @@ use Rattle.route_sets.specs.Sets.{op_of_train as op_at, IsOnSome}
 use Rattle.branch_rules.specs.declared.pick.Pick.{Pick}
 use Rattle.branch_rules.specs.declared.pick.Pick.TheVariants.{Choice, Plan}
 use Rattle.branch_rules.specs.Picks.{IsPickAt}
-use Rattle.free_choices.specs.Picks.{IsPickBy, IsSpanOf, IsListed}
+use Rattle.first_overlaps.specs.Spans.{IsSpanOf, IsListed}
+use Rattle.free_choices.specs.Picks.{IsPickBy}
 
 -- ---- two routes
 

@@ -10,7 +10,6 @@ mod open_route;
 mod open_run;
 mod open_touch;
 mod pick;
-mod span;
 
 pub use branch_rules::Pick;
 pub use choice_advice::{Adviser, Strategy};

@@ -2,11 +2,11 @@ ghost use Rattle.std.specs.Prelude.{◌≡◌, ◌↔◌, ◌+◌, ◌<◌, IsTr
 ghost use Rattle.disp_model.specs.declared.settings.Rule.TheVariants.{Free};
 ghost use Rattle.disp_model.specs.declared.decision.Choice.TheVariants.{Order};
 ghost use Rattle.disp_model.specs.Earliest.{IsPicked};
-ghost use Rattle.free_choices.specs.Picks.{IsListed};
+ghost use Rattle.first_overlaps.specs.Spans.{IsListed};
 
-use crate::span::span_of;
 use disp_model::{Op, Problem};
 use event_graph::Graph;
+use first_overlaps::span_of;
 use problem_facts::listings_of;
 
 /// The release time with which an operation lists a resource.
@@ -22,10 +22,10 @@ pub(crate) fn release_at(problem: &Problem, op: Op, resource: u32) -> Option<u32
 }
 
 /// Whether a start is before an end and the release time behind it.
-fn is_before(start: u128, end: u128, release: u32) -> bool
+fn is_before(start: u64, end: u64, release: u32) -> bool
     ensures { IsTrue result ↔ (start < end + release) }
 {
-    start < end || start - end < u128::from(release)
+    start < end || start - end < u64::from(release)
 }
 
 /// Whether two operations hold a resource at a time, so that their order is open.

@@ -5,9 +5,9 @@ ghost use Rattle.disp_model.specs.Train.{IsExit};
 ghost use Rattle.disp_model.specs.Valid.{train_at};
 ghost use Rattle.disp_model.specs.Earliest.{IsPicked};
 
-use crate::span::is_forced;
 use disp_model::{Op, Problem};
 use event_graph::Graph;
+use first_overlaps::is_forced;
 
 /// Whether an operation goes on to another.
 fn goes_on(problem: &Problem, op: Op) -> bool

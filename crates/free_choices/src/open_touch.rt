@@ -1,19 +1,10 @@
-ghost use Rattle.std.specs.Prelude.{◌≡◌, ◌≢◌, ◌↔◌, IsTrue, All};
-ghost use Rattle.disp_model.specs.declared.decision.Decision.TheVariants.{First};
+ghost use Rattle.std.specs.Prelude.{◌≡◌, IsTrue};
 ghost use Rattle.disp_model.specs.Choices.{IsOpenOrder};
 
 use crate::open_order::release_at;
-use crate::span::span_of;
-use disp_model::{Decision, Op, Problem};
+use disp_model::{Op, Problem};
 use event_graph::Graph;
-
-/// Whether no decision is the order of one operation before another.
-fn is_undecided(decisions: &[Decision], a: Op, b: Op) -> bool
-    ensures { IsTrue result ↔ All (λ d. d ≢ First a b) decisions.now }
-{
-    let order = Decision::First { a, b };
-    decisions.iter().all(|decision| *decision != order)
-}
+use first_overlaps::span_of;
 
 /// Whether two operations list a resource, neither ends before the other starts, and their order is
 /// not decided, so that it is open.
@@ -42,8 +33,8 @@ pub(crate) fn is_open_touch(problem: &Problem, graph: &Graph, a: Op, b: Op, reso
     if first.start > second.end {
         return false;
     }
-    if !is_undecided(graph.decisions(), a, b) {
+    if graph.is_decided(a, b) {
         return false;
     }
-    is_undecided(graph.decisions(), b, a)
+    !graph.is_decided(b, a)
 }

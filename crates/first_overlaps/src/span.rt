@@ -1,22 +1,22 @@
-ghost use Rattle.std.specs.Prelude.{◌≡◌, ◌↔◌, IsTrue, IfSome};
+ghost use Rattle.std.specs.Prelude.{◌≡◌, ◌↔◌, ◌<◌, ◌^◌, IsTrue, MatchOption};
 ghost use Rattle.disp_model.specs.Routes.{IsForced};
 ghost use Rattle.disp_model.specs.Arcs.{min_of};
 ghost use Rattle.disp_model.specs.Walks.{IsLongest};
 ghost use Rattle.disp_model.specs.Choices.{IsEnd};
-ghost use Rattle.free_choices.specs.Picks.{IsSpanOf};
+ghost use Rattle.first_overlaps.specs.Spans.{IsSpanOf};
 
 use disp_model::{Op, Problem};
 use event_graph::Graph;
 
 /// From when and until when an operation runs at a node.
 #[derive(Clone, Copy)]
-pub(crate) struct Span {
-    pub start: u128,
-    pub end: u128,
+pub struct Span {
+    pub start: u64,
+    pub end: u64,
 }
 
 /// Whether each allowed route of its train has the operation.
-pub(crate) fn is_forced(problem: &Problem, graph: &Graph, op: Op) -> bool
+pub fn is_forced(problem: &Problem, graph: &Graph, op: Op) -> bool
     requires { graph.now.problem ≡ problem.now }
     ensures { IsTrue result ↔ IsForced graph.now op }
 {
@@ -29,7 +29,8 @@ pub(crate) fn is_forced(problem: &Problem, graph: &Graph, op: Op) -> bool
 /// When a forced operation starts.
 fn start_of(graph: &Graph, op: Op) -> u64
     requires { IsForced graph.now op }
-    ensures { IsLongest graph.now op result }
+    ensures longest { IsLongest graph.now op result }
+    ensures small { result < 2 ^ 53 }
 {
     let number = graph.number(op);
     graph.paths().length(number)
@@ -50,30 +51,33 @@ fn min_of(problem: &Problem, op: Op) -> u32
 
 /// When a forced operation ends that starts at a time: where its only next starts, or after its
 /// duration.
-fn end_of(problem: &Problem, graph: &Graph, op: Op, start: u64) -> u128
+fn end_of(problem: &Problem, graph: &Graph, op: Op, start: u64) -> u64
     requires problem { graph.now.problem ≡ problem.now }
     requires forced { IsForced graph.now op }
     requires start { IsLongest graph.now op start }
-    ensures { IsEnd graph.now op result }
+    requires small { start < 2 ^ 53 }
+    ensures end { IsEnd graph.now op result }
+    ensures small { result < 2 ^ 54 }
 {
     let train = op.train;
     match graph.routes(train).only_next(op.op) {
-        Some(next) => u128::from(start_of(graph, Op { train, op: next })),
-        None => u128::from(start) + u128::from(min_of(problem, op)),
+        Some(next) => start_of(graph, Op { train, op: next }),
+        None => start + u64::from(min_of(problem, op)),
     }
 }
 
 /// From when and until when an operation runs, where it is forced.
-pub(crate) fn span_of(problem: &Problem, graph: &Graph, op: Op) -> Option<Span>
+pub fn span_of(problem: &Problem, graph: &Graph, op: Op) -> Option<Span>
     requires { graph.now.problem ≡ problem.now }
-    ensures { IfSome result (λ span. IsSpanOf graph.now op span.start span.end) }
+    ensures { MatchOption result (IsForced graph.now op → ⊥)
+        (λ span. IsSpanOf graph.now op span.start span.end × (span.end < 2 ^ 54)) }
 {
     if !is_forced(problem, graph, op) {
         return None;
     }
     let start = start_of(graph, op);
     Some(Span {
-        start: u128::from(start),
+        start,
         end: end_of(problem, graph, op, start),
     })
 }

@@ -1,0 +1,4 @@
+pub mod Spanning
+pub mod Filing
+pub mod Settling
+pub mod Looking
