@@ -1,5 +1,5 @@
 use Rattle.std.proofs.Common.{sym, subst, arith}
-use Rattle.std.proofs.lemmas.Bool.{both_ways}
+use Rattle.std.proofs.lemmas.Bool.{both_ways, not-true}
 use Rattle.disp_model.specs.declared.problem.Problem.{Problem}
 use Rattle.event_arcs.proofs.Numbering.{forced_is_op}
 use Rattle.first_overlaps.specs.Spans.{IsListed}
@@ -12,8 +12,8 @@ is_decided-requires c = record {
   to = forced_is_op c.args.graph.now c.args.b c.in-Some-span_of.ensures.0.forced;
 }
 
-pub is_decided-2-requires : goal.is_decided-2-requires
-is_decided-2-requires c = record {
+pub is_decided-requires-2 : goal.is_decided-requires-2
+is_decided-requires-2 c = record {
   from = forced_is_op c.args.graph.now c.args.b c.in-Some-span_of.ensures.0.forced;
   to = forced_is_op c.args.graph.now c.args.a c.in-Some.ensures.0.forced;
 }
@@ -31,4 +31,4 @@ returns c is =
     (subst (λ (p : Problem). IsListed p b resource c.in-Some-release_at-2.field-0) (sym c.requires) c.in-Some-release_at-2.ensures)
     c.if-second-first.false c.if-first-second.false
     (λ there. both_ways c.is_decided.result c.if-is_decided.false (c.is_decided.ensures.1 there))
-    (λ back. both_ways c.is_decided-2.result is (c.is_decided-2.ensures.1 back))
+    (λ back. both_ways c.is_decided-2.result (not-true c.is_decided-2.result is) (c.is_decided-2.ensures.1 back))
