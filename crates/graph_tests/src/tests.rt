@@ -5,5 +5,6 @@ mod graphs;
 mod leaves;
 mod nodes;
 mod orders;
+mod overlaps;
 mod routes;
 mod shares;

@@ -25,7 +25,7 @@ fn picked(rt: &impl Abort, alloc: Global, problem: &Problem, graph: &Graph) -> O
 }
 
 /// The choice that is picked where nothing is decided.
-fn picked_first(rt: &impl Abort, alloc: Global, problem: &Problem) -> Option<Choice> {
+pub(super) fn picked_first(rt: &impl Abort, alloc: Global, problem: &Problem) -> Option<Choice> {
     let graph = root(rt, alloc, problem);
     picked(rt, alloc, problem, &graph)
 }
