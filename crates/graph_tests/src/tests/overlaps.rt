@@ -6,19 +6,27 @@ use super::choices::picked_first;
 use super::graphs::{extend, op, order, root};
 use disp_model::{Choice, Decision, Op, Problem};
 use event_graph::Graph;
-use first_overlaps::{Overlap, first_overlap, span_of};
+use first_overlaps::{first_overlap, span_of};
 use std::alloc::Global;
 use std::panic::Expect;
 use std::process::Abort;
 use std::test::Fail;
-use worked_problems::{forked, swap, two_trains, two_trains_released};
+use worked_problems::{forked, swap, two_trains};
 
-/// The first two that surely hold a resource at a time.
+/// The first two that surely hold a resource at a time at the node of a graph.
 fn found(rt: &impl Abort, alloc: Global, problem: &Problem, graph: &Graph) -> Option<(Op, Op)>
     requires { graph.now.problem ≡ problem.now }
 {
-    let Overlap { a, b } = first_overlap(alloc, problem, graph).expect(rt, "memory")?;
-    Some((a, b))
+    match first_overlap(alloc, problem, graph).expect(rt, "memory") {
+        Some(overlap) => Some((overlap.a, overlap.b)),
+        None => None,
+    }
+}
+
+/// The same where nothing is decided.
+fn found_first(rt: &impl Abort, alloc: Global, problem: &Problem) -> Option<(Op, Op)> {
+    let graph = root(rt, alloc, problem);
+    found(rt, alloc, problem, &graph)
 }
 
 /// The same behind a decision.
@@ -36,43 +44,43 @@ fn found_behind(
 /// When an operation starts and ends where nothing is decided.
 fn span(rt: &impl Abort, alloc: Global, problem: &Problem, op: Op) -> Option<(u64, u64)> {
     let graph = root(rt, alloc, problem);
-    let span = span_of(problem, &graph, op)?;
-    Some((span.start, span.end))
+    match span_of(problem, &graph, op) {
+        Some(span) => Some((span.start, span.end)),
+        None => None,
+    }
 }
 
 #[test]
-fn forced_operations_run_from_their_walks(rt: HostRuntime) -> Result<(), Fail> {
-    let problem = two_trains(rt.alloc()).expect(&rt, "two trains");
-    assert_eq!(rt; span(&rt, rt.alloc(), &problem, op(0, 0)), Some((0, 10)));
-    assert_eq!(rt; span(&rt, rt.alloc(), &problem, op(1, 0)), Some((0, 4)));
-    assert_eq!(rt; span(&rt, rt.alloc(), &problem, op(2, 0)), None);
+fn an_operation_runs_until_its_next_or_for_its_duration(rt: HostRuntime) -> Result<(), Fail> {
     let fork = forked(rt.alloc()).expect(&rt, "a fork");
-    // It ends after its duration, since the routes part there.
-    assert_eq!(rt; span(&rt, rt.alloc(), &fork, op(0, 0)), Some((0, 0)));
-    assert_eq!(rt; span(&rt, rt.alloc(), &fork, op(0, 1)), None);
-    assert_eq!(rt; span(&rt, rt.alloc(), &fork, op(0, 3)), Some((3, 3)));
+    let rows = [
+        (op(0, 0), Some((0, 0))),
+        (op(0, 1), None),
+        (op(0, 3), Some((3, 3))),
+        (op(1, 0), None),
+    ];
+    for (op, wanted) in rows {
+        assert_eq!(rt; span(&rt, rt.alloc(), &fork, op), wanted);
+    }
     Ok(())
 }
 
 #[test]
 fn two_on_a_block_overlap_until_one_goes_first(rt: HostRuntime) -> Result<(), Fail> {
     let problem = two_trains(rt.alloc()).expect(&rt, "two trains");
-    let graph = root(&rt, rt.alloc(), &problem);
-    let first = found(&rt, rt.alloc(), &problem, &graph);
+    let first = found_first(&rt, rt.alloc(), &problem);
     assert_eq!(rt; first, Some((op(0, 0), op(1, 0))));
     // The one ends when the other starts, and their order is decided.
-    assert_eq!(rt; found_behind(&rt, rt.alloc(), &problem, order(0, 1)), None);
-    assert_eq!(rt; found_behind(&rt, rt.alloc(), &problem, order(1, 0)), None);
-    let problem = two_trains_released(rt.alloc(), 3).expect(&rt, "two trains");
-    assert_eq!(rt; found_behind(&rt, rt.alloc(), &problem, order(1, 0)), None);
+    for decision in [order(0, 1), order(1, 0)] {
+        assert_eq!(rt; found_behind(&rt, rt.alloc(), &problem, decision), None);
+    }
     Ok(())
 }
 
 #[test]
 fn where_two_touch_their_places_tell(rt: HostRuntime) -> Result<(), Fail> {
     let problem = swap(rt.alloc()).expect(&rt, "a swap");
-    let graph = root(&rt, rt.alloc(), &problem);
-    assert_eq!(rt; found(&rt, rt.alloc(), &problem, &graph), None);
+    assert_eq!(rt; found_first(&rt, rt.alloc(), &problem), None);
     // Both go on at 10, the first train first: then the other has not left its block yet.
     let choice = picked_first(&rt, rt.alloc(), &problem);
     assert_eq!(rt; choice, Some(Choice::Order(op(0, 1), op(1, 0))));
