@@ -16,9 +16,10 @@ use Rattle.disp_model.specs.Routes.{Starts}
 use Rattle.disp_model.specs.Arcs.{listings_of}
 use Rattle.disp_model.specs.Earliest.{op_of, Clash, IsBelow}
 use Rattle.disp_laws.proofs.Picked.{same_op}
-use Rattle.disp_laws.proofs.RouteSearch.{Decided, both, same_number}
+use Rattle.disp_laws.proofs.RouteSearch.{Decided, both, either}
 use Rattle.disp_laws.proofs.LeavesDecided.{le_or_not, lt_or_not}
-use Rattle.first_overlaps.proofs.Looking.{same_op_or_not}
+use Rattle.disp_laws.proofs.Clashes.{below_or_not}
+use Rattle.disp_laws.proofs.LongestArcs.{same_op_or_not}
 use Rattle.branch_rules.specs.declared.pair.Pair.{Pair}
 use Rattle.branch_rules.specs.Pairs.{RiseAlong, IsPairOf, IsUpTo, IsEarlier, AreClashing, IsFirstPair, NoneClash}
 use Rattle.branch_rules.specs.Behind.{Lists, AreFalling, ArePlacesOf, IsTriedOn, IsFirstFrom, IsFirstWith}
@@ -55,14 +56,6 @@ of_two_trains e f pair is same = by is.names
     by (inr names) = omega (arith, is.trains, names.0.train, names.1.train, same)
 
 -- ---- whether a pair comes no later is decided
-
-either : {P Q : Type 0} → Decided P → Decided Q → Decided (P ⊎ Q)
-either (inl p) q = inl (inl p)
-either (inr p) (inl q) = inl (inr q)
-either (inr p) (inr q) = inr (λ h. elim h [ inl is ↦ p is | inr is ↦ q is ])
-
-below_or_not : (a b : Op) → Decided (IsBelow a b)
-below_or_not a b = either (lt_or_not a.train b.train) (both (same_number a.train b.train) (lt_or_not a.op b.op))
 
 up_to_or_not : (first : Option Pair) (a b : Op) → Decided (IsUpTo first a b)
 up_to_or_not None a b = inr (λ h. h)

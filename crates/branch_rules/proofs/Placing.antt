@@ -13,7 +13,7 @@ use Rattle.disp_model.specs.declared.problem.Problem.{Problem}
 use Rattle.disp_model.specs.Plan.{first_of}
 use Rattle.disp_model.specs.Arcs.{listings_of}
 use Rattle.disp_model.specs.Earliest.{op_of}
-use Rattle.first_overlaps.proofs.Filing.{set_parts}
+use Rattle.disp_laws.proofs.Lists.{set_parts}
 use Rattle.branch_rules.specs.declared.behind.Behind.{Behind}
 use Rattle.branch_rules.specs.Behind.{AreOf, Lists, AreFalling, ArePlacesOf, IsKnownBehind, IsPutBehind, ArePutBehind}
 use Rattle.branch_rules.proofs.Ending.{next_later, next_here, next_none}

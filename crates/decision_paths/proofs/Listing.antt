@@ -11,6 +11,7 @@ use Rattle.std.proofs.lemmas.List.{length-append, length-set, take-append-le, ta
 use Rattle.std.proofs.lemmas.List.Elements.{filter-append}
 use Rattle.std.proofs.Math.Nat.{min-le_right}
 use Rattle.disp_model.specs.declared.decision.Decision.{Decision}
+use Rattle.disp_laws.proofs.Lists.{set_parts}
 use Rattle.decision_paths.specs.Kept.{train_about, about_one, speaks_of, list_of, is_listed, AreRoutesByTrain}
 
 -- ---- filters
@@ -65,16 +66,6 @@ pub about_its : (decisions : List Decision) (last t : ℕ) → filter (speaks_of
 about_its decisions last t = filter_twice (speaks_of t) (is_listed last (list_of last t)) (speaks_listed last t) decisions
 
 -- ---- the lists
-
-set_parts : {X : Type 0} (xs : List X) (p : ℕ) (y : X) (i : ℕ) (z : X) → p < length xs → slice_get (set xs p y) i ≡ Some z → ((i ≡ p) × (z ≡ y)) ⊎ ((i ≢ p) × (slice_get xs i ≡ Some z))
-set_parts [] p y i z lt e = absurd (omega (arith, lt))
-set_parts (x ∷ xs) zero y zero z lt e = inl (refl, sym (same_Some y z e))
-set_parts (x ∷ xs) zero y (suc i) z lt e = inr (λ is. omega (arith, is), e)
-set_parts (x ∷ xs) (suc p) y zero z lt e = inr (λ is. omega (arith, is), e)
-set_parts (x ∷ xs) (suc p) y (suc i) z lt e = elim (set_parts xs p y i z (omega (arith, lt)) e) [
-  | inl own ↦ inl (omega (arith, own.0), own.1)
-  | inr other ↦ inr (λ is. other.0 (omega (arith, is)), other.1)
-]
 
 within : (n t place : ℕ) → 0 < n → place ≡ list_of (n - 1) t → place < n
 within n t place some is = omega (arith, some, is, min-le_right t (n - 1))

@@ -18,7 +18,7 @@ use Rattle.disp_model.specs.Routes.{Starts}
 use Rattle.disp_model.specs.Arcs.{Conflicts}
 use Rattle.disp_model.specs.Earliest.{op_of, IsEarliest, Clash, IsOpenClash, IsBelow, IsPairUpTo, IsFirstClash}
 use Rattle.disp_laws.proofs.Branching.{IsStartedAt, started_or_not, contains_map}
-use Rattle.disp_laws.proofs.RouteSearch.{Decided, both, implied, denied, same_number, all_or_not}
+use Rattle.disp_laws.proofs.RouteSearch.{Decided, both, either, implied, denied, same_number, all_or_not}
 use Rattle.disp_laws.proofs.LongestArcs.{some_or_not, decided_or_not}
 use Rattle.disp_laws.proofs.LeavesDecided.{le_or_not, lt_or_not}
 use Rattle.disp_laws.proofs.HorizonBounds.{get_within}
@@ -216,11 +216,14 @@ below_or_same a b = elim (cases_lt a.train b.train) [
       ]
     ]
 
-below_then : (a b c : Op) → IsBelow a b → IsBelow b c → IsBelow a c
+pub below_then : (a b c : Op) → IsBelow a b → IsBelow b c → IsBelow a c
 below_then a b c (inl one) (inl two) = inl (omega (arith, one, two))
 below_then a b c (inl one) (inr two) = inl (omega (arith, one, two.0))
 below_then a b c (inr one) (inl two) = inl (omega (arith, one.0, two))
 below_then a b c (inr one) (inr two) = inr (one.0 ∙ two.0, omega (arith, one.1, two.1))
+
+pub below_or_not : (a b : Op) → Decided (IsBelow a b)
+below_or_not a b = either (lt_or_not a.train b.train) (both (same_number a.train b.train) (lt_or_not a.op b.op))
 
 pub up_to_or_back : (a b c d : Op) → IsPairUpTo a b c d ⊎ IsPairUpTo c d a b
 up_to_or_back a b c d = elim (below_or_same a c) [

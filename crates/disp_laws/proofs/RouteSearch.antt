@@ -46,6 +46,11 @@ both (inl p) (inl q) = inl (p, q)
 both (inl p) (inr n) = inr (λ h. n h.1)
 both (inr n) q = inr (λ h. n h.0)
 
+pub either : {P Q : Type 0} → Decided P → Decided Q → Decided (P ⊎ Q)
+either (inl p) q = inl (inl p)
+either (inr p) (inl q) = inl (inr q)
+either (inr p) (inr q) = inr (λ h. elim h [ inl is ↦ p is | inr is ↦ q is ])
+
 pub implied : {P Q : Type 0} → Decided P → Decided Q → Decided (P → Q)
 implied (inl p) (inl q) = inl (λ h. q)
 implied (inl p) (inr n) = inr (λ h. n (h p))

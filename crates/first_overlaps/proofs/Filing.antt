@@ -69,16 +69,6 @@ resource_rises r all rising i j d lt within =
 pub filed_none : (resources : ℕ) (each : List (Vec Hold)) → length each ≡ resources → ((r : ℕ) (list : Vec Hold) → slice_get each r ≡ Some list → list.items ≡ []) → AreFiled resources [] each
 filed_none resources each count none = record { count = count; filed = none }
 
-pub set_parts : {X : Type 0} (xs : List X) (p : ℕ) (y : X) (i : ℕ) (z : X) → p < length xs → slice_get (set xs p y) i ≡ Some z → ((i ≡ p) × (z ≡ y)) ⊎ ((i ≢ p) × (slice_get xs i ≡ Some z))
-set_parts [] p y i z lt e = absurd (omega (arith, lt))
-set_parts (x ∷ xs) zero y zero z lt e = inl (refl, sym (same_Some y z e))
-set_parts (x ∷ xs) zero y (suc i) z lt e = inr (λ is. omega (arith, is), e)
-set_parts (x ∷ xs) (suc p) y zero z lt e = inr (λ is. omega (arith, is), e)
-set_parts (x ∷ xs) (suc p) y (suc i) z lt e = elim (set_parts xs p y i z (omega (arith, lt)) e) [
-  | inl own ↦ inl (omega (arith, own.0), own.1)
-  | inr other ↦ inr (λ is. other.0 (omega (arith, is)), other.1)
-]
-
 -- a hold is put behind those of its resource
 pub filed_more : (resources : ℕ) (all : List Held) (each : List (Vec Hold)) (x : Held) (own new : Vec Hold) → x.resource < length each → own ≡ get_or each x.resource own → new.items ≡ own.items ++ x.hold ∷ [] → AreFiled resources all each → AreFiled resources (all ++ x ∷ []) (set each x.resource new)
 filed_more resources all each x own new lt own_is new_is are = record {

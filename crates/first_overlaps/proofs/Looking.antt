@@ -5,7 +5,9 @@ use Rattle.std.proofs.lemmas.Bool.{cases_lt}
 use Rattle.std.proofs.lemmas.Option.{same_Some, slice_get_within, slice_get-get_or, slice_get_read}
 use Rattle.std.proofs.lemmas.List.{get_or_default}
 use Rattle.std.proofs.lemmas.List.Elements.{All-contains}
-use Rattle.disp_laws.proofs.RouteSearch.{Decided, both, same_number}
+use Rattle.disp_laws.proofs.RouteSearch.{Decided, both, either, same_number}
+use Rattle.disp_laws.proofs.Clashes.{below_or_not}
+use Rattle.disp_laws.proofs.LongestArcs.{same_ops, same_op_or_not}
 use Rattle.disp_laws.proofs.LeavesDecided.{le_or_not, lt_or_not}
 use Rattle.disp_laws.proofs.Picked.{one_longest}
 use Rattle.disp_laws.proofs.EarliestEnds.{one_end_time}
@@ -51,13 +53,10 @@ not_later a b c not le = elim (cases_lt b.train a.train) [
 itself : (a : Op) → NoLater a a
 itself a = inr (refl, omega arith)
 
-same_op : (a b : Op) → a.train ≡ b.train → a.op ≡ b.op → a ≡ b
-same_op a b trains ops = ap (λ (t : ℕ). record { train = t; op = a.op }) trains ∙ ap (λ (n : ℕ). record { train = b.train; op = n }) ops
-
 -- no later, and not the same: below
 below_where_apart : (a b : Op) → NoLater a b → a ≢ b → IsBelow a b
 below_where_apart a b (inl lt) apart = inl lt
-below_where_apart a b (inr same) apart = elim (cases_lt a.op b.op) [ inl lt ↦ inr (same.0, lt) | inr ge ↦ absurd (apart (same_op a b same.0 (omega (arith, ge, same.1)))) ]
+below_where_apart a b (inr same) apart = elim (cases_lt a.op b.op) [ inl lt ↦ inr (same.0, lt) | inr ge ↦ absurd (apart (same_ops a b same.0 (omega (arith, ge, same.1)))) ]
 
 below_then : (a b c : Op) → IsBelow a b → NoLater b c → IsBelow a c
 below_then a b c (inl lt) (inl more) = inl (omega (arith, lt, more))
@@ -67,7 +66,7 @@ below_then a b c (inr same) (inr also) = inr (omega (arith, same.0, also.0), ome
 
 pair_up_to : (a b c d : Op) → a ≡ c → NoLater b d → IsPairUpTo a b c d
 pair_up_to a b c d same (inl lt) = inr (same, inl (inl lt))
-pair_up_to a b c d same (inr both) = elim (cases_lt b.op d.op) [ inl lt ↦ inr (same, inl (inr (both.0, lt))) | inr ge ↦ inr (same, inr (same_op b d both.0 (omega (arith, ge, both.1)))) ]
+pair_up_to a b c d same (inr both) = elim (cases_lt b.op d.op) [ inl lt ↦ inr (same, inl (inr (both.0, lt))) | inr ge ↦ inr (same, inr (same_ops b d both.0 (omega (arith, ge, both.1)))) ]
 
 -- ---- the earlier of two overlaps
 
@@ -172,12 +171,6 @@ IsOfEarlier node all place overlap = IsOverlap node overlap.a overlap.b
 pub before_none : (node : Node) (all : List Held) → IsFirstBefore node all 0 None
 before_none node all = record { found = tt; each = λ k x h lt at there trains. absurd (omega (arith, lt)) }
 
-pub same_op_or_not : (a b : Op) → Decided (a ≡ b)
-same_op_or_not a b = elim (both (same_number a.train b.train) (same_number a.op b.op)) [
-  | inl same ↦ inl (same_op a b same.0 same.1)
-  | inr not ↦ inr (λ is. not (ap (λ (o : Op). o.train) is, ap (λ (o : Op). o.op) is))
-]
-
 -- where no hold is of another operation than the overlap that may be known
 pub known_of : (node : Node) (all : List Held) (place : ℕ) (x : Held) (first : Option Overlap) → IsFirstBefore node all place first → (IsBehind x first → ⊥) → IfSome first (IsOverlapOf node x.hold.op)
 known_of node all place x first was not = by first was.found not
@@ -232,31 +225,8 @@ before_more node all place x holds known first at holds_are not was is = record 
 
 -- ---- what is found is the first
 
-below_or_not : (a b : Op) → Decided (IsBelow a b)
-below_or_not a b = elim (cases_lt a.train b.train) [
-  | inl lt ↦ inl (inl lt)
-  | inr ge ↦ elim (both (same_number a.train b.train) (lt_or_not a.op b.op)) [
-    | inl within ↦ inl (inr within)
-    | inr not ↦ inr (λ below. by not ge below)
-  ]
-]
-  where
-    by : ((a.train ≡ b.train) × (a.op < b.op) → ⊥) → b.train ≤ a.train → IsBelow a b → ⊥
-    by not ge (inl lt) = omega (arith, ge, lt)
-    by not ge (inr within) = not within
-
 no_later_or_not : (a b : Op) → Decided (NoLater a b)
-no_later_or_not a b = elim (cases_lt a.train b.train) [
-  | inl lt ↦ inl (inl lt)
-  | inr ge ↦ elim (both (same_number a.train b.train) (le_or_not a.op b.op)) [
-    | inl within ↦ inl (inr within)
-    | inr not ↦ inr (λ le. by not ge le)
-  ]
-]
-  where
-    by : ((a.train ≡ b.train) × (a.op ≤ b.op) → ⊥) → b.train ≤ a.train → NoLater a b → ⊥
-    by not ge (inl lt) = omega (arith, ge, lt)
-    by not ge (inr within) = not within
+no_later_or_not a b = either (lt_or_not a.train b.train) (both (same_number a.train b.train) (le_or_not a.op b.op))
 
 span_is : (node : Node) (r : ℕ) (h : Hold) (o : Op) → h.op ≡ o → IsHold node r h → IsSpanOf node o h.span.start h.span.end
 span_is node r h o same is = subst (λ (p : Op). IsSpanOf node p h.span.start h.span.end) same is.span

@@ -9,18 +9,9 @@ use Rattle.std.proofs.lemmas.Option.{none-some, same_Some, slice_get_read}
 use Rattle.std.proofs.lemmas.List.{length-append, length-set}
 use Rattle.std.proofs.Math.Nat.{min-le_right}
 use Rattle.disp_model.specs.declared.fixing.Fixing.{Fixing}
+use Rattle.disp_laws.proofs.Lists.{set_parts}
 use Rattle.decision_paths.proofs.Listing.{filter_more, filter_same, filter_twice}
 use Rattle.node_facts.specs.Indexed.{fixing_train, fixes_train, own_list, in_list, AreFixedByTrain}
-
-set_parts : {X : Type 0} (xs : List X) (p : ℕ) (y : X) (i : ℕ) (z : X) → p < length xs → slice_get (set xs p y) i ≡ Some z → ((i ≡ p) × (z ≡ y)) ⊎ ((i ≢ p) × (slice_get xs i ≡ Some z))
-set_parts [] p y i z lt e = absurd (omega (arith, lt))
-set_parts (x ∷ xs) zero y zero z lt e = inl (refl, sym (same_Some y z e))
-set_parts (x ∷ xs) zero y (suc i) z lt e = inr (λ is. omega (arith, is), e)
-set_parts (x ∷ xs) (suc p) y zero z lt e = inr (λ is. omega (arith, is), e)
-set_parts (x ∷ xs) (suc p) y (suc i) z lt e = elim (set_parts xs p y i z (omega (arith, lt)) e) [
-  | inl own ↦ inl (omega (arith, own.0), own.1)
-  | inr other ↦ inr (λ is. other.0 (omega (arith, is)), other.1)
-]
 
 within : (n t place : ℕ) → 0 < n → place ≡ own_list (n - 1) t → place < n
 within n t place some is = omega (arith, some, is, min-le_right t (n - 1))
