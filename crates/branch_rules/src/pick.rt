@@ -2,13 +2,14 @@ ghost use Rattle.std.specs.Prelude.{◌≡◌, MatchOption, IfOk, IfSome, length
 ghost use Rattle.disp_model.specs.declared.decision.Choice.TheVariants.{Order};
 ghost use Rattle.disp_model.specs.Nodes.{IsDead};
 ghost use Rattle.disp_model.specs.Earliest.{IsEarliest, IsFirstFork, IsFixedPick};
+ghost use Rattle.first_overlaps.specs.Known.{AreSpansFor};
 ghost use Rattle.branch_rules.specs.Picks.{AreAlone, AreTheOnly, IsSomeNotAlone, IsPickAt};
 
 use crate::pair::Pair;
 use crate::sweep::first_clash;
 use disp_model::{Choice, List, Memory, Op, Plan, Problem};
 use event_graph::Graph;
-use first_overlaps::first_overlap;
+use first_overlaps::KnownSpans;
 use plan_builder::earliest;
 use std::alloc::Global;
 
@@ -85,16 +86,17 @@ fn pick_by_plan(alloc: Global, problem: &Problem, graph: &Graph, plan: Plan) -> 
 
 /// The order of the first two operations that hold a resource at a time, where that is sure and each
 /// train has one route.
-fn first_order(alloc: Global, problem: &Problem, graph: &Graph) -> Result<Option<Choice>, Memory>
+fn first_order(problem: &Problem, graph: &Graph, spans: &mut KnownSpans) -> Option<Choice>
     requires problem { graph.now.problem ≡ problem.now }
     requires alive { IsDead graph.now → ⊥ }
     requires alone { AreAlone graph.now (length problem.now.trains) }
-    ensures { IfOk result
-        (λ found. IfSome found (λ choice. IsFixedPick graph.now (Some choice))) }
+    requires spans { AreSpansFor problem.now spans.old }
+    ensures spans { AreSpansFor problem.now spans.new }
+    ensures order { IfSome result (λ choice. IsFixedPick graph.now (Some choice)) }
 {
-    match first_overlap(alloc, problem, graph)? {
-        Some(overlap) => Ok(Some(Choice::Order(overlap.a, overlap.b))),
-        None => Ok(None),
+    match spans.first_overlap(problem, graph) {
+        Some(overlap) => Some(Choice::Order(overlap.a, overlap.b)),
+        None => None,
     }
 }
 
@@ -131,7 +133,31 @@ pub fn pick_fixed(alloc: Global, problem: &Problem, graph: &Graph) -> Result<Pic
     if let Some(op) = first_fork(problem, graph) {
         return Ok(Pick::Choice(Choice::Route(op)));
     }
-    match first_order(alloc, problem, graph)? {
+    pick_by_routes(alloc, problem, graph)
+}
+
+/// What `pick_fixed` finds, where it is known when operations ran at the last pick: no plan is made
+/// where the spans show the first clash.
+///
+/// # Errors
+///
+/// `Memory` where memory runs out.
+pub fn pick_fixed_by(
+    alloc: Global,
+    problem: &Problem,
+    graph: &Graph,
+    spans: &mut KnownSpans,
+) -> Result<Pick, Memory>
+    requires problem { graph.now.problem ≡ problem.now }
+    requires alive { IsDead graph.now → ⊥ }
+    requires spans { AreSpansFor problem.now spans.old }
+    ensures picked { IfOk result (IsPickAt graph.now) }
+    ensures spans { AreSpansFor problem.now spans.new }
+{
+    if let Some(op) = first_fork(problem, graph) {
+        return Ok(Pick::Choice(Choice::Route(op)));
+    }
+    match first_order(problem, graph, spans) {
         Some(choice) => Ok(Pick::Choice(choice)),
         None => pick_by_routes(alloc, problem, graph),
     }

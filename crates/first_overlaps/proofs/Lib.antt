@@ -1,4 +1,6 @@
 pub mod Spanning
-pub mod Filing
-pub mod Settling
-pub mod Looking
+pub mod Holding
+mod Knowing
+mod Seeing
+mod Settling
+mod Finding

@@ -1,17 +1,20 @@
--- What forced operations hold, and what a look at the holds finds (private clauses).
-use Rattle.std.specs.Prelude.{◌≡◌, ◌≢◌, ◌⊎◌, ◌==◌, ℕ, ◌+◌, ◌<◌, ◌≤◌, List, All, AllPairs, Contains, Option, Some, None, length, map, filter, slice_get, IfSome, IsSomeAnd}
+-- What forced operations hold, what is known of them from look to look, and what a look finds
+-- (private clauses).
+use Rattle.std.specs.Prelude.{◌≡◌, ◌⊎◌, ℕ, ◌+◌, ◌<◌, ◌≤◌, List, Bool, true, false, Contains, Option, Some, None, slice_get, slice_index_or, IfSome, MatchOption}
+use Rattle.std.specs.Option.{option_map}
 use Rattle.std.specs.Global.{Vec}
 use Rattle.disp_model.specs.declared.train.Op.{Op}
 use Rattle.disp_model.specs.declared.train.Listing.{Listing}
 use Rattle.disp_model.specs.declared.decision.Decision.TheVariants.{First}
 use Rattle.disp_model.specs.Node.{Node}
 use Rattle.disp_model.specs.Routes.{IsForced}
-use Rattle.disp_model.specs.Earliest.{IsBelow}
+use Rattle.event_windows.specs.Operations.{IsAtNumber}
+use Rattle.first_overlaps.specs.declared.span.Span.{Span}
 use Rattle.first_overlaps.specs.declared.hold.Hold.{Hold}
-use Rattle.first_overlaps.specs.declared.holds.Held.{Held}
-use Rattle.first_overlaps.specs.declared.holds.Holds.{Holds}
-use Rattle.first_overlaps.specs.declared.overlap.Overlap.{Overlap}
-use Rattle.first_overlaps.specs.Spans.{IsSpanOf, IsListed, IsOverlap}
+use Rattle.first_overlaps.specs.declared.holder.Holder.{Holder}
+use Rattle.first_overlaps.specs.declared.meeting.Meeting.{Meeting}
+use Rattle.first_overlaps.specs.declared.seen.Seen.{Seen}
+use Rattle.first_overlaps.specs.Spans.{IsSpanOf, IsListed, IsOverlap, IsTouch, IsFirstOpen, NoneOpen}
 
 -- ---- holds
 
@@ -20,63 +23,13 @@ pub record IsHold (node : Node) (resource : ℕ) (h : Hold) : Type 0 where
   pub span : IsSpanOf node h.op h.span.start h.span.end
   pub lists : IsListed node.problem h.op resource h.release
 
-abbrev pub IsHeld : Node → Held → Type 0
-IsHeld node x = IsHold node x.resource x.hold
-
--- by train, then operation
-abbrev pub NoLater : Op → Op → Type 0
-NoLater a b = (a.train < b.train) ⊎ ((a.train ≡ b.train) × (a.op ≤ b.op))
-
--- the operation holds the resource with the release time
-abbrev pub HasHeld : List Held → Op → ℕ → ℕ → Type 0
-HasHeld all o resource release = (x : Held) × Contains all x × (x.hold.op ≡ o)
-    × (x.resource ≡ resource) × (x.hold.release ≡ release)
-
--- what the forced operations below one hold, in their order
-pub record AreHeldBelow (node : Node) (end : Op) (all : List Held) : Type 0 where
-  pub each : All (IsHeld node) all
-  pub below : All (λ x. IsBelow x.hold.op end) all
-  pub there : (o : Op) (resource release : ℕ) → IsBelow o end → IsForced node o
-      → IsListed node.problem o resource release → HasHeld all o resource release
-  pub rising : AllPairs (λ x y. NoLater x.hold.op y.hold.op) all
-
--- and by these of its listings the operation itself
-pub record AreHeldWith (node : Node) (o : Op) (listings : List Listing) (all : List Held)
-    : Type 0 where
-  pub each : All (IsHeld node) all
-  pub no_later : All (λ x. NoLater x.hold.op o) all
-  pub there : (p : Op) (resource release : ℕ) → IsBelow p o → IsForced node p
-      → IsListed node.problem p resource release → HasHeld all p resource release
-  pub own : (l : Listing) → Contains listings l → HasHeld all o l.resource l.release
-  pub rising : AllPairs (λ x y. NoLater x.hold.op y.hold.op) all
-
--- those of a resource
-abbrev pub held_on : ℕ → List Held → List Hold
-held_on r all = map (λ x. x.hold) (filter (λ x. x.resource == r) all)
-
--- those of each resource are kept for it
-pub record AreFiled (resources : ℕ) (all : List Held) (each : List (Vec Hold)) : Type 0 where
-  pub count : length each ≡ resources
-  pub filed : (r : ℕ) (list : Vec Hold) → slice_get each r ≡ Some list
-      → list.items ≡ held_on r all
-
--- what all forced operations hold
-pub record AreHolds (node : Node) (holds : Holds) : Type 0 where
-  pub each : All (IsHeld node) holds.all.items
-  pub there : (o : Op) (resource release : ℕ) → IsForced node o
-      → IsListed node.problem o resource release → HasHeld holds.all.items o resource release
-  pub rising : AllPairs (λ x y. NoLater x.hold.op y.hold.op) holds.all.items
-  pub filed : AreFiled (length node.problem.names) holds.all.items holds.each.items
-
--- ---- what a look finds
-
 -- the one is over, with its release time, when the other starts, and ends before that
 pub record IsOver (one other : Hold) : Type 0 where
   pub ends : one.span.end < other.span.start
   pub released : one.span.end + one.release ≤ other.span.start
 
-abbrev pub AreApart : Hold → Hold → Type 0
-AreApart one other = IsOver one other ⊎ IsOver other one
+abbrev pub HoldApart : Hold → Hold → Type 0
+HoldApart one other = IsOver one other ⊎ IsOver other one
 
 -- each starts before the other is over with its release time
 pub record DoOverlap (one other : Hold) : Type 0 where
@@ -85,54 +38,131 @@ pub record DoOverlap (one other : Hold) : Type 0 where
 
 -- the two are apart, or their order is decided
 abbrev pub AreSettled : Node → Hold → Hold → Type 0
-AreSettled node one other = AreApart one other
+AreSettled node one other = HoldApart one other
     ⊎ (Contains node.decisions (First one.op other.op)
     ⊎ Contains node.decisions (First other.op one.op))
 
--- the two of an overlap that may be known come no later than one with this second operation
-abbrev pub IsUpTo : Option Overlap → Op → Type 0
+-- ---- what is known from look to look
+
+abbrev pub hold_with : Holder → Span → Hold
+hold_with x span = record { op = x.op; span = span; release = x.release }
+
+-- what a holder holds by these spans
+abbrev pub hold_by : List (Option Span) → Holder → Option Hold
+hold_by spans x = option_map (hold_with x) (slice_index_or spans x.number None)
+
+-- by these spans the operation of a number is apart from all of later trains
+abbrev pub StandsApart : List (Vec Holder) → List (Option Span) → ℕ → Type 0
+StandsApart holders spans n = (r : ℕ) (list : Vec Holder) (x y : Holder) (one other : Hold)
+    → slice_get holders r ≡ Some list → Contains list.items x → Contains list.items y
+    → x.number ≡ n → x.op.train < y.op.train → hold_by spans x ≡ Some one
+    → hold_by spans y ≡ Some other → HoldApart one other
+
+-- where that is said of a number it is so
+abbrev pub AreKnownApart : List (Vec Holder) → List (Option Span) → List Bool → Type 0
+AreKnownApart holders spans apart = (n : ℕ) → slice_index_or apart n false ≡ true
+    → StandsApart holders spans n
+
+-- that is when the operation runs, where it is forced
+abbrev pub IsSpanned : Node → Op → Option Span → Type 0
+IsSpanned node o span = MatchOption span (IsForced node o → ⊥)
+    (λ s. IsSpanOf node o s.start s.end)
+
+-- that is when the operations of the numbers below one run
+abbrev pub AreSpannedBelow : Node → ℕ → List (Option Span) → Type 0
+AreSpannedBelow node count spans = (n : ℕ) (o : Op) → n < count → IsAtNumber node.problem o n
+    → IsSpanned node o (slice_index_or spans n None)
+
+-- that is when all operations run
+abbrev pub AreSpanned : Node → List (Option Span) → Type 0
+AreSpanned node spans = (n : ℕ) (o : Op) → IsAtNumber node.problem o n
+    → IsSpanned node o (slice_index_or spans n None)
+
+-- none is said to be apart that was not before
+abbrev pub NoneMore : List Bool → List Bool → Type 0
+NoneMore before after = (n : ℕ) → slice_index_or after n false ≡ true
+    → slice_index_or before n false ≡ true
+
+-- no holder of these is said to be apart that is of an earlier train than a hold, and not apart
+-- from it
+abbrev pub AreParted : List Holder → List (Option Span) → Hold → List Bool → Type 0
+AreParted holders spans hold apart = (x : Holder) (other : Hold) → Contains holders x
+    → x.op.train < hold.op.train → hold_by spans x ≡ Some other
+    → slice_index_or apart x.number false ≡ true → HoldApart other hold
+
+-- so for the holders of all of these listings of an operation that runs so
+abbrev pub AreAllParted : List (Vec Holder) → List (Option Span) → Op → Span → List Listing
+    → List Bool → Type 0
+AreAllParted holders spans op span listings apart = (l : Listing) (list : Vec Holder)
+    → Contains listings l → slice_get holders l.resource ≡ Some list
+    → AreParted list.items spans (record { op = op; span = span; release = l.release }) apart
+
+-- ---- what a look finds
+
+-- by train, then operation
+abbrev pub NoLater : Op → Op → Type 0
+NoLater a b = (a.train < b.train) ⊎ ((a.train ≡ b.train) × (a.op ≤ b.op))
+
+-- the two of a meeting that may be known come no later than those with this second operation
+abbrev pub IsUpTo : Option Meeting → Op → Type 0
 IsUpTo None b = ⊥
-IsUpTo (Some overlap) b = NoLater overlap.b b
+IsUpTo (Some meeting) b = NoLater meeting.b b
 
--- an overlap of an operation
-pub record IsOverlapOf (node : Node) (a : Op) (overlap : Overlap) : Type 0 where
-  pub of : overlap.a ≡ a
-  pub is : IsOverlap node overlap.a overlap.b
+-- an operation and another hold a resource at a time, or touch
+pub record IsMeetingOf (node : Node) (a : Op) (m : Meeting) : Type 0 where
+  pub of : m.a ≡ a
+  pub overlap : m.overlaps ≡ true → IsOverlap node m.a m.b
+  pub touch : m.overlaps ≡ false → IsTouch node m.a m.b
 
--- an overlap of an operation that may be known, or that with another, whichever comes first
-pub record IsEarlier (known : Option Overlap) (a b : Op) (first : Option Overlap) : Type 0 where
-  pub one : (first ≡ known) ⊎ (first ≡ Some (record { a = a; b = b }))
-  pub up_to : IsUpTo first b
+-- a meeting of an operation that may be known, or another one, whichever comes first
+pub record IsEarlier (known : Option Meeting) (m : Meeting) (first : Option Meeting) : Type 0 where
+  pub one : (first ≡ known) ⊎ (first ≡ Some m)
+  pub up_to : IsUpTo first m.b
   pub kept : (d : Op) → IsUpTo known d → IsUpTo first d
 
--- the first overlap of an operation, of one that may be known and that with another if they overlap
-pub record IsFirstWith (node : Node) (one other : Hold) (known first : Option Overlap) : Type 0 where
-  pub found : IfSome first (IsOverlapOf node one.op)
-  pub kept : (d : Op) → IsUpTo known d → IsUpTo first d
-  pub settled : AreSettled node one other ⊎ IsUpTo first other.op
+-- what is seen later: a meeting that comes no later, and no more that is apart
+pub record IsSeenLater (before after : Seen) : Type 0 where
+  pub kept : (d : Op) → IsUpTo before.first d → IsUpTo after.first d
+  pub apart : after.apart ≡ true → before.apart ≡ true
 
--- the first one of those that may be known and those with holds of later trains from a place on
-pub record IsFirstFrom (node : Node) (one : Hold) (holds : List Hold) (place : ℕ)
-    (known first : Option Overlap) : Type 0 where
-  pub found : IfSome first (IsOverlapOf node one.op)
-  pub kept : (d : Op) → IsUpTo known d → IsUpTo first d
-  pub each : (k : ℕ) (h : Hold) → place ≤ k → slice_get holds k ≡ Some h → one.op.train < h.op.train
-      → AreSettled node one h ⊎ IsUpTo first h.op
+-- what is seen of a hold and another
+pub record IsMet (node : Node) (one other : Hold) (seen : Seen) : Type 0 where
+  pub settled : AreSettled node one other ⊎ IsUpTo seen.first other.op
+  pub apart : seen.apart ≡ true → HoldApart one other
 
--- the trains of the holds do not fall
-abbrev pub AreRising : List Hold → Type 0
-AreRising holds = AllPairs (λ g h. g.op.train ≤ h.op.train) holds
+-- what is seen of a hold and those of these holders that are of later trains
+abbrev pub AreMet : Node → Hold → List (Option Span) → List Holder → Seen → Type 0
+AreMet node one spans holders seen = (y : Holder) (other : Hold) → Contains holders y
+    → one.op.train < y.op.train → hold_by spans y ≡ Some other → IsMet node one other seen
 
--- the first overlap of the holds before a place with those of later trains
-pub record IsFirstBefore (node : Node) (all : List Held) (place : ℕ) (first : Option Overlap)
-    : Type 0 where
-  pub found : IfSome first (λ overlap. IsOverlap node overlap.a overlap.b
-      × ((k : ℕ) × (x : Held) × (k < place) × (slice_get all k ≡ Some x) × (x.hold.op ≡ overlap.a)))
-  pub each : (k : ℕ) (x : Held) (h : Hold) → k < place → slice_get all k ≡ Some x
-      → Contains (held_on x.resource all) h → x.hold.op.train < h.op.train
-      → AreSettled node x.hold h
-      ⊎ IsSomeAnd first (λ overlap. (overlap.a ≡ x.hold.op) × NoLater overlap.b h.op)
+-- what is seen of an operation that runs so, by these of its listings, and of all of later trains
+pub record IsSeenBy (node : Node) (holders : List (Vec Holder)) (spans : List (Option Span))
+    (op : Op) (span : Span) (listings : List Listing) (seen : Seen) : Type 0 where
+  pub found : IfSome seen.first (IsMeetingOf node op)
+  pub met : (l : Listing) (list : Vec Holder) → Contains listings l
+      → slice_get holders l.resource ≡ Some list
+      → AreMet node (record { op = op; span = span; release = l.release }) spans list.items seen
 
--- there is an overlap, of another operation
-abbrev pub IsBehind : Held → Option Overlap → Type 0
-IsBehind held known = IsSomeAnd known (λ overlap. overlap.a ≢ held.hold.op)
+-- by these spans the operation of a number is settled with all of later trains
+abbrev pub StandsSettled : Node → List (Vec Holder) → List (Option Span) → ℕ → Type 0
+StandsSettled node holders spans n = (r : ℕ) (list : Vec Holder) (x y : Holder) (one other : Hold)
+    → slice_get holders r ≡ Some list → Contains list.items x → Contains list.items y
+    → x.number ≡ n → x.op.train < y.op.train → hold_by spans x ≡ Some one
+    → hold_by spans y ≡ Some other → AreSettled node one other
+
+-- no order that is open comes before that of a meeting
+pub record IsFirstMeeting (node : Node) (m : Meeting) : Type 0 where
+  pub overlap : m.overlaps ≡ true → IsOverlap node m.a m.b
+  pub touch : m.overlaps ≡ false → IsTouch node m.a m.b
+  pub first : IsFirstOpen node m.a m.b
+
+-- what a look at the operation of a number comes to: it is settled with all of later trains, or its
+-- first meeting is the first one where all before it are
+abbrev pub IsFoundAt : Node → List (Vec Holder) → List (Option Span) → ℕ → Option Meeting
+    → Type 0
+IsFoundAt node holders spans n found = MatchOption found (StandsSettled node holders spans n)
+    (λ m. ((k : ℕ) → k < n → StandsSettled node holders spans k) → IsFirstMeeting node m)
+
+-- what all these looks come to
+abbrev pub IsFound : Node → Option Meeting → Type 0
+IsFound node found = MatchOption found (NoneOpen node) (IsFirstMeeting node)

@@ -1,2 +1,4 @@
 pub mod Spans
+pub mod Holders
 pub mod Holds
+pub mod Known

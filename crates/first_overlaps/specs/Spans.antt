@@ -1,8 +1,9 @@
 -- From when until when operations run at a node, and which two hold a resource at a time.
-use Rattle.std.specs.Prelude.{◌≡◌, ℕ, ◌+◌, ◌<◌, Contains}
+use Rattle.std.specs.Prelude.{◌≡◌, ◌⊎◌, ℕ, ◌+◌, ◌<◌, Contains}
 use Rattle.disp_model.specs.declared.train.Op.{Op}
 use Rattle.disp_model.specs.declared.train.Listing.{Listing}
 use Rattle.disp_model.specs.declared.problem.Problem.{Problem}
+use Rattle.disp_model.specs.declared.decision.Decision.TheVariants.{First}
 use Rattle.disp_model.specs.Node.{Node}
 use Rattle.disp_model.specs.Routes.{IsForced}
 use Rattle.disp_model.specs.Arcs.{listings_of}
@@ -40,7 +41,38 @@ pub record IsOverlap (node : Node) (a b : Op) : Type 0 where
   pub early : begin < end + release
   pub late : start < over + other
 
+-- it depends on the places in a plan whether two operations, the lower train first, hold a resource
+-- at a time: one ends when the other starts, with no release time, and their order is not decided
+pub record IsTouch (node : Node) (a b : Op) : Type 0 where
+  pub trains : a.train < b.train
+  pub start : ℕ
+  pub end : ℕ
+  pub begin : ℕ
+  pub over : ℕ
+  pub first : IsSpanOf node a start end
+  pub second : IsSpanOf node b begin over
+  pub resource : ℕ
+  pub release : ℕ
+  pub other : ℕ
+  pub lists : IsListed node.problem a resource release
+  pub also : IsListed node.problem b resource other
+  pub meets : ((end ≡ begin) × (release ≡ 0)) ⊎ ((over ≡ start) × (other ≡ 0))
+  pub undecided : Contains node.decisions (First a b) → ⊥
+  pub undecided_back : Contains node.decisions (First b a) → ⊥
+
+-- no order that is open comes before that of the two
+abbrev pub IsFirstOpen : Node → Op → Op → Type 0
+IsFirstOpen node a b = (c d : Op) → IsOpenOrder node c d → IsPairUpTo a b c d
+
 -- two operations hold a resource at a time, and no order that is open comes before theirs
 pub record IsFirstOverlap (node : Node) (a b : Op) : Type 0 where
   pub overlap : IsOverlap node a b
-  pub first : (c d : Op) → IsOpenOrder node c d → IsPairUpTo a b c d
+  pub first : IsFirstOpen node a b
+
+-- two operations touch, and no order that is open comes before theirs
+abbrev pub FirstTouch : Node → Type 0
+FirstTouch node = (a : Op) × (b : Op) × IsTouch node a b × IsFirstOpen node a b
+
+-- the order of no two operations is open
+abbrev pub NoneOpen : Node → Type 0
+NoneOpen node = (c d : Op) → IsOpenOrder node c d → ⊥

@@ -1,5 +1,5 @@
-ghost use Rattle.std.specs.Prelude.{◌↔◌, ◌+◌, ◌<◌, IsTrue};
-ghost use Rattle.first_overlaps.specs.Holds.{IsOver, AreApart, DoOverlap};
+ghost use Rattle.std.specs.Prelude.{◌↔◌, ◌<◌, ◌+◌, IsTrue};
+ghost use Rattle.first_overlaps.specs.Holds.{IsOver, HoldApart, DoOverlap};
 
 use crate::span::Span;
 use disp_model::Op;
@@ -20,8 +20,8 @@ fn is_over(one: &Hold, other: &Hold) -> bool
 }
 
 /// Whether one of two is over before the other starts.
-pub(crate) fn are_apart(one: &Hold, other: &Hold) -> bool
-    ensures { IsTrue result ↔ AreApart one.now other.now }
+pub(crate) fn hold_apart(one: &Hold, other: &Hold) -> bool
+    ensures { IsTrue result ↔ HoldApart one.now other.now }
 {
     is_over(one, other) || is_over(other, one)
 }

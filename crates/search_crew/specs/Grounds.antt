@@ -6,16 +6,16 @@ use Rattle.disp_model.specs.Node.{node_at}
 use Rattle.event_graph.specs.Joined.{IsOfEdition}
 use Rattle.node_leaves.specs.Shown.{IsDeadLeaf}
 use Rattle.open_nodes.specs.States.{IsBoundBelow}
-use Rattle.share_bound.specs.Known.{HoldFor}
+use Rattle.search_workers.specs.Explorers.{IsReady}
 use Rattle.search_crew.specs.declared.ground.Ground.{Ground}
 use Rattle.search_crew.specs.declared.ground.Ground.TheVariants as ground
 
--- a graph at a node of the problem under these fixings, which are an edition's, where what is known
--- of shares holds; or a leaf that shows that the root is dead
+-- a graph at a node of the problem under these fixings, which are an edition's, where what its
+-- explorer knows holds; or a leaf that shows that the root is dead
 abbrev pub IsGround : Problem → List Fixing → Ground → Type 0
 IsGround problem fixings (ground.Alive explorer) =
     (explorer.graph.problem ≡ problem) × (explorer.graph.fixings ≡ fixings)
-    × IsOfEdition explorer.graph × HoldFor explorer.graph explorer.known
+    × IsOfEdition explorer.graph × IsReady problem explorer
 IsGround problem fixings (ground.Dead leaf) = IsDeadLeaf (node_at problem fixings []) leaf
 
 -- what is below the first is below the second

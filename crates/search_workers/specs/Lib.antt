@@ -1,3 +1,4 @@
 pub mod Walks
 pub mod Grown
+pub mod Explorers
 pub mod Searched

@@ -6,6 +6,7 @@ ghost use Rattle.event_graph.specs.Joined.{IsOfEdition};
 ghost use Rattle.node_leaves.specs.Reckoned.{ReckonsFor};
 ghost use Rattle.share_bound.specs.Known.{HoldFor};
 ghost use Rattle.tree_dives.specs.Dives.{IsDive};
+ghost use Rattle.tree_dives.specs.Guides.{GuidesIn};
 ghost use Rattle.search_workers.specs.declared.growth.Growth.TheVariants.{Subtree};
 ghost use Rattle.search_workers.specs.Grown.{IsGrownOf};
 ghost use Rattle.near_plans.specs.Plans.{IsBeside};
@@ -96,7 +97,7 @@ fn of_dive(found: Dive, allowance: u32, bound: u64) -> Growth
 
 /// Grows the leaf of a work, by a dive from its node along a guide, where what branches costs less
 /// than this best. Where the node is not reached, a leaf shows that it is dead. What is known of
-/// shares holds where the graph is then.
+/// shares holds where the graph is then, and what the guide keeps is of the problem.
 ///
 /// # Errors
 ///
@@ -115,7 +116,9 @@ pub fn grow(
     requires edition { IsOfEdition graph.old }
     requires reckons { ReckonsFor problem.now reckoning.now }
     requires known { HoldFor graph.old known.old }
+    requires guide { GuidesIn problem.now guide.old }
     ensures known { HoldFor graph.new known.new }
+    ensures guide { GuidesIn problem.now guide.new }
     ensures beside { IsBeside graph.old graph.new }
     ensures grown { IfOk result (IsGrownOf reckoning.now.rule
         (node_at graph.old.problem graph.old.fixings work.now.decisions) best work.now.allowance

@@ -1,3 +1,7 @@
+ghost use Rattle.std.specs.Prelude.{IfOk};
+ghost use Rattle.disp_model.specs.declared.problem.Problem.{Problem as ProblemOf};
+ghost use Rattle.tree_dives.specs.Guides.{GuidesIn};
+
 use crate::amount::Amount;
 use crate::growth::{Growth, size_of};
 use crate::lookout::Lookout;
@@ -17,7 +21,7 @@ const FIRST_INSERTIONS: Amount = Amount {
 /// How many trains are put in for a target where an order of trains is known from the last one.
 const INSERTIONS_AGAIN: u32 = 4000;
 
-/// What guides the dives of a search, and when better plans are looked for. Nothing rests on it.
+/// What guides the dives of a search, and when better plans are looked for.
 #[derive(Drop)]
 pub(crate) struct Scout {
     pub guide: Guide,
@@ -43,7 +47,9 @@ impl Scout {
         fixings: &[Fixing],
         lookout: Lookout,
         order: &mut Vec<u32>,
-    ) -> Result<Scout, Memory> {
+    ) -> Result<Scout, Memory>
+        ensures { IfOk result (λ scout. GuidesIn problem.now scout.guide) }
+    {
         let insertions = insertions_after(problem, order.as_slice());
         let target = target(alloc, problem, fixings, insertions, order)?;
         let guide = Guide::new(alloc, problem, target)?;
@@ -51,18 +57,33 @@ impl Scout {
     }
 
     /// Makes a plan the target, where there is memory for it.
-    fn aim_at(&mut self, alloc: Global, problem: &Problem, plan: &Plan) {
+    fn aim_at(&mut self, alloc: Global, problem: &Problem, plan: &Plan)
+        requires { GuidesIn problem.now self.old.guide }
+        ensures { GuidesIn problem.now self.new.guide }
+    {
         if let Ok(target) = Target::of_plan(alloc, problem, plan.as_slice()) {
             self.guide.aim_at(target);
         }
     }
 
-    /// Notes what a look came to. Where all is dead there is nothing more to look for.
-    pub(crate) fn note_look(&mut self, alloc: Global, problem: &Problem, ahead: &Ahead) {
-        if ahead.dead_by_time {
-            self.guide.begin_by_time();
-            self.lookout.end();
+    /// Notes whether all that a look saw is dead: then there is nothing more to look for.
+    fn note_dead(&mut self, dead_by_time: bool)
+        ensures { (problem : ProblemOf) → GuidesIn problem self.old.guide
+            → GuidesIn problem self.new.guide }
+    {
+        if !dead_by_time {
+            return;
         }
+        self.guide.begin_by_time();
+        self.lookout.end();
+    }
+
+    /// Notes what a look came to. A plan that it found is the target from then on.
+    pub(crate) fn note_look(&mut self, alloc: Global, problem: &Problem, ahead: &Ahead)
+        requires { GuidesIn problem.now self.old.guide }
+        ensures { GuidesIn problem.now self.new.guide }
+    {
+        self.note_dead(ahead.dead_by_time);
         if let Some(plan) = &ahead.plan {
             self.aim_at(alloc, problem, plan);
         }
@@ -74,7 +95,10 @@ impl Scout {
         alloc: Global,
         problem: &Problem,
         growth: &Result<Growth, Memory>,
-    ) {
+    )
+        requires { GuidesIn problem.now self.old.guide }
+        ensures { GuidesIn problem.now self.new.guide }
+    {
         self.guide.count_dive();
         self.lookout.count(size_of(growth));
         if let Ok(

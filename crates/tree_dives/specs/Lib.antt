@@ -1,3 +1,4 @@
+pub mod Guides
 pub mod Leaves
 pub mod Stages
 pub mod Halves

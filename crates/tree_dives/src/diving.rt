@@ -3,6 +3,7 @@ ghost use Rattle.node_leaves.specs.declared.leaf.NodeLeaf.{NodeLeaf as NodeLeafO
 ghost use Rattle.node_leaves.specs.Reckoned.{ReckonsFor};
 ghost use Rattle.node_leaves.specs.Shown.{IsLeafOf};
 ghost use Rattle.tree_dives.specs.Dives.{IsDive};
+ghost use Rattle.tree_dives.specs.Guides.{GuidesIn};
 ghost use Rattle.tree_dives.specs.Wholes.{IsDiveWhole, with_leaf};
 ghost use Rattle.tree_dives.specs.Downs.{sides_of};
 ghost use Rattle.tree_dives.specs.Halves.{IsBelowNode};
@@ -71,8 +72,10 @@ fn dive_down(
     requires node { graph.old.problem ≡ problem.now }
     requires reckons { ReckonsFor problem.now reckoning.now }
     requires known { HoldFor graph.old known.old }
+    requires guide { GuidesIn problem.now guide.old }
     ensures below { IsBelowNode graph.old graph.new }
     ensures known { HoldFor graph.new known.new }
+    ensures guide { GuidesIn problem.now guide.new }
     ensures dive { IfOk result (IsDive reckoning.now.rule graph.old best allowance) }
 {
     let mut halves = Halves {
@@ -120,7 +123,8 @@ fn dive_down(
 /// often. The child that the target takes is followed, or else the one that costs least; the others
 /// become leaves. It ends earlier at a node that is dead, or whose bound is not below the best
 /// cost, or where nothing is picked. Choices are picked, and bounds reckoned, by the rule of the
-/// reckoning. The graph is as before, and what is known of shares holds for its node.
+/// reckoning. The graph is as before, what is known of shares holds for its node, and what the
+/// guide keeps is of the problem.
 ///
 /// # Errors
 ///
@@ -138,8 +142,10 @@ pub fn dive(
     requires node { graph.old.problem ≡ problem.now }
     requires reckons { ReckonsFor problem.now reckoning.now }
     requires known { HoldFor graph.old known.old }
+    requires guide { GuidesIn problem.now guide.old }
     ensures same { graph.new ≡ graph.old }
     ensures known { HoldFor graph.new known.new }
+    ensures guide { GuidesIn problem.now guide.new }
     ensures dive { IfOk result (IsDive reckoning.now.rule graph.old best allowance) }
 {
     guide.begin();

@@ -4,7 +4,8 @@
 //! its allowance is spent, the child is dead or costs too much, or nothing is picked there, so that
 //! the earliest plan is valid. The other children become leaves with their bounds. The graph is as
 //! before then. Which child is followed, and under the free rule which open choice is taken, is
-//! advice of a guide, and nothing rests on it.
+//! advice of a guide, and nothing rests on it. With it the guide has what the fixed rule keeps from
+//! pick to pick of when operations ran.
 #![tactic(auto)]
 
 mod diving;

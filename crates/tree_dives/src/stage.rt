@@ -3,11 +3,12 @@ ghost use Rattle.disp_model.specs.Nodes.{IsDead};
 ghost use Rattle.free_choices.specs.Picks.{IsPickBy};
 ghost use Rattle.node_leaves.specs.Reckoned.{ReckonsFor};
 ghost use Rattle.open_nodes.specs.States.{IsBoundBelow};
+ghost use Rattle.tree_dives.specs.Guides.{GuidesIn};
 ghost use Rattle.tree_dives.specs.Stages.{IsStageAt};
 ghost use Rattle.share_bound.specs.Known.{HoldFor};
 
 use crate::guide::Guide;
-use branch_rules::{Pick, pick_fixed};
+use branch_rules::{Pick, pick_fixed_by};
 use disp_model::{Choice, Memory, Plan, Problem, Rule};
 use event_graph::Graph;
 use free_choices::{Strategy, pick_free};
@@ -54,11 +55,13 @@ fn pick(
 ) -> Result<Pick, Memory>
     requires node { graph.old.problem ≡ problem.now }
     requires alive { IsDead graph.old → ⊥ }
+    requires guide { GuidesIn problem.now guide.old }
     ensures same { graph.new ≡ graph.old }
+    ensures guide { GuidesIn problem.now guide.new }
     ensures picked { IfOk result (IsPickBy rule graph.old) }
 {
     match rule {
-        Rule::Fixed => pick_fixed(alloc, problem, graph),
+        Rule::Fixed => pick_fixed_by(alloc, problem, graph, &mut guide.spans),
         Rule::Free => pick_free(alloc, problem, graph, &mut guide.adviser, strategy),
     }
 }
@@ -78,8 +81,10 @@ pub(crate) fn stage_of(
     requires node { graph.old.problem ≡ problem.now }
     requires reckons { ReckonsFor problem.now reckoning.now }
     requires known { HoldFor graph.old known.old }
+    requires guide { GuidesIn problem.now guide.old }
     ensures same { graph.new ≡ graph.old }
     ensures known { HoldFor graph.old known.new }
+    ensures guide { GuidesIn problem.now guide.new }
     ensures stage { IfOk result (IsStageAt reckoning.now.rule best graph.old) }
 {
     let None = graph.late() else {

@@ -1,12 +1,13 @@
 // Two trains on one block, a swap and a fork: when operations run, and which two hold a resource at
 // a time.
 ghost use Rattle.std.specs.Prelude.{◌≡◌};
+ghost use Rattle.first_overlaps.specs.Known.{AreSpansFor};
 
 use super::choices::picked_first;
 use super::graphs::{extend, op, order, root};
 use disp_model::{Choice, Decision, Op, Problem};
 use event_graph::Graph;
-use first_overlaps::{first_overlap, span_of};
+use first_overlaps::{KnownSpans, span_of};
 use std::alloc::Global;
 use std::panic::Expect;
 use std::process::Abort;
@@ -14,19 +15,29 @@ use std::test::Fail;
 use worked_problems::{forked, swap, two_trains};
 
 /// The first two that surely hold a resource at a time at the node of a graph.
-fn found(rt: &impl Abort, alloc: Global, problem: &Problem, graph: &Graph) -> Option<(Op, Op)>
-    requires { graph.now.problem ≡ problem.now }
+fn found(spans: &mut KnownSpans, problem: &Problem, graph: &Graph) -> Option<(Op, Op)>
+    requires problem { graph.now.problem ≡ problem.now }
+    requires spans { AreSpansFor problem.now spans.old }
+    ensures { AreSpansFor problem.now spans.new }
 {
-    match first_overlap(alloc, problem, graph).expect(rt, "memory") {
+    match spans.first_overlap(problem, graph) {
         Some(overlap) => Some((overlap.a, overlap.b)),
         None => None,
     }
 }
 
+/// The same where nothing is known yet of when operations run.
+fn found_anew(rt: &impl Abort, alloc: Global, problem: &Problem, graph: &Graph) -> Option<(Op, Op)>
+    requires { graph.now.problem ≡ problem.now }
+{
+    let mut spans = KnownSpans::new(alloc, problem).expect(rt, "spans");
+    found(&mut spans, problem, graph)
+}
+
 /// The same where nothing is decided.
 fn found_first(rt: &impl Abort, alloc: Global, problem: &Problem) -> Option<(Op, Op)> {
     let graph = root(rt, alloc, problem);
-    found(rt, alloc, problem, &graph)
+    found_anew(rt, alloc, problem, &graph)
 }
 
 /// The same behind a decision.
@@ -38,7 +49,7 @@ fn found_behind(
 ) -> Option<(Op, Op)> {
     let mut graph = root(rt, alloc, problem);
     extend(rt, &mut graph, decision);
-    found(rt, alloc, problem, &graph)
+    found_anew(rt, alloc, problem, &graph)
 }
 
 /// When an operation starts and ends where nothing is decided.
@@ -74,6 +85,30 @@ fn two_on_a_block_overlap_until_one_goes_first(rt: HostRuntime) -> Result<(), Fa
     for decision in [order(0, 1), order(1, 0)] {
         assert_eq!(rt; found_behind(&rt, rt.alloc(), &problem, decision), None);
     }
+    Ok(())
+}
+
+/// The same spans show what is found anew at the root, behind a decision, and at the root again.
+fn check_kept(rt: &impl Abort, alloc: Global, problem: &Problem, decision: Decision) {
+    let first = found_first(rt, alloc, problem);
+    let behind = found_behind(rt, alloc, problem, decision);
+    let mut graph = root(rt, alloc, problem);
+    let mut spans = KnownSpans::new(alloc, problem).expect(rt, "spans");
+    let shown = found(&mut spans, problem, &graph);
+    assert_eq!(rt; shown, first);
+    extend(rt, &mut graph, decision);
+    let shown = found(&mut spans, problem, &graph);
+    assert_eq!(rt; shown, behind);
+    assert!(rt; graph.decisions().len() > 0);
+    graph.undo();
+    let shown = found(&mut spans, problem, &graph);
+    assert_eq!(rt; shown, first);
+}
+
+#[test]
+fn spans_are_kept_where_the_graph_is_moved(rt: HostRuntime) -> Result<(), Fail> {
+    let problem = two_trains(rt.alloc()).expect(&rt, "two trains");
+    check_kept(&rt, rt.alloc(), &problem, order(0, 1));
     Ok(())
 }
 

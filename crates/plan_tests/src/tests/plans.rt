@@ -1,54 +1,14 @@
-// The plans of two trains of two operations each, under arcs that order them.
-ghost use Rattle.std.specs.Prelude.{◌≡◌, ◌<◌, ◌^◌, [], ◌∷◌, None, IfOk, OnOk, All, length};
+// The plans of two trains of two operations each, the first of which last 10 and 4, under arcs that
+// order them. What they list does not matter here.
+ghost use Rattle.std.specs.Prelude.{◌≡◌, ◌<◌, ◌^◌, [], ◌∷◌, IfOk, OnOk, All, length};
 
-use disp_model::{Event, List, Memory, Operation, Problem, Train};
+use disp_model::{List, Memory};
 use incremental_paths::Paths;
 use plan_builder::earliest;
 use std::alloc::Global;
 use std::process::Abort;
 use std::test::Fail;
-
-/// An operation that lasts so long, with what may come next.
-fn lasting(alloc: Global, min: u32, next: &[u32]) -> Result<Operation, Memory>
-    ensures { IfOk result (λ o. o
-        ≡ record { lower = 0; upper = None; min = min; listings = []; next = next.now }) }
-{
-    Ok(Operation {
-        lower: 0,
-        upper: None,
-        min,
-        listings: List::new(alloc),
-        next: List::from_vec(Vec::from_slice(alloc, next)?),
-    })
-}
-
-/// A train of two operations, the first of which lasts so long.
-fn two_steps(alloc: Global, min: u32) -> Result<Train, Memory>
-    ensures { IfOk result (λ train. train
-        ≡ record { lower = 0; upper = None; min = min; listings = []; next = 1 ∷ [] }
-        ∷ record { lower = 0; upper = None; min = 0; listings = []; next = [] } ∷ []) }
-{
-    let first = lasting(alloc, min, &[1])?;
-    let second = lasting(alloc, 0, &[])?;
-    Ok(List::from_vec(vec![in alloc; first, second]?))
-}
-
-/// Two trains, whose first operations last 10 and 4. What they list does not matter here.
-fn two_trains(alloc: Global) -> Result<Problem, Memory>
-    ensures { IfOk result (λ problem. problem.trains
-        ≡ (record { lower = 0; upper = None; min = 10; listings = []; next = 1 ∷ [] }
-        ∷ record { lower = 0; upper = None; min = 0; listings = []; next = [] } ∷ [])
-        ∷ (record { lower = 0; upper = None; min = 4; listings = []; next = 1 ∷ [] }
-        ∷ record { lower = 0; upper = None; min = 0; listings = []; next = [] } ∷ []) ∷ []) }
-{
-    let slow = two_steps(alloc, 10)?;
-    let fast = two_steps(alloc, 4)?;
-    Ok(Problem {
-        trains: List::from_vec(vec![in alloc; slow, fast]?),
-        components: List::new(alloc),
-        names: List::new(alloc),
-    })
-}
+use worked_problems::two_trains;
 
 /// Each train's one route.
 fn both_routes(alloc: Global) -> Result<Vec<List<u32>>, Memory>

@@ -1,50 +1,9 @@
-// Two trains of two operations each, and when they may start.
-ghost use Rattle.std.specs.Prelude.{◌≡◌, [], ◌∷◌, IfOk};
-
-use disp_model::{Fixing, List, Memory, Op, Operation, Problem, Train};
+// When the operations of two trains may start: each train from 2 on, and its exit from 4 until 20.
+use disp_model::{Fixing, Memory, Op, Problem};
 use event_windows::{Window, operations, windows};
 use std::alloc::Global;
 use std::test::Fail;
-
-/// An operation that may start from a time on, and until another, with what comes next.
-fn starting(
-    alloc: Global,
-    lower: u32,
-    upper: Option<u32>,
-    next: &[u32],
-) -> Result<Operation, Memory>
-    ensures { IfOk result (λ o. o
-        ≡ record { lower = lower; upper = upper; min = 1; listings = []; next = next.now }) }
-{
-    Ok(Operation {
-        lower,
-        upper,
-        min: 1,
-        listings: List::new(alloc),
-        next: List::from_vec(Vec::from_slice(alloc, next)?),
-    })
-}
-
-/// A train of two operations: from 2 on, and from 4 until 20.
-fn train(alloc: Global) -> Result<Train, Memory>
-    ensures { IfOk result (λ train. train
-        ≡ record { lower = 2; upper = None; min = 1; listings = []; next = 1 ∷ [] }
-        ∷ record { lower = 4; upper = Some 20; min = 1; listings = []; next = [] } ∷ []) }
-{
-    let entry = starting(alloc, 2, None, &[1])?;
-    let exit = starting(alloc, 4, Some(20), &[])?;
-    Ok(List::from_vec(vec![in alloc; entry, exit]?))
-}
-
-fn two_trains(alloc: Global) -> Result<Problem, Memory> {
-    let one = train(alloc)?;
-    let other = train(alloc)?;
-    Ok(Problem {
-        trains: List::from_vec(vec![in alloc; one, other]?),
-        components: List::new(alloc),
-        names: List::new(alloc),
-    })
-}
+use worked_problems::two_windows;
 
 fn started(at_train: u64, at_op: u64, time: u64) -> Fixing {
     Fixing::Started {
@@ -75,7 +34,7 @@ fn window_at(
 
 #[test]
 fn operations_stand_in_the_order_of_their_numbers(rt: HostRuntime) -> Result<(), Fail> {
-    let problem = two_trains(rt.alloc())?;
+    let problem = two_windows(rt.alloc())?;
     let ops = operations(rt.alloc(), &problem)?;
     let wanted = [(0, 0), (0, 1), (1, 0), (1, 1)].map(|(train, op)| Op { train, op });
     assert_eq!(rt; ops.as_slice(), wanted.as_slice());
@@ -84,7 +43,7 @@ fn operations_stand_in_the_order_of_their_numbers(rt: HostRuntime) -> Result<(),
 
 #[test]
 fn fixings_move_windows(rt: HostRuntime) -> Result<(), Fail> {
-    let problem = two_trains(rt.alloc())?;
+    let problem = two_windows(rt.alloc())?;
     for (fixings, number, lower, upper) in [
         ([started(0, 0, 7), started(0, 0, 9)], 0, 7, Some(7)),
         ([not_before(1, 0, 5), not_before(1, 0, 3)], 2, 5, None),

@@ -20,5 +20,5 @@ loop-preserved c =
       newest = c.round.ensures.newest;
       problem = on.problem ∙ inv.problem;
       rule = ap (λ (s : Settings). s.rule) on.settings ∙ inv.rule;
-      known = c.round.ensures.known;
+      ready = c.round.ensures.ready;
     }

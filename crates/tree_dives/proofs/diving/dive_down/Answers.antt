@@ -71,6 +71,7 @@ loop-preserved c =
           c.if-not-branch.false (ensures.down.0 best root helps completes);
       count = omega (arith, ensures.down.1, inv.count);
       known = ensures.known;
+      guide = c.in_ok-choice.ensures.guide;
       first = λ none. absurd (omega (arith, none));
     }
 

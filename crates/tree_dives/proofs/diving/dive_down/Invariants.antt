@@ -1,5 +1,6 @@
 use Rattle.std.proofs.Common.{◌≡◌, []}
 use Rattle.share_bound.specs.Known.{HoldFor}
+use Rattle.tree_dives.specs.Guides.{GuidesIn}
 use Rattle.tree_dives.specs.Halves.{Completes, IsBelowNode}
 use Rattle.tree_dives.specs.Downs.{sides_of, branches_in}
 use Rattle.tree_dives.proofs.diving.dive_down.Given as goal
@@ -11,5 +12,6 @@ invariant-loop l = record {
   completes : Completes l.reckoning.rule l.best l.initial.graph l.graph (sides_of l.halves);
   count : branches_in (sides_of l.halves) ≡ l.counter;
   known : HoldFor l.graph l.known;
+  guide : GuidesIn l.problem l.guide;
   first : l.counter ≡ 0 → (l.graph ≡ l.initial.graph) × (sides_of l.halves ≡ record { before = []; before_bounds = []; behind = []; behind_bounds = [] });
 }

@@ -7,7 +7,7 @@ use Rattle.disp_model.specs.declared.plan.Event.{Event}
 use Rattle.disp_model.specs.Earliest.{op_of}
 use Rattle.branch_rules.specs.Pairs.{ending_of}
 use Rattle.branch_rules.specs.Behind.{ArePlacesOf, IsFirstWith}
-use Rattle.first_overlaps.proofs.Filing.{listings_within}
+use Rattle.first_overlaps.proofs.Holding.{listings_within}
 use Rattle.branch_rules.proofs.Placing.{places_are, places_within}
 use Rattle.branch_rules.proofs.Looking.{with_none, with_more, with_all}
 use Rattle.branch_rules.proofs.behind.Behind.first_with.Goals as goal

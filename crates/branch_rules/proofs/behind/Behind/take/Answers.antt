@@ -6,7 +6,7 @@ use Rattle.disp_model.specs.declared.train.Listing.{Listing}
 use Rattle.disp_model.specs.declared.plan.Event.{Event}
 use Rattle.disp_model.specs.Earliest.{op_of}
 use Rattle.branch_rules.specs.Behind.{ArePutBehind}
-use Rattle.first_overlaps.proofs.Filing.{listings_within}
+use Rattle.first_overlaps.proofs.Holding.{listings_within}
 use Rattle.branch_rules.proofs.Placing.{behind_more}
 use Rattle.branch_rules.proofs.behind.Behind.take.Goals as goal
 
