@@ -45,7 +45,8 @@ in_time node plan a b i j e f end start resource release other earliest first se
     omega (arith, free.time, ended, started, time, is)
 
 clash_of : (node : Node) (plan : List Event) (a b : Op) → IsEarliest node plan → IsOverlap node a b → Clash node.problem plan a b
-clash_of node plan a b earliest o =
+clash_of node plan a b earliest is =
+    let o = is.both in
     let e = event_of node plan a earliest o.first.forced in
     let f = event_of node plan b earliest o.second.forced in
     elim (cases_lt e.0 f.0) [
@@ -58,7 +59,7 @@ clash_of node plan a b earliest o =
         earlier_there = e.2.0;
         later_there = f.2.0;
         names = inl (e.2.1, f.2.1);
-        not_apart = λ keep. absurd (omega (arith, o.early, in_time node plan a b e.0 f.0 e.1 f.1 o.end o.begin o.resource o.release o.other earliest e.2 f.2 o.first.forced o.first.end_is o.second.start_is o.lists o.also keep));
+        not_apart = λ keep. absurd (omega (arith, is.early, in_time node plan a b e.0 f.0 e.1 f.1 o.end o.begin o.resource o.release o.other earliest e.2 f.2 o.first.forced o.first.end_is o.second.start_is o.lists o.also keep));
       }
       | inr le ↦ elim (cases_lt f.0 e.0) [
         | inl lt ↦ record {
@@ -70,7 +71,7 @@ clash_of node plan a b earliest o =
           earlier_there = f.2.0;
           later_there = e.2.0;
           names = inr (f.2.1, e.2.1);
-          not_apart = λ keep. absurd (omega (arith, o.late, in_time node plan b a f.0 e.0 f.1 e.1 o.over o.start o.resource o.other o.release earliest f.2 e.2 o.second.forced o.second.end_is o.first.start_is o.also o.lists keep));
+          not_apart = λ keep. absurd (omega (arith, is.late, in_time node plan b a f.0 e.0 f.1 e.1 o.over o.start o.resource o.other o.release earliest f.2 e.2 o.second.forced o.second.end_is o.first.start_is o.also o.lists keep));
         }
         | inr ge ↦ absurd (one_event e.0 f.0 e.1 f.1 (omega (arith, le, ge)) e.2 f.2)
       ]
@@ -79,7 +80,7 @@ clash_of node plan a b earliest o =
     one_event : (i j : ℕ) (e f : Event) → i ≡ j → IsStartedAt plan a i e → IsStartedAt plan b j f → ⊥
     one_event i j e f same first second =
         let event : e ≡ f = same_Some e f (sym first.0 ∙ ap (slice_get plan) same ∙ second.0) in
-        omega (arith, o.trains, first.1.train, second.1.train, ap (λ (x : Event). x.train) event)
+        omega (arith, is.both.trains, first.1.train, second.1.train, ap (λ (x : Event). x.train) event)
 
 pub overlap_is_picked : (node : Node) (a b : Op) → (IsDead node → ⊥) → AreAlone node (length node.problem.trains) → IsFirstOverlap node a b → PicksOrder node a b
 overlap_is_picked node a b alive alone is = by (earliest_exists node one_route (λ cycle. alive (inr (inl cycle))))
@@ -90,13 +91,13 @@ overlap_is_picked node a b alive alone is = by (earliest_exists node one_route (
     by : (plan : List Event) × IsEarliest node plan → PicksOrder node a b
     by (plan, earliest) =
         let clash = clash_of node plan a b earliest is.overlap in
-        let free = clash_undecided node plan a b earliest is.overlap.trains clash in
+        let free = clash_undecided node plan a b earliest is.overlap.both.trains clash in
         record {
           plan = plan;
           earliest = earliest;
-          not_valid = not_valid node plan a b is.overlap.trains clash;
+          not_valid = not_valid node plan a b is.overlap.both.trains clash;
           first_clash = record {
-            open_clash = record { trains = is.overlap.trains; clash = clash; undecided = free.0; undecided_back = free.1 };
+            open_clash = record { trains = is.overlap.both.trains; clash = clash; undecided = free.0; undecided_back = free.1 };
             first = λ c d other. is.first c d (clash_is_open node plan c d earliest other);
           };
         }

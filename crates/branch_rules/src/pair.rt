@@ -1,8 +1,9 @@
 ghost use Rattle.std.specs.Prelude.{◌≡◌, ◌≢◌, ◌↔◌, IsTrue};
-ghost use Rattle.disp_model.specs.Earliest.{IsBelow, IsPairUpTo};
+ghost use Rattle.disp_model.specs.Earliest.{IsPairUpTo};
 ghost use Rattle.branch_rules.specs.Pairs.{IsPairOf, IsEarlier};
 
 use disp_model::{Event, Op};
+use first_overlaps::is_below;
 
 /// Operations of two trains, that of the lower train first.
 #[derive(Clone, Copy)]
@@ -32,13 +33,6 @@ pub(crate) fn pair_of(one: &Event, other: &Event) -> Pair
     } else {
         Pair { a: b, b: a }
     }
-}
-
-/// Whether an operation comes before another, by train and number.
-fn is_below(a: Op, b: Op) -> bool
-    ensures { IsTrue result ↔ IsBelow a b }
-{
-    a.train < b.train || (a.train == b.train && a.op < b.op)
 }
 
 /// Whether a pair comes no later than another, by its first operation and then its second.

@@ -27,7 +27,8 @@ use Rattle.first_overlaps.specs.Holders.{IsHolderOf, IsHeldIn, AreSound, AreHeld
 pub set_here : {X : Type 0} (xs : List X) (p : ℕ) (y : X) → p < length xs → slice_get (set xs p y) p ≡ Some y
 set_here xs p y lt = slice_get_read (set xs p y) (length xs) p y (sym (length-set xs p y)) lt (sym (get_or-set_same xs p y y lt))
 
-pub set_elsewhere : {X : Type 0} (xs : List X) (p : ℕ) (y : X) (i : ℕ) (z : X) → i ≢ p → slice_get xs i ≡ Some z → slice_get (set xs p y) i ≡ Some z
+pub set_elsewhere : {X : Type 0} (xs : List X) (p : ℕ) (y : X) (i : ℕ) (z : X) → i ≢ p
+    → slice_get xs i ≡ Some z → slice_get (set xs p y) i ≡ Some z
 set_elsewhere xs p y i z other at =
     slice_get_read (set xs p y) (length xs) i z (sym (length-set xs p y)) (slice_get_within xs i z at) (sym (get_or-set_other xs p i y z other ∙ get_or_from_slice_get xs i z z at))
 
@@ -37,7 +38,9 @@ alone_there x y (suc n, lt, e) = absurd (omega (arith, lt))
 
 -- ---- one holder more
 
-stays : (each : List (Vec Holder)) (r : ℕ) (own new : Vec Holder) (x : Holder) → r < length each → slice_get each r ≡ Some own → new.items ≡ own.items ++ x ∷ [] → (o : Op) (l : Listing) → IsHeldIn each o l → IsHeldIn (set each r new) o l
+stays : (each : List (Vec Holder)) (r : ℕ) (own new : Vec Holder) (x : Holder) → r < length each
+    → slice_get each r ≡ Some own → new.items ≡ own.items ++ x ∷ [] → (o : Op) (l : Listing)
+    → IsHeldIn each o l → IsHeldIn (set each r new) o l
 stays each r own new x lt at is o l held = elim (cases_eq l.resource r) [
   | inl same ↦
       let list_is : held.list ≡ own = same_Some held.list own (sym held.at ∙ ap (slice_get each) same ∙ at) in
@@ -53,13 +56,16 @@ stays each r own new x lt at is o l held = elim (cases_eq l.resource r) [
   | inr other ↦ record { list = held.list; at = set_elsewhere each r new l.resource held.list other held.at; holder = held.holder; among = held.among; of = held.of; release = held.release }
 ]
 
-sound_more : (problem : Problem) (each : List (Vec Holder)) (r : ℕ) (own new : Vec Holder) (x : Holder) → r < length each → slice_get each r ≡ Some own → new.items ≡ own.items ++ x ∷ [] → IsHolderOf problem r x → AreSound problem each → AreSound problem (set each r new)
+sound_more : (problem : Problem) (each : List (Vec Holder)) (r : ℕ) (own new : Vec Holder) (x : Holder)
+    → r < length each → slice_get each r ≡ Some own → new.items ≡ own.items ++ x ∷ [] → IsHolderOf problem r x
+    → AreSound problem each → AreSound problem (set each r new)
 sound_more problem each r own new x lt at is of are = record {
   count = length-set each r new ∙ are.count;
   holds = λ s list y there among. by s list y among (set_parts each r new s list lt there);
 }
   where
-    by : (s : ℕ) (list : Vec Holder) (y : Holder) → Contains list.items y → ((s ≡ r) × (list ≡ new)) ⊎ ((s ≢ r) × (slice_get each s ≡ Some list)) → IsHolderOf problem s y
+    by : (s : ℕ) (list : Vec Holder) (y : Holder) → Contains list.items y
+        → ((s ≡ r) × (list ≡ new)) ⊎ ((s ≢ r) × (slice_get each s ≡ Some list)) → IsHolderOf problem s y
     by s list y among (inr (other, there)) = are.holds s list y there among
     by s list y among (inl (same, list_is)) =
         let there = subst (λ (xs : List Holder). Contains xs y) is (subst (λ (v : Vec Holder). Contains v.items y) list_is among) in
@@ -69,9 +75,11 @@ sound_more problem each r own new x lt at is of are = record {
         ])
 
 pub put_more : (problem : Problem) (listings : List Listing) (l : Listing) (each : List (Vec Holder)) (x : Holder) (own new : Vec Holder)
-    → l.resource < length each → own ≡ get_or each l.resource own → new.items ≡ own.items ++ x ∷ [] → x.release ≡ l.release
+    → l.resource < length each → own ≡ get_or each l.resource own → new.items ≡ own.items ++ x ∷ []
+    → x.release ≡ l.release
     → HasOperation problem x.op → number_of problem x.op ≡ x.number → Contains (listings_of problem x.op) l
-    → AreHeldWith problem x.op listings each → AreHeldWith problem x.op (listings ++ l ∷ []) (set each l.resource new)
+    → AreHeldWith problem x.op listings each
+    → AreHeldWith problem x.op (listings ++ l ∷ []) (set each l.resource new)
 put_more problem listings l each x own new lt own_is is release has number lists are = record {
   sound = sound_more problem each l.resource own new x lt at is (record { there = has; number = number; lists = (l, lists, refl, sym release) }) are.sound;
   there = λ o k has_o below listed. stays each l.resource own new x lt at is o k (are.there o k has_o below listed);
@@ -96,7 +104,9 @@ put_more problem listings l each x own new lt own_is is release has number lists
 
 -- ---- one operation more
 
-pub none_held : (problem : Problem) (each : List (Vec Holder)) → length each ≡ length problem.names → ((r : ℕ) (list : Vec Holder) → slice_get each r ≡ Some list → list.items ≡ []) → AreHeldBelow problem 0 each
+pub none_held : (problem : Problem) (each : List (Vec Holder)) → length each ≡ length problem.names
+    → ((r : ℕ) (list : Vec Holder) → slice_get each r ≡ Some list → list.items ≡ [])
+    → AreHeldBelow problem 0 each
 none_held problem each count none = record {
   sound = record { count = count; holds = λ r list x at among. absurd (nothing x (subst (λ (xs : List Holder). Contains xs x) (none r list at) among)) };
   there = λ o l has lt lists. absurd (omega (arith, lt));
@@ -105,14 +115,17 @@ none_held problem each count none = record {
     nothing : (x : Holder) → Contains [] x → ⊥
     nothing x (k, lt, e) = omega (arith, lt)
 
-pub with_none : (problem : Problem) (op : Op) (number : ℕ) (each : List (Vec Holder)) → number_of problem op ≡ number → AreHeldBelow problem number each → AreHeldWith problem op [] each
+pub with_none : (problem : Problem) (op : Op) (number : ℕ) (each : List (Vec Holder))
+    → number_of problem op ≡ number → AreHeldBelow problem number each → AreHeldWith problem op [] each
 with_none problem op number each is are = record {
   sound = are.sound;
   there = λ o l has lt lists. are.there o l has (omega (arith, lt, is)) lists;
   own = λ l there. absurd (omega (arith, there.1));
 }
 
-pub with_all : (problem : Problem) (op : Op) (number : ℕ) (each : List (Vec Holder)) → HasOperation problem op → number_of problem op ≡ number → AreHeldWith problem op (listings_of problem op) each → AreHeldBelow problem (number + 1) each
+pub with_all : (problem : Problem) (op : Op) (number : ℕ) (each : List (Vec Holder)) → HasOperation problem op
+    → number_of problem op ≡ number → AreHeldWith problem op (listings_of problem op) each
+    → AreHeldBelow problem (number + 1) each
 with_all problem op number each has is are = record {
   sound = are.sound;
   there = λ o l has_o lt lists. elim (cases_lt (number_of problem o) number) [
@@ -123,7 +136,8 @@ with_all problem op number each has is are = record {
   ];
 }
 
-pub all_held : (problem : Problem) (count : ℕ) (each : List (Vec Holder)) → operation_count problem.trains ≤ count → AreHeldBelow problem count each → AreHoldersOf problem each
+pub all_held : (problem : Problem) (count : ℕ) (each : List (Vec Holder))
+    → operation_count problem.trains ≤ count → AreHeldBelow problem count each → AreHoldersOf problem each
 all_held problem count each le are = record {
   sound = are.sound;
   there = λ o l has lists. are.there o l has (let lt = below_count problem o has.train has.op in omega (arith, lt, le)) lists;
@@ -132,10 +146,12 @@ all_held problem count each le are = record {
 -- ---- what an operation lists
 
 -- has a name
-pub listings_within : (problem : Problem) (o : Op) → o.train < length problem.trains → All (λ (l : Listing). l.resource < length problem.names) (listings_of problem o)
+pub listings_within : (problem : Problem) (o : Op) → o.train < length problem.trains
+    → All (λ (l : Listing). l.resource < length problem.names) (listings_of problem o)
 listings_within problem o train = by_found (slice_get (train_at problem o.train) o.op) refl
   where
-    by_found : (found : Option Operation) → slice_get (train_at problem o.train) o.op ≡ found → All (λ (l : Listing). l.resource < length problem.names) (option_map_or (λ (p : Operation). p.listings) found [])
+    by_found : (found : Option Operation) → slice_get (train_at problem o.train) o.op ≡ found
+        → All (λ (l : Listing). l.resource < length problem.names) (option_map_or (λ (p : Operation). p.listings) found [])
     by_found None at k d lt = absurd (omega (arith, lt))
     by_found (Some p) at k d lt =
         let within = slice_get_within (train_at problem o.train) o.op p at in
@@ -144,18 +160,25 @@ listings_within problem o train = by_found (slice_get (train_at problem o.train)
         subst (λ (q : Operation). All (λ (l : Listing). l.resource < length problem.names) q.listings) own refers.listings k d lt
 
 -- at a place of what it lists
-pub resource_within : (problem : Problem) (o : Op) (listings : List Listing) (k : ℕ) (d : Listing) → listings ≡ listings_of problem o → o.train < length problem.trains → k < length listings → (get_or listings k d).resource < length problem.names
+pub resource_within : (problem : Problem) (o : Op) (listings : List Listing) (k : ℕ) (d : Listing)
+    → listings ≡ listings_of problem o → o.train < length problem.trains → k < length listings
+    → (get_or listings k d).resource < length problem.names
 resource_within problem o listings k d is train lt = subst (λ (ls : List Listing). All (λ (l : Listing). l.resource < length problem.names) ls) (sym is) (listings_within problem o train) k d lt
 
-pub listed_at : (problem : Problem) (o : Op) (listings : List Listing) (k : ℕ) (d : Listing) → listings ≡ listings_of problem o → k < length listings → Contains (listings_of problem o) (get_or listings k d)
+pub listed_at : (problem : Problem) (o : Op) (listings : List Listing) (k : ℕ) (d : Listing)
+    → listings ≡ listings_of problem o → k < length listings
+    → Contains (listings_of problem o) (get_or listings k d)
 listed_at problem o listings k d is lt = subst (λ (ls : List Listing). Contains ls (get_or listings k d)) is (k, lt, get_or_default listings k (get_or listings k d) d lt)
 
 -- the holders of a resource have numbers of operations
-pub numbers_within : (problem : Problem) (each : List (Vec Holder)) (r count : ℕ) (list : Vec Holder) → AreSound problem each → slice_get each r ≡ Some list → count ≡ operation_count problem.trains → All (λ (x : Holder). x.number < count) list.items
+pub numbers_within : (problem : Problem) (each : List (Vec Holder)) (r count : ℕ) (list : Vec Holder)
+    → AreSound problem each → slice_get each r ≡ Some list → count ≡ operation_count problem.trains
+    → All (λ (x : Holder). x.number < count) list.items
 numbers_within problem each r count list sound at is k d lt =
     let of = sound.holds r list (get_or list.items k d) at (k, lt, get_or_default list.items k (get_or list.items k d) d lt) in
     omega (arith, below_count problem (get_or list.items k d).op of.there.train of.there.op, of.number, is)
 
 -- the holders that are read are those of the resource
-pub list_at : (each : List (Vec Holder)) (r : ℕ) (list : Vec Holder) → r < length each → list ≡ get_or each r list → slice_get each r ≡ Some list
+pub list_at : (each : List (Vec Holder)) (r : ℕ) (list : Vec Holder) → r < length each
+    → list ≡ get_or each r list → slice_get each r ≡ Some list
 list_at each r list lt is = slice_get_read each (length each) r list refl lt is

@@ -22,7 +22,7 @@ use Rattle.first_overlaps.specs.declared.hold.Hold.{Hold}
 use Rattle.first_overlaps.specs.declared.holder.Holder.{Holder}
 use Rattle.first_overlaps.specs.Spans.{IsSpanOf}
 use Rattle.first_overlaps.specs.Holders.{AreSound}
-use Rattle.first_overlaps.specs.Holds.{HoldApart, hold_with, hold_by, StandsApart, AreKnownApart, IsSpanned, AreSpannedBelow, AreSpanned, NoneMore, AreParted, AreAllParted}
+use Rattle.first_overlaps.specs.Holds.{HoldApart, hold_with, hold_on, hold_by, StandsApart, AreKnownApart, IsSpanned, AreSpannedBelow, AreSpanned, NoneMore, AreParted, AreAllParted}
 use Rattle.first_overlaps.proofs.Holding.{alone_there}
 
 -- ---- words that are taken back
@@ -30,13 +30,16 @@ use Rattle.first_overlaps.proofs.Holding.{alone_there}
 pub none_more : (apart : List Bool) → NoneMore apart apart
 none_more apart n is = is
 
-pub fewer_then : (before middle after : List Bool) → NoneMore before middle → NoneMore middle after → NoneMore before after
+pub fewer_then : (before middle after : List Bool) → NoneMore before middle → NoneMore middle after
+    → NoneMore before after
 fewer_then before middle after one two n is = one n (two n is)
 
-pub word_is : (apart : List Bool) (n : ℕ) (word : Bool) → n < length apart → get_or (set apart n word) n false ≡ true → word ≡ true
+pub word_is : (apart : List Bool) (n : ℕ) (word : Bool) → n < length apart
+    → get_or (set apart n word) n false ≡ true → word ≡ true
 word_is apart n word lt is = sym (get_or-set_same apart n word false lt) ∙ is
 
-pub word_kept : (apart : List Bool) (n : ℕ) (word : Bool) → n < length apart → (word ≡ true → get_or apart n false ≡ true) → NoneMore apart (set apart n word)
+pub word_kept : (apart : List Bool) (n : ℕ) (word : Bool) → n < length apart
+    → (word ≡ true → get_or apart n false ≡ true) → NoneMore apart (set apart n word)
 word_kept apart n word lt was m is = elim (cases_eq m n) [
   | inl same ↦ ap (λ (k : ℕ). get_or apart k false) same ∙ was (word_is apart n word lt (ap (λ (k : ℕ). get_or (set apart n word) k false) (sym same) ∙ is))
   | inr other ↦ sym (get_or-set_other apart n m word false other) ∙ is
@@ -44,10 +47,12 @@ word_kept apart n word lt was m is = elim (cases_eq m n) [
 
 -- ---- the holders of a resource
 
-pub parted_none : (spans : List (Option Span)) (hold : Hold) (apart : List Bool) → AreParted [] spans hold apart
+pub parted_none : (spans : List (Option Span)) (hold : Hold) (apart : List Bool)
+    → AreParted [] spans hold apart
 parted_none spans hold apart x other there trains holds word = absurd (omega (arith, there.1))
 
-pub parted_more : (before : List Holder) (h : Holder) (spans : List (Option Span)) (hold : Hold) (old new : List Bool) → NoneMore old new → AreParted before spans hold old
+pub parted_more : (before : List Holder) (h : Holder) (spans : List (Option Span)) (hold : Hold) (old new : List Bool)
+    → NoneMore old new → AreParted before spans hold old
     → ((other : Hold) → h.op.train < hold.op.train → hold_by spans h ≡ Some other → get_or new h.number false ≡ true → HoldApart other hold)
     → AreParted (before ++ h ∷ []) spans hold new
 parted_more before h spans hold old new fewer was own x other there trains holds word = elim (Contains-append_cases before (h ∷ []) x there) [
@@ -59,25 +64,28 @@ parted_more before h spans hold old new fewer was own x other there trains holds
 
 -- ---- all that an operation lists
 
-pub all_none : (each : List (Vec Holder)) (spans : List (Option Span)) (op : Op) (span : Span) (apart : List Bool) → AreAllParted each spans op span [] apart
+pub all_none : (each : List (Vec Holder)) (spans : List (Option Span)) (op : Op) (span : Span) (apart : List Bool)
+    → AreAllParted each spans op span [] apart
 all_none each spans op span apart l list there at = absurd (omega (arith, there.1))
 
 pub all_more : (each : List (Vec Holder)) (spans : List (Option Span)) (op : Op) (span : Span) (ls : List Listing) (l : Listing) (list : Vec Holder) (old new : List Bool)
-    → NoneMore old new → slice_get each l.resource ≡ Some list → AreParted list.items spans (record { op = op; span = span; release = l.release }) new
+    → NoneMore old new → slice_get each l.resource ≡ Some list
+    → AreParted list.items spans (hold_on op span l) new
     → AreAllParted each spans op span ls old → AreAllParted each spans op span (ls ++ l ∷ []) new
 all_more each spans op span ls l list old new fewer at own was k other there found = elim (Contains-append_cases ls (l ∷ []) k there) [
   | inl earlier ↦ λ x one among trains holds word. was k other earlier found x one among trains holds (fewer x.number word)
   | inr last ↦
       let is : k ≡ l = alone_there k l last in
       let same : other ≡ list = same_Some other list (sym found ∙ ap (λ (m : Listing). slice_get each m.resource) is ∙ at) in
-      subst (λ (m : Listing). AreParted other.items spans (record { op = op; span = span; release = m.release }) new) (sym is)
-      (subst (λ (v : Vec Holder). AreParted v.items spans (record { op = op; span = span; release = l.release }) new) (sym same) own)
+      subst (λ (m : Listing). AreParted other.items spans (hold_on op span m) new) (sym is)
+      (subst (λ (v : Vec Holder). AreParted v.items spans (hold_on op span l) new) (sym same) own)
 ]
 
 -- ---- an operation that runs so from now on
 
 pub noted : (problem : Problem) (each : List (Vec Holder)) (spans : List (Option Span)) (old words : List Bool) (n : ℕ) (op : Op) (span : Option Span) (word : Bool)
-    → AreSound problem each → n < length spans → n < length words → IsAtNumber problem op n → NoneMore old words → (word ≡ true → span ≡ None)
+    → AreSound problem each → n < length spans → n < length words → IsAtNumber problem op n
+    → NoneMore old words → (word ≡ true → span ≡ None)
     → ((s : Span) → span ≡ Some s → AreAllParted each spans op s (listings_of problem op) words)
     → AreKnownApart each spans old → AreKnownApart each (set spans n span) (set words n word)
 noted problem each spans old words n op span word sound lt within is_at fewer empty parted known m is r list x y one other at among_x among_y of_m trains holds_x holds_y = elim (cases_eq m n) [
@@ -97,10 +105,12 @@ noted problem each spans old words n op span word sound lt within is_at fewer em
     own : (z : Holder) → z.number ≡ n → get_or (set spans n span) z.number None ≡ span
     own z same = ap (λ (k : ℕ). get_or (set spans n span) k None) same ∙ get_or-set_same spans n span None lt
 
-    others : (z : Holder) → z.number ≢ n → get_or (set spans n span) z.number None ≡ get_or spans z.number None
+    others : (z : Holder) → z.number ≢ n
+        → get_or (set spans n span) z.number None ≡ get_or spans z.number None
     others z other = get_or-set_other spans n z.number span None other
 
-    by : (found : Option Span) → span ≡ found → option_map (hold_with y) found ≡ Some other → y.number ≡ n → hold_by spans x ≡ Some one → get_or words x.number false ≡ true → HoldApart one other
+    by : (found : Option Span) → span ≡ found → option_map (hold_with y) found ≡ Some other → y.number ≡ n
+        → hold_by spans x ≡ Some one → get_or words x.number false ≡ true → HoldApart one other
     by None none held here held_x word_x = absurd (none-some other held)
     by (Some s) some held here held_x word_x =
         let of = sound.holds r list y at among_y in
@@ -117,7 +127,9 @@ none_where None word is said = refl
 none_where (Some s) word is said = absurd (false≢true (sym (is ∙ ap not said)))
 
 -- a word on an operation that is apart
-pub word_set : (each : List (Vec Holder)) (spans : List (Option Span)) (apart : List Bool) (n : ℕ) (word : Bool) → n < length apart → (word ≡ true → StandsApart each spans n) → AreKnownApart each spans apart → AreKnownApart each spans (set apart n word)
+pub word_set : (each : List (Vec Holder)) (spans : List (Option Span)) (apart : List Bool) (n : ℕ) (word : Bool)
+    → n < length apart → (word ≡ true → StandsApart each spans n) → AreKnownApart each spans apart
+    → AreKnownApart each spans (set apart n word)
 word_set each spans apart n word lt stands known m is = elim (cases_eq m n) [
   | inl same ↦ subst (StandsApart each spans) (sym same) (stands (word_is apart n word lt (ap (λ (k : ℕ). get_or (set apart n word) k false) (sym same) ∙ is)))
   | inr other ↦ known m (sym (get_or-set_other apart n m word false other) ∙ is)
@@ -125,12 +137,16 @@ word_set each spans apart n word lt stands known m is = elim (cases_eq m n) [
 
 -- ---- when operations run
 
-pub spanned_from : (node : Node) (o : Op) (found : Option Span) → MatchOption found (IsForced node o → ⊥) (λ s. IsSpanOf node o s.start s.end × (s.end < 2 ^ 54)) → IsSpanned node o found
+pub spanned_from : (node : Node) (o : Op) (found : Option Span)
+    → MatchOption found (IsForced node o → ⊥) (λ s. IsSpanOf node o s.start s.end × (s.end < 2 ^ 54))
+    → IsSpanned node o found
 spanned_from node o None not = not
 spanned_from node o (Some s) is = is.0
 
-pub spanned_more : (node : Node) (n : ℕ) (op : Op) (found : Option Span) (old new : List (Option Span)) → IsAtNumber node.problem op n → IsSpanned node op found → get_or new n None ≡ found
-    → ((m : ℕ) → m ≢ n → get_or new m None ≡ get_or old m None) → AreSpannedBelow node n old → AreSpannedBelow node (n + 1) new
+pub spanned_more : (node : Node) (n : ℕ) (op : Op) (found : Option Span) (old new : List (Option Span))
+    → IsAtNumber node.problem op n → IsSpanned node op found → get_or new n None ≡ found
+    → ((m : ℕ) → m ≢ n → get_or new m None ≡ get_or old m None) → AreSpannedBelow node n old
+    → AreSpannedBelow node (n + 1) new
 spanned_more node n op found old new is_at is own others was m o lt at = elim (cases_eq m n) [
   | inl same ↦
       let same_op : o ≡ op = same_by_number node.problem o op at.there is_at.there (at.number ∙ same ∙ sym is_at.number) in
@@ -138,5 +154,6 @@ spanned_more node n op found old new is_at is own others was m o lt at = elim (c
   | inr other ↦ subst (IsSpanned node o) (sym (others m other)) (was m o (omega (arith, lt, other)) at)
 ]
 
-pub all_spanned : (node : Node) (count : ℕ) (spans : List (Option Span)) → operation_count node.problem.trains ≤ count → AreSpannedBelow node count spans → AreSpanned node spans
+pub all_spanned : (node : Node) (count : ℕ) (spans : List (Option Span))
+    → operation_count node.problem.trains ≤ count → AreSpannedBelow node count spans → AreSpanned node spans
 all_spanned node count spans le was n o at = was n o (let lt = below_count node.problem o at.there.train at.there.op in omega (arith, lt, at.number, le)) at

@@ -21,21 +21,25 @@ pub record AreShared (own others : List Listing) (l k : Listing) : Type 0 where
   pub of_others : Contains others k
   pub same : k.resource ≡ l.resource
 
-shared_with : (own others : List Listing) (l : Listing) → Contains (shared_listings own others) l → (k : Listing) × AreShared own others l k
+shared_with : (own others : List Listing) (l : Listing) → Contains (shared_listings own others) l
+    → (k : Listing) × AreShared own others l k
 shared_with own others l there =
     let kept = from_filter (λ (m : Listing). list_any (λ (n : Listing). n.resource == m.resource) others) own l there in
     let some = Any-from_list_any (λ (n : Listing). n.resource == l.resource) others kept.1 in
     (some.1, record { of_own = kept.0; of_others = (some.0, some.2, some.3); same = eqb-true some.1.resource l.resource some.4 })
 
 -- there is one where two conflict
-pub some_shared : (own others : List Listing) → shared_listings own others ≢ [] → (l : Listing) × (k : Listing) × AreShared own others l k
+pub some_shared : (own others : List Listing) → shared_listings own others ≢ []
+    → (l : Listing) × (k : Listing) × AreShared own others l k
 some_shared own others some = by (shared_listings own others) refl
   where
-    by : (ls : List Listing) → shared_listings own others ≡ ls → (l : Listing) × (k : Listing) × AreShared own others l k
+    by : (ls : List Listing) → shared_listings own others ≡ ls
+        → (l : Listing) × (k : Listing) × AreShared own others l k
     by [] is = absurd (some is)
     by (l ∷ ls) is = let other = shared_with own others l (subst (λ (xs : List Listing). Contains xs l) (sym is) (0, omega arith, refl)) in (l, other.0, other.1)
 
-greatest_within : (ls : List Listing) (end time : ℕ) → end ≤ time → ((l : Listing) → Contains ls l → end + l.release ≤ time) → end + greatest_release ls ≤ time
+greatest_within : (ls : List Listing) (end time : ℕ) → end ≤ time
+    → ((l : Listing) → Contains ls l → end + l.release ≤ time) → end + greatest_release ls ≤ time
 greatest_within [] end time le each = omega (arith, le)
 greatest_within (l ∷ ls) end time le each =
     let here = each l (0, omega arith, refl) in
@@ -46,8 +50,10 @@ greatest_within (l ∷ ls) end time le each =
 pub record AreApartOn (start end begin over : ℕ) (l k : Listing) : Type 0 where
   pub apart : ((end < begin) × (end + l.release ≤ begin)) ⊎ ((over < start) × (over + k.release ≤ start))
 
-pub not_open : (node : Node) (a b : Op) (start end begin over : ℕ) → (HasCycle node → ⊥) → IsSpanOf node a start end → IsSpanOf node b begin over
-    → ((l k : Listing) → AreShared (listings_of node.problem a) (listings_of node.problem b) l k → AreApartOn start end begin over l k) → IsOpenOrder node a b → ⊥
+pub not_open : (node : Node) (a b : Op) (start end begin over : ℕ) → (HasCycle node → ⊥)
+    → IsSpanOf node a start end → IsSpanOf node b begin over
+    → ((l k : Listing) → AreShared (listings_of node.problem a) (listings_of node.problem b) l k → AreApartOn start end begin over l k)
+    → IsOpenOrder node a b → ⊥
 not_open node a b start end begin over no_cycle one other each opened =
     let some = some_shared (listings_of node.problem a) (listings_of node.problem b) opened.conflicts.shared in
     elim (each some.0 some.1 some.2).apart [ inl before ↦ opened.not_clear (there before.0) | inr before ↦ opened.not_clear_back (back before.0) ]

@@ -14,9 +14,13 @@ use Rattle.first_overlaps.specs.declared.hold.Hold.{Hold}
 use Rattle.first_overlaps.specs.declared.holder.Holder.{Holder}
 use Rattle.first_overlaps.specs.declared.meeting.Meeting.{Meeting}
 use Rattle.first_overlaps.specs.declared.seen.Seen.{Seen}
-use Rattle.first_overlaps.specs.Spans.{IsSpanOf, IsListed, IsOverlap, IsTouch, IsFirstOpen, NoneOpen}
+use Rattle.first_overlaps.specs.Spans.{IsSpanOf, IsListed, IsOverlap, IsTouch, NoneOpenBefore, NoneOpen}
 
 -- ---- holds
+
+-- what an operation that runs so holds by a listing
+abbrev pub hold_on : Op → Span → Listing → Hold
+hold_on op span l = record { op = op; span = span; release = l.release }
 
 -- the operation runs so, and lists the resource with the release time
 pub record IsHold (node : Node) (resource : ℕ) (h : Hold) : Type 0 where
@@ -95,7 +99,7 @@ abbrev pub AreAllParted : List (Vec Holder) → List (Option Span) → Op → Sp
     → List Bool → Type 0
 AreAllParted holders spans op span listings apart = (l : Listing) (list : Vec Holder)
     → Contains listings l → slice_get holders l.resource ≡ Some list
-    → AreParted list.items spans (record { op = op; span = span; release = l.release }) apart
+    → AreParted list.items spans (hold_on op span l) apart
 
 -- ---- what a look finds
 
@@ -104,9 +108,9 @@ abbrev pub NoLater : Op → Op → Type 0
 NoLater a b = (a.train < b.train) ⊎ ((a.train ≡ b.train) × (a.op ≤ b.op))
 
 -- the two of a meeting that may be known come no later than those with this second operation
-abbrev pub IsUpTo : Option Meeting → Op → Type 0
-IsUpTo None b = ⊥
-IsUpTo (Some meeting) b = NoLater meeting.b b
+abbrev pub IsMeetingUpTo : Option Meeting → Op → Type 0
+IsMeetingUpTo None b = ⊥
+IsMeetingUpTo (Some meeting) b = NoLater meeting.b b
 
 -- an operation and another hold a resource at a time, or touch
 pub record IsMeetingOf (node : Node) (a : Op) (m : Meeting) : Type 0 where
@@ -115,25 +119,25 @@ pub record IsMeetingOf (node : Node) (a : Op) (m : Meeting) : Type 0 where
   pub touch : m.overlaps ≡ false → IsTouch node m.a m.b
 
 -- a meeting of an operation that may be known, or another one, whichever comes first
-pub record IsEarlier (known : Option Meeting) (m : Meeting) (first : Option Meeting) : Type 0 where
+pub record IsEarlierMeeting (known : Option Meeting) (m : Meeting) (first : Option Meeting) : Type 0 where
   pub one : (first ≡ known) ⊎ (first ≡ Some m)
-  pub up_to : IsUpTo first m.b
-  pub kept : (d : Op) → IsUpTo known d → IsUpTo first d
+  pub up_to : IsMeetingUpTo first m.b
+  pub kept : (d : Op) → IsMeetingUpTo known d → IsMeetingUpTo first d
 
 -- what is seen later: a meeting that comes no later, and no more that is apart
 pub record IsSeenLater (before after : Seen) : Type 0 where
-  pub kept : (d : Op) → IsUpTo before.first d → IsUpTo after.first d
+  pub kept : (d : Op) → IsMeetingUpTo before.first d → IsMeetingUpTo after.first d
   pub apart : after.apart ≡ true → before.apart ≡ true
 
 -- what is seen of a hold and another
-pub record IsMet (node : Node) (one other : Hold) (seen : Seen) : Type 0 where
-  pub settled : AreSettled node one other ⊎ IsUpTo seen.first other.op
+pub record HoldMeets (node : Node) (one other : Hold) (seen : Seen) : Type 0 where
+  pub settled : AreSettled node one other ⊎ IsMeetingUpTo seen.first other.op
   pub apart : seen.apart ≡ true → HoldApart one other
 
 -- what is seen of a hold and those of these holders that are of later trains
-abbrev pub AreMet : Node → Hold → List (Option Span) → List Holder → Seen → Type 0
-AreMet node one spans holders seen = (y : Holder) (other : Hold) → Contains holders y
-    → one.op.train < y.op.train → hold_by spans y ≡ Some other → IsMet node one other seen
+abbrev pub HoldsMeet : Node → Hold → List (Option Span) → List Holder → Seen → Type 0
+HoldsMeet node one spans holders seen = (y : Holder) (other : Hold) → Contains holders y
+    → one.op.train < y.op.train → hold_by spans y ≡ Some other → HoldMeets node one other seen
 
 -- what is seen of an operation that runs so, by these of its listings, and of all of later trains
 pub record IsSeenBy (node : Node) (holders : List (Vec Holder)) (spans : List (Option Span))
@@ -141,7 +145,7 @@ pub record IsSeenBy (node : Node) (holders : List (Vec Holder)) (spans : List (O
   pub found : IfSome seen.first (IsMeetingOf node op)
   pub met : (l : Listing) (list : Vec Holder) → Contains listings l
       → slice_get holders l.resource ≡ Some list
-      → AreMet node (record { op = op; span = span; release = l.release }) spans list.items seen
+      → HoldsMeet node (hold_on op span l) spans list.items seen
 
 -- by these spans the operation of a number is settled with all of later trains
 abbrev pub StandsSettled : Node → List (Vec Holder) → List (Option Span) → ℕ → Type 0
@@ -154,15 +158,15 @@ StandsSettled node holders spans n = (r : ℕ) (list : Vec Holder) (x y : Holder
 pub record IsFirstMeeting (node : Node) (m : Meeting) : Type 0 where
   pub overlap : m.overlaps ≡ true → IsOverlap node m.a m.b
   pub touch : m.overlaps ≡ false → IsTouch node m.a m.b
-  pub first : IsFirstOpen node m.a m.b
+  pub first : NoneOpenBefore node m.a m.b
 
 -- what a look at the operation of a number comes to: it is settled with all of later trains, or its
 -- first meeting is the first one where all before it are
-abbrev pub IsFoundAt : Node → List (Vec Holder) → List (Option Span) → ℕ → Option Meeting
+abbrev pub IsLookAt : Node → List (Vec Holder) → List (Option Span) → ℕ → Option Meeting
     → Type 0
-IsFoundAt node holders spans n found = MatchOption found (StandsSettled node holders spans n)
+IsLookAt node holders spans n found = MatchOption found (StandsSettled node holders spans n)
     (λ m. ((k : ℕ) → k < n → StandsSettled node holders spans k) → IsFirstMeeting node m)
 
 -- what all these looks come to
-abbrev pub IsFound : Node → Option Meeting → Type 0
-IsFound node found = MatchOption found (NoneOpen node) (IsFirstMeeting node)
+abbrev pub IsLook : Node → Option Meeting → Type 0
+IsLook node found = MatchOption found (NoneOpen node) (IsFirstMeeting node)

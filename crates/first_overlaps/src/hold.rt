@@ -1,8 +1,8 @@
-ghost use Rattle.std.specs.Prelude.{◌↔◌, ◌<◌, ◌+◌, IsTrue};
-ghost use Rattle.first_overlaps.specs.Holds.{IsOver, HoldApart, DoOverlap};
+ghost use Rattle.std.specs.Prelude.{◌≡◌, ◌↔◌, ◌<◌, ◌+◌, IsTrue};
+ghost use Rattle.first_overlaps.specs.Holds.{hold_on, IsOver, HoldApart, DoOverlap};
 
 use crate::span::Span;
-use disp_model::Op;
+use disp_model::{Listing, Op};
 
 /// A forced operation that lists a resource: when it starts and ends, and the release time.
 #[derive(Clone, Copy)]
@@ -10,6 +10,17 @@ pub(crate) struct Hold {
     pub op: Op,
     pub span: Span,
     pub release: u32,
+}
+
+/// What an operation that runs so holds by a listing.
+pub(crate) fn hold_on(op: Op, span: Span, listing: &Listing) -> Hold
+    ensures { result ≡ hold_on op span listing.now }
+{
+    Hold {
+        op,
+        span,
+        release: listing.release,
+    }
 }
 
 /// Whether one is over, with its release time, when the other starts, and ends before that.

@@ -4,10 +4,10 @@ ghost use Rattle.disp_model.specs.Arcs.{listings_of};
 ghost use Rattle.event_windows.specs.Operations.{IsAtNumber};
 ghost use Rattle.first_overlaps.specs.declared.hold.Hold.{Hold as HoldOf};
 ghost use Rattle.first_overlaps.specs.Spans.{IsFirstOverlap, FirstTouch, NoneOpen};
-ghost use Rattle.first_overlaps.specs.Holds.{hold_by, HoldApart, IsSpanned, AreSpanned, NoneMore, AreParted, AreAllParted, IsSeenBy, IsFoundAt, IsFound};
+ghost use Rattle.first_overlaps.specs.Holds.{hold_by, HoldApart, IsSpanned, AreSpanned, NoneMore, AreParted, AreAllParted, IsSeenBy, IsLookAt, IsLook};
 ghost use Rattle.first_overlaps.specs.Known.{AreSpansFor};
 
-use crate::hold::{Hold, hold_apart};
+use crate::hold::{Hold, hold_apart, hold_on};
 use crate::holder::{Holder, holders_of};
 use crate::meeting::Meeting;
 use crate::seen::{Seen, hold_of, seen_on};
@@ -109,11 +109,7 @@ impl KnownSpans {
             return;
         };
         for listing in listings_of(problem, op) {
-            let hold = Hold {
-                op,
-                span,
-                release: listing.release,
-            };
+            let hold = hold_on(op, span, listing);
             let holders = &self.holders[listing.resource as usize];
             part_on(&mut self.apart, &self.spans, holders, &hold);
         }
@@ -163,11 +159,7 @@ impl KnownSpans {
             apart: true,
         };
         for listing in listings_of(problem, op) {
-            let hold = Hold {
-                op,
-                span,
-                release: listing.release,
-            };
+            let hold = hold_on(op, span, listing);
             let holders = &self.holders[listing.resource as usize];
             seen = seen_on(graph, &hold, &self.spans, holders, seen);
         }
@@ -183,7 +175,7 @@ impl KnownSpans {
         ensures known { AreSpansFor problem.now self.new }
         ensures holders { self.new.holders ≡ self.old.holders }
         ensures spans { self.new.spans ≡ self.old.spans }
-        ensures found { IsFoundAt graph.now self.old.holders.items self.old.spans.items number
+        ensures found { IsLookAt graph.now self.old.holders.items self.old.spans.items number
             result }
     {
         if self.apart[number as usize] {
@@ -203,7 +195,7 @@ impl KnownSpans {
         requires known { AreSpansFor problem.now self.old }
         requires spans { AreSpanned graph.now self.old.spans.items }
         ensures known { AreSpansFor problem.now self.new }
-        ensures found { IsFound graph.now result }
+        ensures found { IsLook graph.now result }
     {
         let _paths = graph.paths();
         for number in 0..self.spans.len() as u32 {

@@ -16,4 +16,5 @@ mod seen;
 mod span;
 
 pub use known::{KnownSpans, Overlap};
+pub use meeting::is_below;
 pub use span::{Span, is_forced, span_of};

@@ -1,6 +1,6 @@
 ghost use Rattle.std.specs.Prelude.{◌↔◌, IsTrue};
 ghost use Rattle.disp_model.specs.Earliest.{IsBelow};
-ghost use Rattle.first_overlaps.specs.Holds.{IsEarlier};
+ghost use Rattle.first_overlaps.specs.Holds.{IsEarlierMeeting};
 
 use disp_model::Op;
 
@@ -15,7 +15,7 @@ pub(crate) struct Meeting {
 }
 
 /// Whether an operation comes before another, by train and number.
-fn is_below(one: Op, other: Op) -> bool
+pub fn is_below(one: Op, other: Op) -> bool
     ensures { IsTrue result ↔ IsBelow one other }
 {
     one.train < other.train || (one.train == other.train && one.op < other.op)
@@ -23,7 +23,7 @@ fn is_below(one: Op, other: Op) -> bool
 
 /// The meeting of an operation that may be known, or another of its, whichever comes first.
 pub(crate) fn first_of(known: Option<Meeting>, meeting: Meeting) -> Option<Meeting>
-    ensures { IsEarlier known meeting result }
+    ensures { IsEarlierMeeting known meeting result }
 {
     match known {
         Some(first) if is_below(first.b, meeting.b) => known,

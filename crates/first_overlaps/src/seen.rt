@@ -1,7 +1,7 @@
 ghost use Rattle.std.specs.Prelude.{◌≡◌, ◌<◌, false, Some, IfSome, All, Contains, ℕ, length};
 ghost use Rattle.first_overlaps.specs.declared.hold.Hold.{Hold as HoldOf};
 ghost use Rattle.first_overlaps.specs.declared.holder.Holder.{Holder as HolderOf};
-ghost use Rattle.first_overlaps.specs.Holds.{hold_by, IsHold, IsMeetingOf, IsEarlier, IsSeenLater, IsMet, AreMet};
+ghost use Rattle.first_overlaps.specs.Holds.{hold_by, IsHold, IsMeetingOf, IsEarlierMeeting, IsSeenLater, HoldMeets, HoldsMeet};
 
 use crate::hold::{Hold, do_overlap, hold_apart};
 use crate::holder::Holder;
@@ -34,7 +34,7 @@ pub(crate) fn hold_of(spans: &[Option<Span>], holder: &Holder) -> Option<Hold>
 
 /// What is seen with a meeting more.
 fn seen_meeting(hold: &Hold, other: &Hold, overlaps: bool, seen: Seen) -> Seen
-    ensures first { IsEarlier seen.first
+    ensures first { IsEarlierMeeting seen.first
         (record { a = hold.now.op; b = other.now.op; overlaps = overlaps }) result.first }
     ensures apart { result.apart ≡ false }
 {
@@ -57,7 +57,7 @@ fn seen_with(graph: &Graph, hold: &Hold, other: &Hold, seen: Seen) -> Seen
     ensures found { IfSome seen.first (IsMeetingOf graph.now hold.now.op)
         → IfSome result.first (IsMeetingOf graph.now hold.now.op) }
     ensures later { IsSeenLater seen result }
-    ensures met { IsMet graph.now hold.now other.now result }
+    ensures met { HoldMeets graph.now hold.now other.now result }
 {
     if hold_apart(hold, other) {
         return seen;
@@ -90,7 +90,7 @@ fn seen_beside(
         → IfSome result.first (IsMeetingOf graph.now hold.now.op) }
     ensures later { IsSeenLater seen result }
     ensures met { (other : HoldOf) → hold.now.op.train < holder.now.op.train
-        → hold_by spans.now holder.now ≡ Some other → IsMet graph.now hold.now other result }
+        → hold_by spans.now holder.now ≡ Some other → HoldMeets graph.now hold.now other result }
 {
     if holder.op.train <= hold.op.train {
         return seen;
@@ -116,7 +116,7 @@ pub(crate) fn seen_on(
     ensures found { IfSome known.first (IsMeetingOf graph.now hold.now.op)
         → IfSome result.first (IsMeetingOf graph.now hold.now.op) }
     ensures later { IsSeenLater known result }
-    ensures met { AreMet graph.now hold.now spans.now holders.now result }
+    ensures met { HoldsMeet graph.now hold.now spans.now holders.now result }
 {
     let mut seen = known;
     for holder in holders {

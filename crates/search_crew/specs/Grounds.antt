@@ -6,7 +6,7 @@ use Rattle.disp_model.specs.Node.{node_at}
 use Rattle.event_graph.specs.Joined.{IsOfEdition}
 use Rattle.node_leaves.specs.Shown.{IsDeadLeaf}
 use Rattle.open_nodes.specs.States.{IsBoundBelow}
-use Rattle.search_workers.specs.Explorers.{IsReady}
+use Rattle.search_workers.specs.Explorers.{IsExplorerOf}
 use Rattle.search_crew.specs.declared.ground.Ground.{Ground}
 use Rattle.search_crew.specs.declared.ground.Ground.TheVariants as ground
 
@@ -15,7 +15,7 @@ use Rattle.search_crew.specs.declared.ground.Ground.TheVariants as ground
 abbrev pub IsGround : Problem → List Fixing → Ground → Type 0
 IsGround problem fixings (ground.Alive explorer) =
     (explorer.graph.problem ≡ problem) × (explorer.graph.fixings ≡ fixings)
-    × IsOfEdition explorer.graph × IsReady problem explorer
+    × IsOfEdition explorer.graph × IsExplorerOf problem explorer
 IsGround problem fixings (ground.Dead leaf) = IsDeadLeaf (node_at problem fixings []) leaf
 
 -- what is below the first is below the second

@@ -3,7 +3,7 @@ ghost use Rattle.disp_model.specs.Node.{node_at};
 ghost use Rattle.event_graph.specs.Joined.{IsOfEdition};
 ghost use Rattle.near_plans.specs.Plans.{IsBeside, IsPlanAt};
 ghost use Rattle.node_leaves.specs.Reckoned.{ReckonsFor};
-ghost use Rattle.search_workers.specs.Explorers.{IsReady};
+ghost use Rattle.search_workers.specs.Explorers.{IsExplorerOf};
 ghost use Rattle.search_workers.specs.Grown.{IsGrownOf};
 
 use crate::growth::{Growth, grow};
@@ -44,7 +44,7 @@ impl<'p> Explorer<'p> {
     ) -> Result<Explorer<'p>, Memory>
         requires problem { graph.problem ≡ problem.now }
         ensures graph { IfOk result (λ explorer. explorer.graph ≡ graph.entry) }
-        ensures ready { IfOk result (IsReady problem.now) }
+        ensures ready { IfOk result (IsExplorerOf problem.now) }
     {
         let scout = Scout::new(alloc, problem, fixings, lookout, order)?;
         let known = KnownShares::new(alloc, problem)?;
@@ -64,9 +64,9 @@ impl<'p> Explorer<'p> {
     pub fn look_on(&mut self, alloc: Global, problem: &Problem) -> Result<Option<Plan>, Memory>
         requires problem { self.old.graph.problem ≡ problem.now }
         requires edition { IsOfEdition self.old.graph }
-        requires ready { IsReady problem.now self.old }
+        requires ready { IsExplorerOf problem.now self.old }
         ensures beside { IsBeside self.old.graph self.new.graph }
-        ensures ready { IsReady problem.now self.new }
+        ensures ready { IsExplorerOf problem.now self.new }
         ensures plan { IfOk result (λ plan. IfSome plan (IsPlanAt self.old.graph)) }
     {
         let Some(Look { draws, nodes }) = self.scout.lookout.next() else {
@@ -98,8 +98,8 @@ impl<'p> Explorer<'p> {
         requires problem { self.old.graph.problem ≡ problem.now }
         requires edition { IsOfEdition self.old.graph }
         requires reckons { ReckonsFor problem.now reckoning.now }
-        requires ready { IsReady problem.now self.old }
-        ensures ready { IsReady problem.now self.new }
+        requires ready { IsExplorerOf problem.now self.old }
+        ensures ready { IsExplorerOf problem.now self.new }
         ensures beside { IsBeside self.old.graph self.new.graph }
         ensures grown { IfOk result (IsGrownOf reckoning.now.rule
             (node_at self.old.graph.problem self.old.graph.fixings work.now.decisions) best

@@ -5,7 +5,7 @@ ghost use Rattle.disp_model.specs.Node.{node_at};
 ghost use Rattle.node_leaves.specs.Reckoned.{ReckonsFor};
 ghost use Rattle.node_leaves.specs.Shown.{IsDeadLeaf};
 ghost use Rattle.search_workers.specs.declared.growth.Growth.TheVariants.{Subtree};
-ghost use Rattle.search_workers.specs.Explorers.{IsReady};
+ghost use Rattle.search_workers.specs.Explorers.{IsExplorerOf};
 ghost use Rattle.search_workers.specs.Searched.{CoreGoesOn, IsClosed, IsOfNewest};
 
 use crate::effort::{Effort, FOR_PLAN};
@@ -37,8 +37,8 @@ fn look_on(
 ) -> Result<(), Memory>
     requires problem { core.old.problem ≡ problem.now }
     requires newest { IsOfNewest core.old explorer.old.graph }
-    requires ready { IsReady problem.now explorer.old }
-    ensures ready { IsReady problem.now explorer.new }
+    requires ready { IsExplorerOf problem.now explorer.old }
+    ensures ready { IsExplorerOf problem.now explorer.new }
     ensures on { CoreGoesOn core.old core.new }
     ensures newest { IsOfNewest core.new explorer.new.graph }
 {
@@ -59,8 +59,8 @@ fn grow_next(
     requires reckons { ReckonsFor problem.now reckoning.now }
     requires rule { core.old.settings.rule ≡ reckoning.now.rule }
     requires newest { IsOfNewest core.old explorer.old.graph }
-    requires ready { IsReady problem.now explorer.old }
-    ensures ready { IsReady problem.now explorer.new }
+    requires ready { IsExplorerOf problem.now explorer.old }
+    ensures ready { IsExplorerOf problem.now explorer.new }
     ensures on { CoreGoesOn core.old core.new }
     ensures newest { IsOfNewest core.new explorer.new.graph }
     ensures closed { IfOk result (λ closed. closed ≡ true → IsClosed core.new) }
@@ -92,8 +92,8 @@ fn round(
     requires reckons { ReckonsFor problem.now reckoning.now }
     requires rule { core.old.settings.rule ≡ reckoning.now.rule }
     requires newest { IsOfNewest core.old explorer.old.graph }
-    requires ready { IsReady problem.now explorer.old }
-    ensures ready { IsReady problem.now explorer.new }
+    requires ready { IsExplorerOf problem.now explorer.old }
+    ensures ready { IsExplorerOf problem.now explorer.new }
     ensures on { CoreGoesOn core.old core.new }
     ensures newest { IsOfNewest core.new explorer.new.graph }
     ensures closed { IfOk result (λ closed. closed ≡ true → IsClosed core.new) }
@@ -133,7 +133,7 @@ fn rounds(
     requires reckons { ReckonsFor problem.now reckoning.now }
     requires rule { core.old.settings.rule ≡ reckoning.now.rule }
     requires newest { IsOfNewest core.old explorer.old.graph }
-    requires ready { IsReady problem.now explorer.old }
+    requires ready { IsExplorerOf problem.now explorer.old }
     ensures on { CoreGoesOn core.old core.new }
     ensures closed { OnOk result (IsClosed core.new) }
 {

@@ -1,7 +1,7 @@
 use Rattle.std.proofs.Common.{List, take, get_or, sym, subst, arith}
 use Rattle.std.proofs.lemmas.List.{take_more, take_all, get_or_default}
 use Rattle.first_overlaps.specs.declared.holder.Holder.{Holder}
-use Rattle.first_overlaps.specs.Holds.{AreMet}
+use Rattle.first_overlaps.specs.Holds.{HoldsMeet}
 use Rattle.first_overlaps.proofs.Seeing.{same_seen, seen_then, met_none, met_more}
 use Rattle.first_overlaps.proofs.seen.seen_on.Goals as goal
 
@@ -24,10 +24,10 @@ loop-holder-preserved c =
     record {
       found = λ found. c.seen_beside-seen.ensures.found (c.loop-holder.invariant.found found);
       later = seen_then c.args.known c.loop-holder.seen c.seen_beside-seen.result c.loop-holder.invariant.later c.seen_beside-seen.ensures.later;
-      met = subst (λ (xs : List Holder). AreMet c.args.graph.now c.args.hold.now c.args.spans.now xs c.seen_beside-seen.result) (sym (take_more hs i no_holder c.loop-holder-test.true))
+      met = subst (λ (xs : List Holder). HoldsMeet c.args.graph.now c.args.hold.now c.args.spans.now xs c.seen_beside-seen.result) (sym (take_more hs i no_holder c.loop-holder-test.true))
           (met_more c.args.graph.now c.args.hold.now c.args.spans.now (take i hs) (get_or hs i no_holder) c.loop-holder.seen c.seen_beside-seen.result c.seen_beside-seen.ensures.later c.loop-holder.invariant.met c.seen_beside-seen.ensures.met);
     }
 
 pub returns-clause-met : goal.returns-clause-met
 returns-clause-met c =
-    subst (λ (xs : List Holder). AreMet c.args.graph.now c.args.hold.now c.args.spans.now xs c.loop-holder.seen) (take_all c.loop-holder.holder-index c.args.holders.now (omega (arith, c.loop-holder-test.false))) c.loop-holder.invariant.met
+    subst (λ (xs : List Holder). HoldsMeet c.args.graph.now c.args.hold.now c.args.spans.now xs c.loop-holder.seen) (take_all c.loop-holder.holder-index c.args.holders.now (omega (arith, c.loop-holder-test.false))) c.loop-holder.invariant.met

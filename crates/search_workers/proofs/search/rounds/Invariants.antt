@@ -1,5 +1,5 @@
 use Rattle.std.proofs.Common.{◌≡◌}
-use Rattle.search_workers.specs.Explorers.{IsReady}
+use Rattle.search_workers.specs.Explorers.{IsExplorerOf}
 use Rattle.search_workers.specs.Searched.{CoreGoesOn, IsOfNewest}
 use Rattle.search_workers.proofs.search.rounds.Given as goal
 
@@ -9,5 +9,5 @@ invariant-loop l = record {
   newest : IsOfNewest l.core l.explorer.graph;
   problem : l.core.problem ≡ l.problem;
   rule : l.core.settings.rule ≡ l.reckoning.rule;
-  ready : IsReady l.problem l.explorer;
+  ready : IsExplorerOf l.problem l.explorer;
 }

@@ -7,20 +7,20 @@ use Rattle.first_overlaps.specs.declared.span.Span.{Span}
 use Rattle.first_overlaps.specs.declared.holder.Holder.{Holder}
 use Rattle.first_overlaps.specs.declared.meeting.Meeting.{Meeting}
 use Rattle.first_overlaps.specs.Holders.{AreHoldersOf}
-use Rattle.first_overlaps.specs.Holds.{IsFoundAt}
+use Rattle.first_overlaps.specs.Holds.{IsLookAt}
 use Rattle.first_overlaps.proofs.Finding.{settled_more, all_passed}
 use Rattle.first_overlaps.proofs.known.KnownSpans.look.Goals as goal
 use Rattle.first_overlaps.proofs.known.KnownSpans.look.Goals.{After-look_at}
 
-found_there : (c : After-look_at) → IsFoundAt c.args.graph.now c.args.self.now.holders.items c.args.self.now.spans.items c.loop-number.number c.look_at.result
+found_there : (c : After-look_at) → IsLookAt c.args.graph.now c.args.self.now.holders.items c.args.self.now.spans.items c.loop-number.number c.look_at.result
 found_there c =
-    subst (λ (hs : Vec (Vec Holder)). IsFoundAt c.args.graph.now hs.items c.args.self.now.spans.items c.loop-number.number c.look_at.result) c.loop-number.invariant.holders
-    (subst (λ (ss : Vec (Option Span)). IsFoundAt c.args.graph.now c.loop-number.self.holders.items ss.items c.loop-number.number c.look_at.result) c.loop-number.invariant.spans c.look_at.ensures.found)
+    subst (λ (hs : Vec (Vec Holder)). IsLookAt c.args.graph.now hs.items c.args.self.now.spans.items c.loop-number.number c.look_at.result) c.loop-number.invariant.holders
+    (subst (λ (ss : Vec (Option Span)). IsLookAt c.args.graph.now c.loop-number.self.holders.items ss.items c.loop-number.number c.look_at.result) c.loop-number.invariant.spans c.look_at.ensures.found)
 
 pub returns-in-Some-clause-found : goal.returns-in-Some-clause-found
 returns-in-Some-clause-found c =
     let node = c.args.graph.now in
-    let is = subst (λ (found : Option Meeting). IsFoundAt node c.args.self.now.holders.items c.args.self.now.spans.items c.loop-number.number found) c.in-Some.is (found_there ((goal.at.returns-in-Some-clause-found c).After-look_at)) in
+    let is = subst (λ (found : Option Meeting). IsLookAt node c.args.self.now.holders.items c.args.self.now.spans.items c.loop-number.number found) c.in-Some.is (found_there ((goal.at.returns-in-Some-clause-found c).After-look_at)) in
     is c.loop-number.invariant.settled
 
 pub loop-number-preserved : goal.loop-number-preserved

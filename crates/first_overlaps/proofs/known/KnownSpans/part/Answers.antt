@@ -8,7 +8,7 @@ use Rattle.disp_model.specs.Arcs.{listings_of}
 use Rattle.first_overlaps.specs.declared.span.Span.{Span}
 use Rattle.first_overlaps.specs.declared.hold.Hold.{Hold}
 use Rattle.first_overlaps.specs.declared.holder.Holder.{Holder}
-use Rattle.first_overlaps.specs.Holds.{AreParted, AreAllParted}
+use Rattle.first_overlaps.specs.Holds.{hold_on, AreParted, AreAllParted}
 use Rattle.first_overlaps.proofs.Holding.{resource_within, numbers_within, list_at}
 use Rattle.first_overlaps.proofs.Knowing.{none_more, fewer_then, all_none, all_more}
 use Rattle.first_overlaps.proofs.known.KnownSpans.part.Goals as goal
@@ -57,10 +57,11 @@ loop-listing-preserved c =
     let l = get_or ls i no_listing in
     let spans = c.args.self.now.spans.items in
     let same : c.deref.result.now ≡ spans = c.deref.ensures.value ∙ ap (λ (v : Vec (Option Span)). v.items) c.loop-listing.invariant.spans in
-    let hold : Hold = record { op = c.args.op; span = c.in-Some.span; release = l.release } in
+    let hold : Hold = hold_on c.args.op c.in-Some.span l in
+    let parted = subst (λ (h : Hold). AreParted c.deref-in-loop-listing.result.now c.deref.result.now h c.part_on.new.apart.items) c.hold_on-hold.ensures c.part_on.ensures.parted in
     let own : AreParted c.index-holders.result.now.items spans hold c.part_on.new.apart.items =
     subst (λ (hs : List Holder). AreParted hs spans hold c.part_on.new.apart.items) c.deref-in-loop-listing.ensures.value
-    (subst (λ (ss : List (Option Span)). AreParted c.deref-in-loop-listing.result.now ss hold c.part_on.new.apart.items) same c.part_on.ensures.parted) in
+    (subst (λ (ss : List (Option Span)). AreParted c.deref-in-loop-listing.result.now ss hold c.part_on.new.apart.items) same parted) in
     record {
       holders = c.loop-listing.invariant.holders;
       spans = c.loop-listing.invariant.spans;

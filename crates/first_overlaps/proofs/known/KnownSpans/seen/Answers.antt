@@ -1,5 +1,5 @@
 use Rattle.std.proofs.Common.{◌≡◌, ◌∙◌, ◌<◌, List, Option, Some, length, take, get_or, refl, sym, ap, subst, arith}
-use Rattle.std.specs.Prelude.{All, Contains, slice_get}
+use Rattle.std.specs.Prelude.{All, Contains, IfSome, slice_get}
 use Rattle.std.proofs.lemmas.List.{take_more, take_all}
 use Rattle.disp_model.specs.declared.train.Listing.{Listing}
 use Rattle.disp_model.specs.declared.problem.Problem.{Problem}
@@ -8,7 +8,7 @@ use Rattle.first_overlaps.specs.declared.span.Span.{Span}
 use Rattle.first_overlaps.specs.declared.hold.Hold.{Hold}
 use Rattle.first_overlaps.specs.declared.holder.Holder.{Holder}
 use Rattle.first_overlaps.specs.Holders.{AreHoldersOf}
-use Rattle.first_overlaps.specs.Holds.{hold_by, AreMet, IsSeenBy}
+use Rattle.first_overlaps.specs.Holds.{hold_by, hold_on, IsHold, IsMeetingOf, HoldsMeet, IsSeenBy}
 use Rattle.first_overlaps.proofs.Holding.{resource_within, listed_at, numbers_within, list_at}
 use Rattle.first_overlaps.proofs.Seeing.{hold_is, by_none, by_more}
 use Rattle.first_overlaps.proofs.known.KnownSpans.seen.Goals as goal
@@ -48,7 +48,8 @@ seen_on-seen-requires-clause-hold c =
     let holders = subst (λ (p : Problem). AreHoldersOf p c.args.self.now.holders.items) (sym c.requires.problem) c.requires.known.holders in
     let at = at_place ((goal.at.seen_on-seen-requires-clause-hold c).After-index-holders) in (
       l.resource,
-      record { span = c.requires.span; lists = (l, subst (λ (p : Problem). Contains (listings_of p c.args.op) l) (sym c.requires.problem) there, refl, refl) },
+      subst (IsHold node l.resource) (sym c.hold_on-hold.ensures)
+          (record { span = c.requires.span; lists = (l, subst (λ (p : Problem). Contains (listings_of p c.args.op) l) (sym c.requires.problem) there, refl, refl) }),
       λ y other among holds. hold_is node c.args.self.now.holders.items c.args.self.now.spans.items l.resource c.index-holders.result.now y other holders.sound c.requires.spans at
           (subst (λ (hs : List Holder). Contains hs y) c.deref-in-loop-listing.ensures.value among) (subst (λ (ss : List (Option Span)). hold_by ss y ≡ Some other) c.deref.ensures.value holds),
     )
@@ -64,12 +65,15 @@ loop-listing-preserved c =
     let l = get_or ls i no_listing in
     let holders = c.args.self.now.holders.items in
     let spans = c.args.self.now.spans.items in
-    let hold : Hold = record { op = c.args.op; span = c.args.span; release = l.release } in
-    let own : AreMet node hold spans c.index-holders.result.now.items c.seen_on-seen.result =
-    subst (λ (hs : List Holder). AreMet node hold spans hs c.seen_on-seen.result) c.deref-in-loop-listing.ensures.value
-    (subst (λ (ss : List (Option Span)). AreMet node hold ss c.deref-in-loop-listing.result.now c.seen_on-seen.result) c.deref.ensures.value c.seen_on-seen.ensures.met) in
-    subst (λ (xs : List Listing). IsSeenBy node holders spans c.args.op c.args.span xs c.seen_on-seen.result) (sym (take_more ls i no_listing c.loop-listing-test.true))
-    (by_more node holders spans c.args.op c.args.span (take i ls) l c.index-holders.result.now c.loop-listing.seen c.seen_on-seen.result c.seen_on-seen.ensures.later (c.seen_on-seen.ensures.found c.loop-listing.invariant.found)
+    let seen = c.seen_on-seen.result in
+    let hold : Hold = hold_on c.args.op c.args.span l in
+    let met = subst (λ (h : Hold). HoldsMeet node h c.deref.result.now c.deref-in-loop-listing.result.now seen) c.hold_on-hold.ensures c.seen_on-seen.ensures.met in
+    let own : HoldsMeet node hold spans c.index-holders.result.now.items seen =
+    subst (λ (hs : List Holder). HoldsMeet node hold spans hs seen) c.deref-in-loop-listing.ensures.value
+    (subst (λ (ss : List (Option Span)). HoldsMeet node hold ss c.deref-in-loop-listing.result.now seen) c.deref.ensures.value met) in
+    let found = subst (λ (h : Hold). IfSome c.loop-listing.seen.first (IsMeetingOf node h.op) → IfSome seen.first (IsMeetingOf node h.op)) c.hold_on-hold.ensures c.seen_on-seen.ensures.found in
+    subst (λ (xs : List Listing). IsSeenBy node holders spans c.args.op c.args.span xs seen) (sym (take_more ls i no_listing c.loop-listing-test.true))
+    (by_more node holders spans c.args.op c.args.span (take i ls) l c.index-holders.result.now c.loop-listing.seen seen c.seen_on-seen.ensures.later (found c.loop-listing.invariant.found)
     (at_place ((goal.at.loop-listing-preserved c).After-index-holders)) own c.loop-listing.invariant)
 
 pub returns : goal.returns
