@@ -7,11 +7,9 @@
 set -eu
 trains=${1:-32768}
 . "$(dirname "$0")/scratch.sh"
-open_scratch editions_bench 'plain_values:
-disp_model: plain_values
-disp_laws: disp_model
-fixing_editions: disp_model disp_laws
-editions_bench: disp_model fixing_editions' plain_values disp_model disp_laws fixing_editions
+below='plain_values disp_model disp_laws train_orders route_marks route_sets fixing_editions'
+open_scratch editions_bench "$(lines_of $below)
+editions_bench: disp_model fixing_editions" $below
 mkdir -p proofs/problem_of
 cat > src/main.rt <<PROGRAM
 //! Times the asking of changes.

@@ -198,8 +198,8 @@ fn search_from(
 ///
 /// # Errors
 ///
-/// `Memory` where memory runs out; the core is sound then too. (It is also the answer after 2^64
-/// rounds, which are never reached.)
+/// `Memory` where memory runs out; the core is sound then too. (It is also the answer after
+/// 2^64 - 1 rounds, which are never reached.)
 pub fn search_alone(
     alloc: Global,
     problem: &Problem,
