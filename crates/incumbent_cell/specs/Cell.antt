@@ -10,5 +10,5 @@ cell_of c = c.table.shared.table_id
 abbrev pub own_cell : CellPass → TableId
 own_cell p = p.seat.table_id
 
-abbrev pub known : CellPass → Known
-known p = p.seat.me.0
+abbrev pub knowledge_of : CellPass → Known
+knowledge_of p = p.seat.me.0

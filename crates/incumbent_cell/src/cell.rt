@@ -65,12 +65,12 @@ impl<A: Allocator> Least<A> {
     ghost use Rattle.std.specs.Prelude.{◌≡◌, ℕ, ◌≤◌, IfOk};
     ghost use Rattle.incumbent_cell.specs.Code.{packed, edition_in, code_cost};
     ghost use Rattle.incumbent_cell.specs.Knowledge.{knows_nothing, with_put, with_found_code, halved, joined_known, Stands};
-    ghost use Rattle.incumbent_cell.specs.Cell.{cell_of, own_cell, known};
+    ghost use Rattle.incumbent_cell.specs.Cell.{cell_of, own_cell, knowledge_of};
 
     /// A cell with nothing put, and its first pass.
     pub fn new(alloc: A) -> Result<(Least<A>, CellPass), Memory>
         ensures { IfOk result (λ made. (own_cell made.1 ≡ cell_of made.0)
-            × (known made.1 ≡ knows_nothing)) }
+            × (knowledge_of made.1 ≡ knows_nothing)) }
     {
         let (table, seat) = Table::of_words(alloc, &[OPENING], &())?;
         Ok((Least { table }, CellPass { seat }))
@@ -81,8 +81,8 @@ impl<A: Allocator> Least<A> {
         requires { own_cell pass.old ≡ cell_of self.now }
         ensures cell { (own_cell pass.new ≡ own_cell pass.old)
             × (own_cell result ≡ own_cell pass.old) }
-        ensures known { (known pass.new ≡ halved (known pass.old))
-            × (known result ≡ halved (known pass.old)) }
+        ensures known { (knowledge_of pass.new ≡ halved (knowledge_of pass.old))
+            × (knowledge_of result ≡ halved (knowledge_of pass.old)) }
     {
         let seat = self.table.shared.split_seat::<Halves>(&mut pass.seat);
         CellPass { seat }
@@ -93,7 +93,8 @@ impl<A: Allocator> Least<A> {
         requires cell { own_cell pass.old ≡ cell_of self.now }
         requires other_cell { own_cell other ≡ cell_of self.now }
         ensures cell { own_cell pass.new ≡ own_cell pass.old }
-        ensures known { known pass.new ≡ joined_known (known pass.old) (known other) }
+        ensures known { knowledge_of pass.new
+            ≡ joined_known (knowledge_of pass.old) (knowledge_of other) }
     {
         let CellPass { seat } = other;
         self.table.shared.join_seat::<Both>(&mut pass.seat, seat);
@@ -104,7 +105,8 @@ impl<A: Allocator> Least<A> {
         requires cell { own_cell pass.old ≡ cell_of self.now }
         requires edition { edition ≤ NEWEST }
         ensures cell { own_cell pass.new ≡ own_cell pass.old }
-        ensures known { known pass.new ≡ with_put (known pass.old) (packed edition cost) }
+        ensures known { knowledge_of pass.new
+            ≡ with_put (knowledge_of pass.old) (packed edition cost) }
     {
         let code = code_of(edition, cost);
         self.table.shared.fetch_min::<Put>(&mut pass.seat, 0, code);
@@ -116,8 +118,8 @@ impl<A: Allocator> Least<A> {
         requires { own_cell pass.old ≡ cell_of self.now }
         ensures cell { own_cell pass.new ≡ own_cell pass.old }
         ensures found { (code : ℕ) × (result ≡ (edition_in code, code_cost code))
-            × (known pass.new ≡ with_found_code (known pass.old) code)
-            × Stands (known pass.old) code }
+            × (knowledge_of pass.new ≡ with_found_code (knowledge_of pass.old) code)
+            × Stands (knowledge_of pass.old) code }
     {
         let found = self.table.shared.load::<Find>(&mut pass.seat, 0);
         answer_of(found)
@@ -128,7 +130,7 @@ impl<A: Allocator> Least<A> {
     pub fn close(self, pass: CellPass) -> (u32, Option<u64>)
         requires { own_cell pass ≡ cell_of self }
         ensures { (code : ℕ) × (result ≡ (edition_in code, code_cost code))
-            × Stands (known pass) code }
+            × Stands (knowledge_of pass) code }
     {
         let Least { table } = self;
         let CellPass { seat } = pass;
