@@ -1,5 +1,5 @@
 -- What a searcher may hand in.
-use Rattle.std.proofs.Common.{◌≡◌, ◌∙◌, ℕ, ◌≤◌, List, [], ◌∷◌, ◌++◌, map, Option, refl, sym, subst, arith}
+use Rattle.std.proofs.Common.{◌≡◌, ◌∙◌, ℕ, ◌≤◌, List, [], ◌∷◌, ◌++◌, map, Option, Some, refl, sym, subst, arith}
 use Rattle.std.specs.Prelude.{All}
 use Rattle.disp_model.specs.declared.decision.Choice.{Choice}
 use Rattle.disp_model.specs.declared.fixing.Fixing.{Fixing}
@@ -14,7 +14,7 @@ use Rattle.disp_model.specs.Node.{Node, node_at, with_decision}
 use Rattle.disp_model.specs.Trees.{children_of}
 use Rattle.disp_model.specs.Valid.{IsValid}
 use Rattle.open_nodes.specs.declared.work.Work.{Work}
-use Rattle.tree_growth.specs.Grown.{Helps, GrowsBelow, branches}
+use Rattle.tree_growth.specs.Grown.{Helps, GrowsBelow}
 use Rattle.dispatch_core.specs.States.{IsExamined}
 use Rattle.shared_board.specs.declared.board.Board.{Board}
 use Rattle.shared_board.specs.declared.pass.Pass.{Pass}
@@ -23,11 +23,10 @@ use Rattle.shared_board.specs.Calls.{IsGrowthOf, IsExaminedFor, IsPlanFor}
 use Rattle.shared_board.specs.Onward.{PassGoesOn}
 use Rattle.shared_board.proofs.Onward.{newest_up}
 use Rattle.shared_board.proofs.Owing.{fixings_on}
-use Rattle.search_workers.specs.declared.growth.Growth.{Growth}
 use Rattle.search_workers.specs.declared.growth.Growth.TheVariants as growth
 use Rattle.near_plans.specs.Plans.{IsPlanAt}
-use Rattle.search_workers.specs.Grown.{IsGrownOf}
-use Rattle.search_crew.specs.Grounds.{IsBestNoMore}
+use Rattle.search_workers.proofs.Growths.{plan_of}
+use Rattle.search_crew.specs.Grounds.{IsBestNoMore, IsGrownFor}
 use Rattle.search_crew.specs.Working.{IsAtWork}
 
 -- ---- what grew below a lesser cost grew below a greater
@@ -36,7 +35,7 @@ module _ (best other : Option ℕ) (less : IsBestNoMore best other) (rule : Rule
   helps_more : (node : Node) (choice : Choice) → Helps rule best node choice → Helps rule other node choice
   helps_more node choice is = record { alive = is.alive; picked = is.picked; bound = is.bound; bound_is = is.bound_is; below = less is.bound is.below }
 
-  grows_more : (places : List Node) (tree : List TreeNode) (bounds : List ℕ) → GrowsBelow rule best places tree bounds → GrowsBelow rule other places tree bounds
+  pub grows_more : (places : List Node) (tree : List TreeNode) (bounds : List ℕ) → GrowsBelow rule best places tree bounds → GrowsBelow rule other places tree bounds
   grows_more [] [] [] is = tt
   grows_more [] [] (bound ∷ bounds) is = absurd is
   grows_more [] (top ∷ tree) bounds is = absurd is
@@ -45,10 +44,6 @@ module _ (best other : Option ℕ) (less : IsBestNoMore best other) (rule : Rule
   grows_more (node ∷ places) (Leaf leaf ∷ tree) (bound ∷ bounds) (keeps, rest) = (keeps, grows_more places tree bounds rest)
   grows_more (node ∷ places) (Branch choice children ∷ tree) bounds (helps, count, rest) =
       (helps_more node choice helps, count, grows_more (map (with_decision node) (children_of node.problem choice) ++ places) tree bounds rest)
-
-  pub grown_more : (node : Node) (allowance bound : ℕ) (grown : Growth) → IsGrownOf rule node best allowance bound grown → IsGrownOf rule node other allowance bound grown
-  grown_more node allowance bound (growth.Subtree nodes bounds plan) (grows, few, planned) = (grows_more (node ∷ []) nodes bounds grows, few, planned)
-  grown_more node allowance bound growth.Examined is = is
 
 -- ---- what the board asks
 
@@ -79,25 +74,28 @@ module _ (board : Board) (rule : Rule) (pass : Pass) (work : Work) (at : IsAtWor
   abbrev pub node : Node
   node = node_at (problem_of board) (fixings_after work.edition (known pass).seen) work.decisions
 
-  pub growth_of : (nodes : List TreeNode) (bounds : List ℕ) → GrowsBelow rule work.best (node ∷ []) nodes bounds → branches nodes ≤ work.allowance
+  pub growth_of : (nodes : List TreeNode) (bounds : List ℕ) (plan : Option (List Event)) → IsGrownFor rule node work (growth.Subtree nodes bounds plan)
       → IsGrowthOf (known pass) (record { work = work; subtree = nodes; bounds = bounds })
-  growth_of nodes bounds grows few = record {
+  growth_of nodes bounds plan (best, less, grown) = record {
     terms = at.searcher.terms;
     terms_are = at.searcher.terms_are;
     edition = at.edition_is;
     grows = subst (λ (r : Rule). GrowsBelow r work.best (node_at at.searcher.terms.problem (fixings_after work.edition (known pass).seen) work.decisions ∷ []) nodes bounds) (sym at.rule_is)
-        (subst (λ (p : Problem). GrowsBelow rule work.best (node_at p (fixings_after work.edition (known pass).seen) work.decisions ∷ []) nodes bounds) (sym at.problem) grows);
-    few = few;
+        (subst (λ (p : Problem). GrowsBelow rule work.best (node_at p (fixings_after work.edition (known pass).seen) work.decisions ∷ []) nodes bounds) (sym at.problem)
+        (grows_more best work.best less rule (node ∷ []) nodes bounds grown.0));
+    few = grown.1;
   }
 
-  pub examined_of : IsExamined rule node work.bound → IsExaminedFor (known pass) work
-  examined_of is = record {
+  pub examined_of : IsGrownFor rule node work growth.Examined → IsExaminedFor (known pass) work
+  examined_of (best, less, grown) = record {
     terms = at.searcher.terms;
     terms_are = at.searcher.terms_are;
     edition = at.edition_is;
     examined = subst (λ (r : Rule). IsExamined r (node_at at.searcher.terms.problem (fixings_after work.edition (known pass).seen) work.decisions) work.bound) (sym at.rule_is)
-        (subst (λ (p : Problem). IsExamined rule (node_at p (fixings_after work.edition (known pass).seen) work.decisions) work.bound) (sym at.problem) is);
+        (subst (λ (p : Problem). IsExamined rule (node_at p (fixings_after work.edition (known pass).seen) work.decisions) work.bound) (sym at.problem) grown.1);
   }
 
-  pub plan_of : (plan : List Event) → IsPlanAt node plan → IsPlanFor (known pass) work.edition plan
-  plan_of plan is = plan_at board rule work.edition pass at node refl plan is
+  pub plan_with : (nodes : List TreeNode) (bounds : List ℕ) (plan : Option (List Event)) → IsGrownFor rule node work (growth.Subtree nodes bounds plan)
+      → (found : List Event) → plan ≡ Some found → IsPlanFor (known pass) work.edition found
+  plan_with nodes bounds plan (best, less, grown) found same =
+      plan_at board rule work.edition pass at node refl found (plan_of rule node best work.allowance work.bound nodes bounds plan grown.2 found same)

@@ -1,5 +1,5 @@
 -- What one call after the other leaves of a searcher's pass.
-use Rattle.std.proofs.Common.{◌≡◌, ◌∙◌, ℕ, ◌≤◌, refl, arith}
+use Rattle.std.proofs.Common.{◌≡◌, ◌∙◌, ℕ, refl, arith}
 use Rattle.std.specs.Prelude.{Result, Ok, Err, IfOk, OnErr}
 use Rattle.disp_model.specs.declared.settings.Rule.{Rule}
 use Rattle.dispatch_core.specs.declared.event.CoreEvent.{CoreEvent}

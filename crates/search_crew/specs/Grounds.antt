@@ -2,11 +2,15 @@
 use Rattle.std.specs.Prelude.{◌≡◌, ℕ, List, [], Option}
 use Rattle.disp_model.specs.declared.fixing.Fixing.{Fixing}
 use Rattle.disp_model.specs.declared.problem.Problem.{Problem}
-use Rattle.disp_model.specs.Node.{node_at}
+use Rattle.disp_model.specs.declared.settings.Rule.{Rule}
+use Rattle.disp_model.specs.Node.{Node, node_at}
 use Rattle.event_graph.specs.Joined.{IsOfEdition}
 use Rattle.node_leaves.specs.Shown.{IsDeadLeaf}
+use Rattle.open_nodes.specs.declared.work.Work.{Work}
 use Rattle.open_nodes.specs.States.{IsBoundBelow}
+use Rattle.search_workers.specs.declared.growth.Growth.{Growth}
 use Rattle.search_workers.specs.Explorers.{IsExplorerOf}
+use Rattle.search_workers.specs.Grown.{IsGrownOf}
 use Rattle.search_crew.specs.declared.ground.Ground.{Ground}
 use Rattle.search_crew.specs.declared.ground.Ground.TheVariants as ground
 
@@ -21,3 +25,8 @@ IsGround problem fixings (ground.Dead leaf) = IsDeadLeaf (node_at problem fixing
 -- what is below the first is below the second
 abbrev pub IsBestNoMore : Option ℕ → Option ℕ → Type 0
 IsBestNoMore best other = (bound : ℕ) → IsBoundBelow bound best → IsBoundBelow bound other
+
+-- what a work came to, below a best that is no more than the work's
+abbrev pub IsGrownFor : Rule → Node → Work → Growth → Type 0
+IsGrownFor rule node work grown = (best : Option ℕ) × IsBestNoMore best work.best
+    × IsGrownOf rule node best work.allowance work.bound grown

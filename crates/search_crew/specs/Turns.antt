@@ -1,5 +1,5 @@
 -- What there is for a searcher to do.
-use Rattle.std.specs.Prelude.{◌≡◌, ℕ, List}
+use Rattle.std.specs.Prelude.{ℕ, List}
 use Rattle.disp_model.specs.declared.entry.Entry.{Entry}
 use Rattle.search_crew.specs.declared.turn.Turn.{Turn}
 use Rattle.search_crew.specs.declared.turn.Turn.TheVariants as turn

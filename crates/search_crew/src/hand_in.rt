@@ -5,8 +5,8 @@ ghost use Rattle.disp_model.specs.History.{fixings_after};
 ghost use Rattle.disp_model.specs.Node.{node_at};
 ghost use Rattle.shared_board.specs.Board.{board_of, problem_of, own_board, known};
 ghost use Rattle.shared_board.specs.Calls.{IsExaminedFor, IsGrowthOf, IsPlanFor, IsSearcher};
-ghost use Rattle.search_workers.specs.Grown.{IsGrownOf};
 ghost use Rattle.search_crew.specs.Crews.{IsHandOf, IsSameHand};
+ghost use Rattle.search_crew.specs.Grounds.{IsGrownFor};
 ghost use Rattle.search_crew.specs.Working.{IsAtWork, KeepsOn};
 
 use crate::crew::{Crew, Hand};
@@ -127,9 +127,8 @@ fn hand_in_growth<W: Wait>(
     growth: Growth,
 ) -> Result<(), Memory>
     requires at { (rule : RuleOf) × IsAtWork board.now rule work.edition pass.old
-        × IsGrownOf rule (node_at (problem_of board.now)
-        (fixings_after work.edition (known pass.old).seen) work.decisions) work.best work.allowance
-        work.bound growth }
+        × IsGrownFor rule (node_at (problem_of board.now)
+        (fixings_after work.edition (known pass.old).seen) work.decisions) work growth }
     requires hand { IsHandOf crew.now hand.old }
     ensures on { KeepsOn pass.old pass.new }
     ensures hand { IsSameHand hand.old hand.new }
@@ -168,9 +167,9 @@ pub(crate) fn hand_in<W: Wait>(
     requires board { own_board pass.old ≡ board_of board.now }
     requires searcher { IsSearcher (known pass.old) }
     requires grown { IfOk growth (λ growth. (rule : RuleOf)
-        × IsAtWork board.now rule work.edition pass.old × IsGrownOf rule
+        × IsAtWork board.now rule work.edition pass.old × IsGrownFor rule
         (node_at (problem_of board.now) (fixings_after work.edition (known pass.old).seen)
-        work.decisions) work.best work.allowance work.bound growth) }
+        work.decisions) work growth) }
     requires hand { IsHandOf crew.now hand.old }
     ensures on { KeepsOn pass.old pass.new }
     ensures hand { IsSameHand hand.old hand.new }

@@ -81,8 +81,8 @@ impl<'p> Explorer<'p> {
     }
 
     /// Grows the leaf of a work, by a dive from its node, where what branches costs less than this
-    /// best. A plan that is found is the target from then on. Where the node is not reached, a leaf
-    /// shows that it is dead.
+    /// best. A plan that is found costs less than that, and is the target from then on. Where the
+    /// node is not reached, a leaf shows that it is dead.
     ///
     /// # Errors
     ///

@@ -30,7 +30,7 @@ pub enum Growth {
         bounds: List<u64>,
         plan: Option<Plan>,
     },
-    /// The leaf stays as it is, and is examined.
+    /// No branch was allowed: the leaf stays as it is, and is examined.
     Examined,
 }
 
@@ -53,18 +53,17 @@ pub(crate) fn size_of(growth: &Result<Growth, Memory>) -> u64 {
     }
 }
 
-/// Whether a bound is the one there is.
-fn is_only(bounds: &[u64], bound: u64) -> bool
-    ensures { IsTrue result ↔ (bounds.now ≡ bound ∷ []) }
+/// Whether no branch was allowed, and a bound is the one there is.
+fn is_as_before(allowance: u32, bounds: &[u64], bound: u64) -> bool
+    ensures { IsTrue result ↔ ((allowance ≡ 0) × (bounds.now ≡ bound ∷ [])) }
 {
     match bounds {
-        [only] => *only == bound,
+        [only] => allowance == 0 && *only == bound,
         _ => false,
     }
 }
 
 /// What a dive makes of a leaf with a kept bound.
-#[tactic(auto, using(crate::proofs::Growths::without_plan, crate::proofs::Growths::stays_examined))]
 fn of_dive(found: Dive, allowance: u32, bound: u64) -> Growth
     ensures { (rule : RuleOf) (node : Node) (best : Option ℕ) → IsOfEdition node
         → IsDive rule node best allowance found
@@ -83,7 +82,7 @@ fn of_dive(found: Dive, allowance: u32, bound: u64) -> Growth
             plan: Some(plan),
         },
         End::Open => {
-            if allowance == 0 && is_only(bounds.as_slice(), bound) {
+            if is_as_before(allowance, bounds.as_slice(), bound) {
                 return Growth::Examined;
             }
             Growth::Subtree {
@@ -96,8 +95,9 @@ fn of_dive(found: Dive, allowance: u32, bound: u64) -> Growth
 }
 
 /// Grows the leaf of a work, by a dive from its node along a guide, where what branches costs less
-/// than this best. Where the node is not reached, a leaf shows that it is dead. What is known of
-/// shares holds where the graph is then, and what the guide keeps is of the problem.
+/// than this best, as does a plan that is found. Where the node is not reached, a leaf shows that
+/// it is dead. What is known of shares holds where the graph is then, and what the guide keeps is
+/// of the problem.
 ///
 /// # Errors
 ///

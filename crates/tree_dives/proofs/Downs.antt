@@ -1,6 +1,5 @@
 -- A step down, by what is added before a place and behind it.
-use Rattle.std.proofs.Common.{◌≡◌, ◌∙◌, ℕ, ◌+◌, ◌<◌, List, [], ◌∷◌, ◌++◌, length, map, reverse, Option, true, false, refl, sym, ap, subst, arith}
-use Rattle.std.proofs.lemmas.List.{append_assoc, map-append}
+use Rattle.std.proofs.Common.{◌≡◌, ℕ, ◌+◌, ◌<◌, List, [], ◌∷◌, ◌++◌, length, map, reverse, Option, true, false, refl, arith}
 use Rattle.disp_model.specs.declared.decision.Decision.{Decision}
 use Rattle.disp_model.specs.declared.decision.Choice.{Choice}
 use Rattle.disp_model.specs.declared.decision.Choice.TheVariants.{Route, Order, Run}
@@ -20,7 +19,7 @@ use Rattle.tree_growth.specs.Grown.{GrowsBelow, Helps, IsGrownLeaf, branches}
 use Rattle.tree_growth.proofs.Children.{children_fit}
 use Rattle.tree_dives.specs.Halves.{Sides}
 use Rattle.tree_dives.specs.Downs.{GoesDown}
-use Rattle.tree_dives.proofs.Growing.{side_by_side, leaf_alone, leaves_at_all, goes_to_child, branches_append, branches_leaf, branches_back}
+use Rattle.tree_dives.proofs.Growing.{one_longer, between, goes_to_child, branches_append, branches_leaf, branches_back}
 
 -- a node that is refused is dead, where there is memory
 pub refused_dead : (node : Node) (why : ExtendNo) → IsRefusedAt node why → (why ≡ no.Memory → ⊥) → IsDead node
@@ -38,35 +37,38 @@ module _ (rule : Rule) (choice : Choice) (here below : Node) (old : Sides) (k : 
   one_more : (left : List TreeNode) → branches left ≡ 0 → branches ((old.before ++ Branch choice k ∷ []) ++ left) ≡ branches old.before + 1
   one_more left none = omega (arith, branches_append (old.before ++ Branch choice k ∷ []) left, branches_append old.before (Branch choice k ∷ []), none)
 
-  -- all children are leaves
-  pub all_leaves : (left : List TreeNode) (left_bounds : List ℕ) → ((best : Option ℕ) → GrowsBelow rule best (map (with_decision here) (children_of here.problem choice)) left left_bounds) → branches left ≡ 0
+  -- all children are leaves, which is never where the branch helps: one is to be followed
+  pub none_to_follow : (left : List TreeNode) (left_bounds : List ℕ) → branches left ≡ 0 → ((best : Option ℕ) → Helps rule best here choice → ⊥)
       → GoesDown rule choice here old below (record { before = (old.before ++ Branch choice k ∷ []) ++ left; before_bounds = old.before_bounds ++ left_bounds; behind = old.behind; behind_bounds = old.behind_bounds }) false
-  all_leaves left left_bounds grows none = ((λ best root helps complete. leaves_at_all rule best root here old choice k helps count complete left left_bounds (grows best)), omega (arith, one_more left none))
+  none_to_follow left left_bounds none never = ((λ best root helps complete. absurd (never best helps)), omega (arith, one_more left none))
 
   -- one child is followed
   pub one_followed : (first last : List Decision) (decision : Decision) (left right : List TreeNode) (left_bounds right_bounds : List ℕ) → below ≡ with_decision here decision → children_of here.problem choice ≡ first ++ decision ∷ last
       → ((best : Option ℕ) → GrowsBelow rule best (map (with_decision here) first) left left_bounds) → ((best : Option ℕ) → GrowsBelow rule best (map (with_decision here) last) right right_bounds) → branches left ≡ 0 → branches right ≡ 0
       → GoesDown rule choice here old below (record { before = (old.before ++ Branch choice k ∷ []) ++ left; before_bounds = old.before_bounds ++ left_bounds; behind = old.behind ++ reverse right; behind_bounds = old.behind_bounds ++ reverse right_bounds }) true
   one_followed first last decision left right left_bounds right_bounds is parts one other none none_right = (
-    (λ best root helps complete. rw is (goes_to_child rule best root here old choice k helps count complete first last decision left right left_bounds right_bounds parts (one best) (other best))),
+    (λ best root helps complete. rw is (one_longer here decision, goes_to_child rule best root here old choice k helps count complete first last decision left right left_bounds right_bounds parts (one best) (other best))),
     omega (arith, one_more left none, branches_append old.behind (reverse right), branches_back right, none_right),
   )
 
-  -- no child is followed: the one that would be is refused, and is a leaf too
+  -- no child is followed: the one that would be is dead, and is a leaf too
   pub none_followed : (first last : List Decision) (decision : Decision) (left right : List TreeNode) (leaf : TreeLeaf) (bound : ℕ) (left_bounds right_bounds : List ℕ) → children_of here.problem choice ≡ first ++ decision ∷ last
-      → ((best : Option ℕ) → GrowsBelow rule best (map (with_decision here) first) left left_bounds) → IsGrownLeaf rule (with_decision here decision) leaf bound → ((best : Option ℕ) → GrowsBelow rule best (map (with_decision here) last) right right_bounds) → branches left ≡ 0 → branches right ≡ 0
+      → ((best : Option ℕ) → GrowsBelow rule best (map (with_decision here) first) left left_bounds) → IsDead (with_decision here decision) → IsGrownLeaf rule (with_decision here decision) leaf bound → ((best : Option ℕ) → GrowsBelow rule best (map (with_decision here) last) right right_bounds) → branches left ≡ 0 → branches right ≡ 0
       → GoesDown rule choice here old below (record { before = (((old.before ++ Branch choice k ∷ []) ++ left) ++ Leaf leaf ∷ []) ++ right; before_bounds = ((old.before_bounds ++ left_bounds) ++ bound ∷ []) ++ right_bounds; behind = old.behind; behind_bounds = old.behind_bounds }) false
-  none_followed first last decision left right leaf bound left_bounds right_bounds parts one grown other none none_right =
-      subst (λ (b : List ℕ). GoesDown rule choice here old below (record { before = (((old.before ++ Branch choice k ∷ []) ++ left) ++ Leaf leaf ∷ []) ++ right; before_bounds = b; behind = old.behind; behind_bounds = old.behind_bounds }) false) (grouped old.before_bounds left_bounds (bound ∷ []) right_bounds)
-      (subst (λ (t : List TreeNode). GoesDown rule choice here old below (record { before = t; before_bounds = old.before_bounds ++ ((left_bounds ++ bound ∷ []) ++ right_bounds); behind = old.behind; behind_bounds = old.behind_bounds }) false) (grouped (old.before ++ Branch choice k ∷ []) left (Leaf leaf ∷ []) right)
-      (all_leaves ((left ++ Leaf leaf ∷ []) ++ right) ((left_bounds ++ bound ∷ []) ++ right_bounds) grows (omega (arith, branches_append (left ++ Leaf leaf ∷ []) right, branches_leaf left leaf, none, none_right))))
-    where
-      grouped : {X : Type 0} → (a b x c : List X) → a ++ ((b ++ x) ++ c) ≡ ((a ++ b) ++ x) ++ c
-      grouped a b x c = sym (append_assoc a (b ++ x) c) ∙ ap (λ l. l ++ c) (sym (append_assoc a b x))
-
-      grows : (best : Option ℕ) → GrowsBelow rule best (map (with_decision here) (children_of here.problem choice)) ((left ++ Leaf leaf ∷ []) ++ right) ((left_bounds ++ bound ∷ []) ++ right_bounds)
-      grows best =
-          subst (λ (l : List Node). GrowsBelow rule best l ((left ++ Leaf leaf ∷ []) ++ right) ((left_bounds ++ bound ∷ []) ++ right_bounds))
-          (append_assoc (map (with_decision here) first) (with_decision here decision ∷ []) (map (with_decision here) last) ∙ sym (ap (map (with_decision here)) parts ∙ map-append (with_decision here) first (decision ∷ last)))
-          (side_by_side rule best (map (with_decision here) first ++ with_decision here decision ∷ []) (map (with_decision here) last) (left ++ Leaf leaf ∷ []) right (left_bounds ++ bound ∷ []) right_bounds
-          (side_by_side rule best (map (with_decision here) first) (with_decision here decision ∷ []) left (Leaf leaf ∷ []) left_bounds (bound ∷ []) (one best) (leaf_alone rule best (with_decision here decision) leaf bound grown)) (other best))
+  none_followed first last decision left right leaf bound left_bounds right_bounds parts one dead grown other none none_right =
+      let before = (old.before ++ Branch choice k ∷ []) ++ left in let before_bounds = old.before_bounds ++ left_bounds in (
+        (λ best root helps complete. (
+          decision,
+          dead,
+          record {
+            sides = record { before = before; before_bounds = before_bounds; behind = old.behind ++ reverse right; behind_bounds = old.behind_bounds ++ reverse right_bounds };
+            completes = goes_to_child rule best root here old choice k helps count complete first last decision left right left_bounds right_bounds parts (one best) (other best);
+            leaf = leaf;
+            bound = bound;
+            grown = grown;
+            nodes_are = between before right old.behind (Leaf leaf);
+            bounds_are = between before_bounds right_bounds old.behind_bounds bound;
+          },
+        )),
+        omega (arith, one_more left none, branches_append (before ++ Leaf leaf ∷ []) right, branches_leaf before leaf, none_right),
+      )

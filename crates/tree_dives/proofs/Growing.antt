@@ -7,15 +7,16 @@ use Rattle.disp_model.specs.declared.tree.Leaf.{Leaf as TreeLeaf}
 use Rattle.disp_model.specs.declared.tree.Leaf.TheVariants.{NoRoute, Cycle, Late, Costs, Shares}
 use Rattle.disp_model.specs.declared.tree.TreeNode.{TreeNode}
 use Rattle.disp_model.specs.declared.tree.TreeNode.TheVariants.{Branch, Leaf}
+use Rattle.disp_model.specs.declared.tree.Verdict.{Verdict}
 use Rattle.disp_model.specs.declared.tree.Verdict.TheVariants.{Optimal}
 use Rattle.disp_model.specs.Node.{Node, with_decision}
 use Rattle.disp_model.specs.Nodes.{IsDead}
 use Rattle.disp_model.specs.Shares.{IsBound}
-use Rattle.disp_model.specs.Trees.{children_of}
+use Rattle.disp_model.specs.Trees.{LeafHolds, children_of}
 use Rattle.node_leaves.specs.declared.leaf.NodeLeaf.{NodeLeaf}
 use Rattle.node_leaves.specs.declared.leaf.NodeLeaf.TheVariants.{Dead, Open}
 use Rattle.node_leaves.specs.Shown.{ListsBy, IsLeafOf}
-use Rattle.tree_dives.specs.Halves.{Sides, Completes, AreSidesComplete, IsBelowNode}
+use Rattle.tree_dives.specs.Halves.{Sides, Completes, IsLeafAt, IsBelowNode}
 use Rattle.disp_model.specs.declared.settings.Rule.{Rule}
 use Rattle.disp_model.specs.declared.settings.Rule.TheVariants.{Fixed, Free}
 use Rattle.tree_growth.specs.Grown.{Helps, LeafCounts, KeepsBound, IsGrownLeaf, GrowsBelow, branches}
@@ -45,11 +46,15 @@ keeps rule node (Open leaf bound) is = record { holds = is.holds bound (omega ar
 
 -- what a node shows is a leaf that is grown
 pub grown : (rule : Rule) (node : Node) (shown : NodeLeaf) → IsLeafOf rule node shown → IsGrownLeaf rule node (leaf_held shown) (bound_in shown)
-grown rule node shown is = record { keeps = keeps rule node shown is; own = own_bound shown is }
+grown rule node shown is = record { keeps = keeps rule node shown is; own = own_bound shown is; dead = shown_dead shown is }
   where
     own_bound : (shown : NodeLeaf) → IsLeafOf rule node shown → (IsDead node → ⊥) → IsBound node rule (bound_in shown)
     own_bound (Dead leaf) is alive = absurd (alive is.dead)
     own_bound (Open leaf bound) is alive = is.is_bound
+
+    shown_dead : (shown : NodeLeaf) → IsLeafOf rule node shown → IsDead node → (verdict : Verdict) → LeafHolds node verdict (leaf_held shown)
+    shown_dead (Dead leaf) is dead = is.holds
+    shown_dead (Open leaf bound) is dead = absurd (is.alive dead)
 
 -- side by side
 pub side_by_side : (rule : Rule) (best : Option ℕ) (places more : List Node) (tree tree_more : List TreeNode) (bounds bounds_more : List ℕ) → GrowsBelow rule best places tree bounds → GrowsBelow rule best more tree_more bounds_more → GrowsBelow rule best (places ++ more) (tree ++ tree_more) (bounds ++ bounds_more)
@@ -93,6 +98,9 @@ below_below root middle here one other = record {
   first = sym (take-take (length root.decisions) (length middle.decisions) here.decisions one.deeper) ∙ ap (take (length root.decisions)) other.first ∙ one.first;
 }
 
+pub below_itself : (here : Node) → IsBelowNode here here
+below_itself here = record { problem = refl; fixings = refl; deeper = omega arith; first = take_all (length here.decisions) here.decisions (omega arith) }
+
 -- one decision more
 pub deeper_by_one : (here : Node) (d : Decision) → IsBelowNode here (with_decision here d)
 deeper_by_one here d = record {
@@ -102,11 +110,21 @@ deeper_by_one here d = record {
   first = take-append-le (length here.decisions) here.decisions (d ∷ []) (omega arith) ∙ take_all (length here.decisions) here.decisions (omega arith);
 }
 
+-- and it is one longer
+pub one_longer : (here : Node) (d : Decision) → length (with_decision here d).decisions ≡ length here.decisions + 1
+one_longer here d = length-append here.decisions (d ∷ [])
+
 -- nothing stands beside the first place
 pub completes_first : (rule : Rule) (best : Option ℕ) (root : Node) → Completes rule best root root (record { before = []; before_bounds = []; behind = []; behind_bounds = [] })
 completes_first rule best root tree bounds grows = subst (λ (t : List TreeNode). GrowsBelow rule best (root ∷ []) t (bounds ++ [])) (sym (append-nil tree)) (subst (GrowsBelow rule best (root ∷ []) tree) (sym (append-nil bounds)) grows)
 
 module _ {X : Type 0} where
+  -- what stands at a place, where it is added to what stands before
+  pub between : (before right behind : List X) (x : X) → ((before ++ x ∷ []) ++ right) ++ reverse behind ≡ before ++ x ∷ reverse (behind ++ reverse right)
+  between before right behind x =
+      append_assoc (before ++ x ∷ []) right (reverse behind) ∙ append_assoc before (x ∷ []) (right ++ reverse behind)
+      ∙ ap (λ (l : List X). before ++ x ∷ l) (sym (reverse-append behind (reverse right) ∙ ap (λ (l : List X). l ++ reverse behind) (reverse-reverse right)))
+
   -- what stands beside a place, with what was there
   beside : (before left tree right behind : List X) (x : X) → before ++ (x ∷ (left ++ tree ++ right)) ++ reverse behind ≡ ((before ++ x ∷ []) ++ left) ++ tree ++ reverse (behind ++ reverse right)
   beside before left tree right behind x = ap (λ (l : List X). l ++ reverse behind) (inner before) ∙ append_assoc (((before ++ x ∷ []) ++ left) ++ tree) right (reverse behind) ∙ ap (λ (l : List X). ((before ++ x ∷ []) ++ left) ++ tree ++ l) (sym (reverse-append behind (reverse right) ∙ ap (λ (l : List X). l ++ reverse behind) (reverse-reverse right)))
@@ -120,6 +138,15 @@ module _ {X : Type 0} where
     where
       inner : (before : List X) → before ++ (left ++ tree ++ right) ≡ (before ++ left) ++ tree ++ right
       inner before = sym (append_assoc before (left ++ tree) right) ∙ ap (λ (l : List X). l ++ right) (sym (append_assoc before left tree))
+
+-- a tree of which a leaf stands at a node grows
+pub grows_with_leaf : (rule : Rule) (best : Option ℕ) (root here : Node) (nodes : List TreeNode) (bounds : List ℕ) → IsLeafAt rule best root here nodes bounds → GrowsBelow rule best (root ∷ []) nodes bounds
+grows_with_leaf rule best root here nodes bounds is =
+    let filled = is.completes (Leaf is.leaf ∷ []) (is.bound ∷ []) (leaf_alone rule best here is.leaf is.bound is.grown) in
+    let back = reverse is.sides.behind in
+    let back_bounds = reverse is.sides.behind_bounds in
+    subst (λ (t : List TreeNode). GrowsBelow rule best (root ∷ []) t bounds) (append_assoc is.sides.before (Leaf is.leaf ∷ []) back ∙ sym is.nodes_are)
+    (subst (λ (b : List ℕ). GrowsBelow rule best (root ∷ []) ((is.sides.before ++ Leaf is.leaf ∷ []) ++ back) b) (append_assoc is.sides.before_bounds (is.bound ∷ []) back_bounds ∙ sym is.bounds_are) filled)
 
 module _ (rule : Rule) (best : Option ℕ) (root here : Node) (old : Sides) (choice : Choice) (children : ℕ) (helps : Helps rule best here choice) (count : children ≡ length (children_of here.problem choice)) (complete : Completes rule best root here old) where
   -- what grows at all children of a branch fills the place
@@ -154,11 +181,3 @@ pub branches_back : (tree : List TreeNode) → branches (reverse tree) ≡ branc
 branches_back [] = refl
 branches_back (Branch choice children ∷ tree) = let later = branches_back tree in ap branches (reverse-append (Branch choice children ∷ []) tree) ∙ branches_append (reverse tree) (Branch choice children ∷ []) ∙ omega (arith, later)
 branches_back (Leaf leaf ∷ tree) = let later = branches_back tree in ap branches (reverse-append (Leaf leaf ∷ []) tree) ∙ branches_append (reverse tree) (Leaf leaf ∷ []) ∙ omega (arith, later)
-
-module _ (rule : Rule) (best : Option ℕ) (root here : Node) (old : Sides) (choice : Choice) (children : ℕ) (helps : Helps rule best here choice) (count : children ≡ length (children_of here.problem choice)) (complete : Completes rule best root here old) where
-  -- leaves at all children leave no place
-  pub leaves_at_all : (left : List TreeNode) (left_bounds : List ℕ) → GrowsBelow rule best (map (with_decision here) (children_of here.problem choice)) left left_bounds
-      → AreSidesComplete rule best root (record { before = (old.before ++ Branch choice children ∷ []) ++ left; before_bounds = old.before_bounds ++ left_bounds; behind = old.behind; behind_bounds = old.behind_bounds })
-  leaves_at_all left left_bounds grows =
-      subst (λ (t : List TreeNode). GrowsBelow rule best (root ∷ []) (t ++ reverse old.behind) ((old.before_bounds ++ left_bounds) ++ reverse old.behind_bounds)) (sym (append_assoc old.before (Branch choice children ∷ []) left))
-      (branch_fills rule best root here old choice children helps count complete left left_bounds grows)

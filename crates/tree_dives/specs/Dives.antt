@@ -1,5 +1,5 @@
 -- What a dive from a node gives.
-use Rattle.std.specs.Prelude.{◌≡◌, ℕ, ◌≤◌, List, [], ◌∷◌, Contains, Option}
+use Rattle.std.specs.Prelude.{◌≡◌, ℕ, ◌+◌, ◌≤◌, List, [], ◌∷◌, length, Option}
 use Rattle.disp_model.specs.declared.plan.Event.{Event}
 use Rattle.disp_model.specs.declared.decision.Choice.{Choice}
 use Rattle.disp_model.specs.declared.tree.TreeNode.{TreeNode}
@@ -11,43 +11,54 @@ use Rattle.disp_model.specs.Cost.{cost_of}
 use Rattle.disp_model.specs.declared.settings.Rule.{Rule}
 use Rattle.open_nodes.specs.States.{IsBoundBelow}
 use Rattle.tree_growth.specs.Grown.{GrowsBelow, Helps, branches}
-use Rattle.tree_dives.specs.Halves.{IsBelowNode}
+use Rattle.tree_dives.specs.Halves.{IsBelowNode, IsLeafAt}
 use Rattle.tree_dives.specs.Stages.{IsClosedAt}
 use Rattle.tree_dives.specs.declared.given.Dive.{Dive}
 use Rattle.tree_dives.specs.declared.stage.End.{End}
 use Rattle.tree_dives.specs.declared.stage.End.TheVariants.{Closed, Plan, Open}
 
--- the plan is valid, and costs what is kept for a leaf, less than the best; it is the earliest one
--- of a node below, which is not dead
-pub record EndsInPlan (root : Node) (best : Option ℕ) (bounds : List ℕ) (plan : List Event)
-    : Type 0 where
+-- the last node of a dive: a leaf of the tree stands at its place, and all branches of the tree are
+-- on the way down to it
+pub record IsLastOf (rule : Rule) (best : Option ℕ) (root here : Node) (nodes : List TreeNode)
+    (bounds : List ℕ) : Type 0 where
+  pub below : IsBelowNode root here
+  pub deep : length here.decisions ≡ length root.decisions + branches nodes
+  pub stands : IsLeafAt rule best root here nodes bounds
+
+-- the plan is valid, and costs what is kept for the leaf of the last node, less than the best; it is
+-- the earliest one of that node, which is not dead
+pub record EndsInPlan (rule : Rule) (root : Node) (best : Option ℕ) (nodes : List TreeNode)
+    (bounds : List ℕ) (plan : List Event) : Type 0 where
   pub valid : IsValid root.problem root.fixings plan
-  pub costs : Contains bounds (cost_of root.problem.components plan)
   pub better : IsBoundBelow (cost_of root.problem.components plan) best
   pub here : Node
-  pub below : IsBelowNode root here
+  pub last : IsLastOf rule best root here nodes bounds
+  pub costs : cost_of root.problem.components plan ≡ last.stands.bound
   pub alive : IsDead here → ⊥
   pub earliest : IsEarliest here plan
 
--- the node stays a leaf with its bound, and a choice is picked there
-pub record StaysOpen (rule : Rule) (root : Node) (best : Option ℕ) (bounds : List ℕ) : Type 0 where
-  pub choice : Choice
-  pub helps : Helps rule best root choice
-  pub bounds_are : bounds ≡ helps.bound ∷ []
-
--- a node below needs no branch: the root itself, where nothing was branched
-pub record EndsClosed (rule : Rule) (root : Node) (best : Option ℕ) (nodes : List TreeNode)
-    : Type 0 where
+-- the whole allowance is branched, and a choice that helps is picked at the last node
+pub record EndsOpen (rule : Rule) (root : Node) (best : Option ℕ) (allowance : ℕ)
+    (nodes : List TreeNode) (bounds : List ℕ) : Type 0 where
+  pub all : branches nodes ≡ allowance
   pub here : Node
-  pub below : IsBelowNode root here
+  pub last : IsLastOf rule best root here nodes bounds
+  pub choice : Choice
+  pub helps : Helps rule best here choice
+
+-- the last node needs no branch: the root itself, where nothing was branched
+pub record EndsClosed (rule : Rule) (root : Node) (best : Option ℕ) (nodes : List TreeNode)
+    (bounds : List ℕ) : Type 0 where
+  pub here : Node
+  pub last : IsLastOf rule best root here nodes bounds
   pub closed : IsClosedAt rule best here
-  pub at_root : branches nodes ≡ 0 → here ≡ root
 
 abbrev pub IsEndOf : Rule → Node → Option ℕ → ℕ → List TreeNode → List ℕ → End → Type 0
-IsEndOf rule root best allowance nodes bounds Closed = EndsClosed rule root best nodes
-IsEndOf rule root best allowance nodes bounds (Plan plan) = EndsInPlan root best bounds plan
-IsEndOf rule root best allowance nodes bounds Open = (branches nodes ≡ allowance)
-    × (allowance ≡ 0 → StaysOpen rule root best bounds)
+IsEndOf rule root best allowance nodes bounds Closed = EndsClosed rule root best nodes bounds
+IsEndOf rule root best allowance nodes bounds (Plan plan) =
+    EndsInPlan rule root best nodes bounds plan
+IsEndOf rule root best allowance nodes bounds Open =
+    EndsOpen rule root best allowance nodes bounds
 
 -- a subtree for the place of the node, with at most so many branches, and how it ended
 pub record IsDive (rule : Rule) (root : Node) (best : Option ℕ) (allowance : ℕ) (dive : Dive)

@@ -1,9 +1,7 @@
-ghost use Rattle.std.specs.Prelude.{◌≡◌, ℕ, Option, true, false, IfOk, OnErr};
-ghost use Rattle.disp_model.specs.declared.decision.Decision.{Decision as DecisionOf};
+ghost use Rattle.std.specs.Prelude.{◌≡◌, true, false, IfOk, OnErr};
 ghost use Rattle.disp_model.specs.Node.{with_decision};
 ghost use Rattle.disp_model.specs.Nodes.{IsDead};
 ghost use Rattle.node_leaves.specs.Reckoned.{ReckonsFor};
-ghost use Rattle.tree_growth.specs.Grown.{Helps};
 ghost use Rattle.tree_dives.specs.Halves.{IsBelowNode};
 ghost use Rattle.tree_dives.specs.Downs.{sides_of, GoesDown};
 ghost use Rattle.share_bound.specs.Known.{HoldFor};
@@ -69,9 +67,6 @@ pub(crate) fn go_down(
     ensures known { HoldFor graph.new known.new }
     ensures down { IfOk result (GoesDown reckoning.now.rule choice graph.old (sides_of halves.old)
         graph.new (sides_of halves.new)) }
-    ensures dead { IfOk result (λ more. more ≡ false → (best : Option ℕ)
-        → Helps reckoning.now.rule best graph.old choice
-        → (child : DecisionOf) × IsDead (with_decision graph.old child)) }
 {
     let children = children(alloc, problem, choice)?;
     push_branch(&mut halves.before, choice, children.len() as u32)?;

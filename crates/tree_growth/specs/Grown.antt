@@ -8,6 +8,7 @@ use Rattle.disp_model.specs.declared.tree.Leaf.{Leaf as TreeLeaf}
 use Rattle.disp_model.specs.declared.tree.Leaf.TheVariants.{Shares}
 use Rattle.disp_model.specs.declared.tree.TreeNode.{TreeNode}
 use Rattle.disp_model.specs.declared.tree.TreeNode.TheVariants.{Branch, Leaf}
+use Rattle.disp_model.specs.declared.tree.Verdict.{Verdict}
 use Rattle.disp_model.specs.declared.tree.Verdict.TheVariants.{Optimal}
 use Rattle.disp_model.specs.Node.{Node, with_decision}
 use Rattle.disp_model.specs.Nodes.{IsDead}
@@ -36,10 +37,12 @@ pub record KeepsBound (rule : Rule) (node : Node) (leaf : TreeLeaf) (bound : ℕ
   pub counts : LeafCounts rule leaf bound
   pub fits : FitsLeaf leaf
 
--- a leaf that is grown keeps its bound, and that is the node's own where the node is not dead
+-- a leaf that is grown keeps its bound, and that is the node's own where the node is not dead; where
+-- it is, the leaf shows so by itself, whatever the verdict
 pub record IsGrownLeaf (rule : Rule) (node : Node) (leaf : TreeLeaf) (bound : ℕ) : Type 0 where
   pub keeps : KeepsBound rule node leaf bound
   pub own : (IsDead node → ⊥) → IsBound node rule bound
+  pub dead : IsDead node → (verdict : Verdict) → LeafHolds node verdict leaf
 
 -- the nodes fill the places, from the first on: each branch helps, each leaf has a bound
 abbrev pub AreHelpful : Rule → Option ℕ → List Node → List TreeNode → List ℕ → Type 0

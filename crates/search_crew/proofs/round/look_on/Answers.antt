@@ -1,4 +1,4 @@
-use Rattle.std.proofs.Common.{◌≡◌, List, [], Option, refl, sym, subst}
+use Rattle.std.proofs.Common.{List, [], Option, refl, sym, subst}
 use Rattle.std.specs.Prelude.{IfSome}
 use Rattle.disp_model.specs.declared.plan.Event.{Event}
 use Rattle.disp_model.specs.declared.problem.Problem.{Problem}

@@ -1,4 +1,3 @@
-use Rattle.std.proofs.Common.{◌∙◌}
 use Rattle.disp_model.specs.History.{fixings_after}
 use Rattle.shared_board.specs.Board.{problem_of, known}
 use Rattle.search_crew.proofs.Grounding.{ground_on}

@@ -1,4 +1,4 @@
-use Rattle.std.proofs.Common.{◌≡◌, []}
+use Rattle.std.proofs.Common.{◌≡◌, ◌+◌, length}
 use Rattle.share_bound.specs.Known.{HoldFor}
 use Rattle.tree_dives.specs.Guides.{GuidesIn}
 use Rattle.tree_dives.specs.Halves.{Completes, IsBelowNode}
@@ -13,5 +13,5 @@ invariant-loop l = record {
   count : branches_in (sides_of l.halves) ≡ l.counter;
   known : HoldFor l.graph l.known;
   guide : GuidesIn l.problem l.guide;
-  first : l.counter ≡ 0 → (l.graph ≡ l.initial.graph) × (sides_of l.halves ≡ record { before = []; before_bounds = []; behind = []; behind_bounds = [] });
+  deep : length l.graph.decisions ≡ length l.initial.graph.decisions + l.counter;
 }
