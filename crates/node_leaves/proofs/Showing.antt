@@ -32,6 +32,7 @@ late_leaf node o walk is long =
     let same : late.total ≡ long.total = same_longest node o late.total long.total (subst (λ (p : Op). IsLongest node p late.total) is.operation late.longest) long.longest in
     record {
       dead = inr (inr late);
+      says = tt;
       holds = λ verdict. inr (record {
         end = o;
         ends = long.ends;
@@ -45,10 +46,10 @@ late_leaf node o walk is long =
     }
 
 pub no_route_leaf : (node : Node) (t : ℕ) → IsFirstWithout node t → IsDeadLeaf node NoRoute
-no_route_leaf node t is = record { dead = inl (t, is.there, is.none); holds = λ verdict. inl (t, is.there, is.none); fits = tt }
+no_route_leaf node t is = record { dead = inl (t, is.there, is.none); says = tt; holds = λ verdict. inl (t, is.there, is.none); fits = tt }
 
 pub cycle_leaf : (node : Node) (nodes : List Op) → IsCycle node nodes → IsDeadLeaf node (Cycle nodes)
-cycle_leaf node nodes cycle = record { dead = inr (inl (nodes, cycle)); holds = λ verdict. inr cycle; fits = ops_fit node.problem nodes (cycle_there node nodes cycle) }
+cycle_leaf node nodes cycle = record { dead = inr (inl (nodes, cycle)); says = tt; holds = λ verdict. inr cycle; fits = ops_fit node.problem nodes (cycle_there node nodes cycle) }
 
 -- without the last decision the node is as before it
 pub taken_back : (node : Node) (d : Decision) → without_last_decision (with_decision node d) ≡ node

@@ -3,7 +3,7 @@ use Rattle.std.specs.Prelude.{ℕ, ◌≤◌}
 use Rattle.disp_model.specs.declared.settings.Rule.{Rule}
 use Rattle.disp_model.specs.declared.settings.Rule.TheVariants.{Fixed}
 use Rattle.disp_model.specs.declared.tree.Leaf.{Leaf as TreeLeaf}
-use Rattle.disp_model.specs.declared.tree.Leaf.TheVariants.{Shares}
+use Rattle.disp_model.specs.declared.tree.Leaf.TheVariants.{NoRoute, Cycle, Late, Costs, Shares}
 use Rattle.disp_model.specs.declared.tree.Verdict.{Verdict}
 use Rattle.disp_model.specs.declared.tree.Verdict.TheVariants.{Optimal}
 use Rattle.disp_model.specs.Node.{Node}
@@ -13,9 +13,18 @@ use Rattle.disp_model.specs.Trees.{LeafHolds, FitsLeaf}
 use Rattle.node_leaves.specs.declared.leaf.NodeLeaf.{NodeLeaf}
 use Rattle.node_leaves.specs.declared.leaf.NodeLeaf.TheVariants.{Dead, Open}
 
--- a leaf that shows, under any verdict, that the node is dead
+-- a leaf that says of its node that it is dead
+abbrev pub SaysDead : TreeLeaf → Type 0
+SaysDead NoRoute = Unit {0}
+SaysDead (Cycle ops) = Unit {0}
+SaysDead (Late walk) = Unit {0}
+SaysDead (Costs walks) = ⊥
+SaysDead (Shares walks trains) = ⊥
+
+-- a leaf that shows, under any verdict, that the node is dead, and says so
 pub record IsDeadLeaf (node : Node) (leaf : TreeLeaf) : Type 0 where
   pub dead : IsDead node
+  pub says : SaysDead leaf
   pub holds : (verdict : Verdict) → LeafHolds node verdict leaf
   pub fits : FitsLeaf leaf
 

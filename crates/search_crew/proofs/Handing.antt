@@ -76,26 +76,26 @@ module _ (board : Board) (rule : Rule) (pass : Pass) (work : Work) (at : IsAtWor
 
   pub growth_of : (nodes : List TreeNode) (bounds : List ℕ) (plan : Option (List Event)) → IsGrownFor rule node work (growth.Subtree nodes bounds plan)
       → IsGrowthOf (known pass) (record { work = work; subtree = nodes; bounds = bounds })
-  growth_of nodes bounds plan (best, less, grown) = record {
+  growth_of nodes bounds plan is = record {
     terms = at.searcher.terms;
     terms_are = at.searcher.terms_are;
     edition = at.edition_is;
     grows = subst (λ (r : Rule). GrowsBelow r work.best (node_at at.searcher.terms.problem (fixings_after work.edition (known pass).seen) work.decisions ∷ []) nodes bounds) (sym at.rule_is)
         (subst (λ (p : Problem). GrowsBelow rule work.best (node_at p (fixings_after work.edition (known pass).seen) work.decisions ∷ []) nodes bounds) (sym at.problem)
-        (grows_more best work.best less rule (node ∷ []) nodes bounds grown.0));
-    few = grown.1;
+        (grows_more is.best work.best is.no_more rule (node ∷ []) nodes bounds is.grown.0));
+    few = is.grown.1;
   }
 
   pub examined_of : IsGrownFor rule node work growth.Examined → IsExaminedFor (known pass) work
-  examined_of (best, less, grown) = record {
+  examined_of is = record {
     terms = at.searcher.terms;
     terms_are = at.searcher.terms_are;
     edition = at.edition_is;
     examined = subst (λ (r : Rule). IsExamined r (node_at at.searcher.terms.problem (fixings_after work.edition (known pass).seen) work.decisions) work.bound) (sym at.rule_is)
-        (subst (λ (p : Problem). IsExamined rule (node_at p (fixings_after work.edition (known pass).seen) work.decisions) work.bound) (sym at.problem) grown.1);
+        (subst (λ (p : Problem). IsExamined rule (node_at p (fixings_after work.edition (known pass).seen) work.decisions) work.bound) (sym at.problem) is.grown.1);
   }
 
   pub plan_with : (nodes : List TreeNode) (bounds : List ℕ) (plan : Option (List Event)) → IsGrownFor rule node work (growth.Subtree nodes bounds plan)
       → (found : List Event) → plan ≡ Some found → IsPlanFor (known pass) work.edition found
-  plan_with nodes bounds plan (best, less, grown) found same =
-      plan_at board rule work.edition pass at node refl found (plan_of rule node best work.allowance work.bound nodes bounds plan grown.2 found same)
+  plan_with nodes bounds plan is found same =
+      plan_at board rule work.edition pass at node refl found (plan_of rule node is.best work.allowance work.bound nodes bounds plan is.grown.2 found same)

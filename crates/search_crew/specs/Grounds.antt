@@ -27,6 +27,7 @@ abbrev pub IsBestNoMore : Option ℕ → Option ℕ → Type 0
 IsBestNoMore best other = (bound : ℕ) → IsBoundBelow bound best → IsBoundBelow bound other
 
 -- what a work came to, below a best that is no more than the work's
-abbrev pub IsGrownFor : Rule → Node → Work → Growth → Type 0
-IsGrownFor rule node work grown = (best : Option ℕ) × IsBestNoMore best work.best
-    × IsGrownOf rule node best work.allowance work.bound grown
+pub record IsGrownFor (rule : Rule) (node : Node) (work : Work) (growth : Growth) : Type 0 where
+  pub best : Option ℕ
+  pub no_more : IsBestNoMore best work.best
+  pub grown : IsGrownOf rule node best work.allowance work.bound growth

@@ -1,4 +1,4 @@
-ghost use Rattle.std.specs.Prelude.{[], List, IfOk, IfSome};
+ghost use Rattle.std.specs.Prelude.{◌≡◌, ◌⊎◌, [], List, IfOk, IfSome};
 ghost use Rattle.disp_model.specs.declared.fixing.Fixing.{Fixing as FixingOf};
 ghost use Rattle.disp_model.specs.Node.{node_at};
 ghost use Rattle.event_graph.specs.Joined.{IsOfEdition};
@@ -45,7 +45,8 @@ pub(crate) fn begin<'p>(
 
 /// The lesser of two best costs, none being the greatest.
 pub(crate) fn lesser(best: Option<u64>, other: Option<u64>) -> Option<u64>
-    ensures { IsBestNoMore result best }
+    ensures no_more { IsBestNoMore result best }
+    ensures one { (result ≡ best) ⊎ (result ≡ other) }
 {
     match (best, other) {
         (Some(cost), Some(least)) => Some(cost.min(least)),

@@ -26,7 +26,7 @@ use Rattle.search_workers.specs.declared.growth.Growth.{Growth}
 use Rattle.search_workers.specs.declared.growth.Growth.TheVariants as growth
 use Rattle.near_plans.specs.Plans.{IsPlanAt}
 use Rattle.near_plans.proofs.Finding.{earliest_within, small_beside}
-use Rattle.search_workers.specs.Grown.{EndsWith, IsGrownOf}
+use Rattle.search_workers.specs.Grown.{GrowthEnds, IsGrownOf}
 
 -- the plan starts nothing past the horizon
 plan_within : (rule : Rule) (node : Node) (best : Option ℕ) (nodes : List TreeNode) (bounds : List ℕ) (plan : List Event) → IsOfEdition node → EndsInPlan rule node best nodes bounds plan → All (λ e. e.time ≤ horizon node.problem.trains) plan
@@ -95,5 +95,5 @@ module _ (rule : Rule) (node : Node) (best : Option ℕ) (allowance bound : ℕ)
 
 -- a plan that came with a subtree is one at its node
 pub plan_of : (rule : Rule) (node : Node) (best : Option ℕ) (allowance bound : ℕ) (nodes : List TreeNode) (bounds : List ℕ) (plan : Option (List Event))
-    → EndsWith rule node best allowance bound nodes bounds plan → (found : List Event) → plan ≡ Some found → IsPlanAt node found
-plan_of rule node best allowance bound nodes bounds plan ends found same = (subst (EndsWith rule node best allowance bound nodes bounds) same ends).0
+    → GrowthEnds rule node best allowance bound nodes bounds plan → (found : List Event) → plan ≡ Some found → IsPlanAt node found
+plan_of rule node best allowance bound nodes bounds plan ends found same = (subst (GrowthEnds rule node best allowance bound nodes bounds) same ends).0

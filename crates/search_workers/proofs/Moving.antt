@@ -17,6 +17,7 @@ dead_below problem fixings decisions more leaf is =
     let tighter = more_decided (node_at problem fixings decisions) more in
     record {
       dead = dead_stays (node_at problem fixings decisions) fixings (decisions ++ more) tighter is.dead;
+      says = is.says;
       holds = λ verdict. leaf_stays (node_at problem fixings decisions) fixings (decisions ++ more) verdict leaf tighter (is.holds verdict);
       fits = is.fits;
     }

@@ -21,11 +21,11 @@ pub record IsLeftOpen (rule : Rule) (node : Node) (best : Option ℕ) (allowance
 -- with a plan the last node is where it was found: it is valid and starts nothing past the
 -- horizon, and costs what is kept for the leaf there, less than the best; without one the last node
 -- needs no branch, or is left open
-abbrev pub EndsWith : Rule → Node → Option ℕ → ℕ → ℕ → List TreeNode → List ℕ
+abbrev pub GrowthEnds : Rule → Node → Option ℕ → ℕ → ℕ → List TreeNode → List ℕ
     → Option (List Event) → Type 0
-EndsWith rule node best allowance bound nodes bounds (Some plan) =
+GrowthEnds rule node best allowance bound nodes bounds (Some plan) =
     IsPlanAt node plan × EndsInPlan rule node best nodes bounds plan
-EndsWith rule node best allowance bound nodes bounds None =
+GrowthEnds rule node best allowance bound nodes bounds None =
     EndsClosed rule node best nodes bounds
     ⊎ IsLeftOpen rule node best allowance bound nodes bounds
 
@@ -34,6 +34,6 @@ EndsWith rule node best allowance bound nodes bounds None =
 abbrev pub IsGrownOf : Rule → Node → Option ℕ → ℕ → ℕ → Growth → Type 0
 IsGrownOf rule node best allowance bound (growth.Subtree nodes bounds plan) =
     GrowsBelow rule best (node ∷ []) nodes bounds × (branches nodes ≤ allowance)
-    × EndsWith rule node best allowance bound nodes bounds plan
+    × GrowthEnds rule node best allowance bound nodes bounds plan
 IsGrownOf rule node best allowance bound growth.Examined =
     (allowance ≡ 0) × IsExamined rule node bound

@@ -1,3 +1,5 @@
+ghost use Rattle.std.specs.Prelude.{◌≤◌};
+
 use crate::growth::{Growth, size_of};
 use disp_model::Memory;
 
@@ -41,12 +43,14 @@ impl Effort {
         }
     }
 
-    /// How many branches to ask for next.
-    pub fn want(&self) -> u32 {
+    /// How many branches to ask for next: one at least.
+    pub fn want(&self) -> u32
+        ensures { 1 ≤ result }
+    {
         if self.raises {
             FOR_BOUND
         } else {
-            self.for_plan
+            self.for_plan.max(1)
         }
     }
 

@@ -15,7 +15,9 @@ use Rattle.disp_model.specs.Shares.{IsBound}
 use Rattle.disp_model.specs.Trees.{LeafHolds, children_of}
 use Rattle.node_leaves.specs.declared.leaf.NodeLeaf.{NodeLeaf}
 use Rattle.node_leaves.specs.declared.leaf.NodeLeaf.TheVariants.{Dead, Open}
-use Rattle.node_leaves.specs.Shown.{ListsBy, IsLeafOf}
+use Rattle.node_leaves.specs.Shown.{SaysDead, ListsBy, IsLeafOf}
+use Rattle.open_nodes.specs.declared.place.Kind.TheVariants.{Dead as DeadKind}
+use Rattle.open_nodes.specs.Grafts.{kind_of}
 use Rattle.tree_dives.specs.Halves.{Sides, Completes, IsLeafAt, IsBelowNode}
 use Rattle.disp_model.specs.declared.settings.Rule.{Rule}
 use Rattle.disp_model.specs.declared.settings.Rule.TheVariants.{Fixed, Free}
@@ -40,13 +42,21 @@ counts_listed Fixed (Costs walks) bound by = tt
 counts_listed Fixed (Shares walks trains) bound by = absurd by
 counts_listed Free leaf bound by = tt
 
+-- what says that its node is dead is kept as a dead leaf
+dead_kind : (leaf : TreeLeaf) → SaysDead leaf → kind_of leaf ≡ DeadKind
+dead_kind NoRoute says = refl
+dead_kind (Cycle nodes) says = refl
+dead_kind (Late walk) says = refl
+dead_kind (Costs walks) says = absurd says
+dead_kind (Shares walks trains) says = absurd says
+
 keeps : (rule : Rule) (node : Node) (shown : NodeLeaf) → IsLeafOf rule node shown → KeepsBound rule node (leaf_held shown) (bound_in shown)
 keeps rule node (Dead leaf) is = record { holds = is.holds (Optimal 0); counts = counts_none rule leaf; fits = is.fits }
 keeps rule node (Open leaf bound) is = record { holds = is.holds bound (omega arith); counts = counts_listed rule leaf bound is.lists; fits = is.fits }
 
 -- what a node shows is a leaf that is grown
 pub grown : (rule : Rule) (node : Node) (shown : NodeLeaf) → IsLeafOf rule node shown → IsGrownLeaf rule node (leaf_held shown) (bound_in shown)
-grown rule node shown is = record { keeps = keeps rule node shown is; own = own_bound shown is; dead = shown_dead shown is }
+grown rule node shown is = record { keeps = keeps rule node shown is; own = own_bound shown is; dead = shown_dead shown is; kind = kept_dead shown is }
   where
     own_bound : (shown : NodeLeaf) → IsLeafOf rule node shown → (IsDead node → ⊥) → IsBound node rule (bound_in shown)
     own_bound (Dead leaf) is alive = absurd (alive is.dead)
@@ -55,6 +65,10 @@ grown rule node shown is = record { keeps = keeps rule node shown is; own = own_
     shown_dead : (shown : NodeLeaf) → IsLeafOf rule node shown → IsDead node → (verdict : Verdict) → LeafHolds node verdict (leaf_held shown)
     shown_dead (Dead leaf) is dead = is.holds
     shown_dead (Open leaf bound) is dead = absurd (is.alive dead)
+
+    kept_dead : (shown : NodeLeaf) → IsLeafOf rule node shown → IsDead node → kind_of (leaf_held shown) ≡ DeadKind
+    kept_dead (Dead leaf) is dead = dead_kind leaf is.says
+    kept_dead (Open leaf bound) is dead = absurd (is.alive dead)
 
 -- side by side
 pub side_by_side : (rule : Rule) (best : Option ℕ) (places more : List Node) (tree tree_more : List TreeNode) (bounds bounds_more : List ℕ) → GrowsBelow rule best places tree bounds → GrowsBelow rule best more tree_more bounds_more → GrowsBelow rule best (places ++ more) (tree ++ tree_more) (bounds ++ bounds_more)

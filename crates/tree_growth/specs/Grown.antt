@@ -15,7 +15,9 @@ use Rattle.disp_model.specs.Nodes.{IsDead}
 use Rattle.disp_model.specs.Shares.{IsBound}
 use Rattle.disp_model.specs.Earliest.{IsPicked}
 use Rattle.disp_model.specs.Trees.{LeafHolds, FitsLeaf, IsChoice, children_of}
+use Rattle.open_nodes.specs.declared.place.Kind.TheVariants.{Dead}
 use Rattle.open_nodes.specs.States.{IsBoundBelow}
+use Rattle.open_nodes.specs.Grafts.{kind_of}
 
 -- a branch that helps: its node is not dead, its choice is one that is picked there, and its bound
 -- is below the best
@@ -37,12 +39,13 @@ pub record KeepsBound (rule : Rule) (node : Node) (leaf : TreeLeaf) (bound : ℕ
   pub counts : LeafCounts rule leaf bound
   pub fits : FitsLeaf leaf
 
--- a leaf that is grown keeps its bound, and that is the node's own where the node is not dead; where
--- it is, the leaf shows so by itself, whatever the verdict
+-- a leaf that is grown keeps its bound, and that is the node's own where the node is not dead;
+-- where it is, the leaf shows so by itself, whatever the verdict, and is kept as a dead one
 pub record IsGrownLeaf (rule : Rule) (node : Node) (leaf : TreeLeaf) (bound : ℕ) : Type 0 where
   pub keeps : KeepsBound rule node leaf bound
   pub own : (IsDead node → ⊥) → IsBound node rule bound
   pub dead : IsDead node → (verdict : Verdict) → LeafHolds node verdict leaf
+  pub kind : IsDead node → kind_of leaf ≡ Dead
 
 -- the nodes fill the places, from the first on: each branch helps, each leaf has a bound
 abbrev pub AreHelpful : Rule → Option ℕ → List Node → List TreeNode → List ℕ → Type 0
