@@ -219,24 +219,6 @@ by_more node each spans op span ls l list old new later found at own was = recor
 
 -- ---- the operation of a number
 
--- what is seen of an operation is seen of each of its holders
-pub met_at : (node : Node) (each : List (Vec Holder)) (spans : List (Option Span)) (n : ℕ) (op : Op) (span : Span) (seen : Seen)
-    → AreSound node.problem each → IsAtNumber node.problem op n → get_or spans n None ≡ Some span
-    → IsSeenBy node each spans op span (listings_of node.problem op) seen
-    → (r : ℕ) (list : Vec Holder) (x y : Holder) (one other : Hold) → slice_get each r ≡ Some list
-    → Contains list.items x → Contains list.items y
-    → x.number ≡ n → x.op.train < y.op.train → hold_by spans x ≡ Some one → hold_by spans y ≡ Some other
-    → HoldMeets node one other seen
-met_at node each spans n op span seen sound is_at runs is r list x y one other at among_x among_y of_n trains holds_x holds_y =
-    let of = sound.holds r list x at among_x in
-    let same_op : x.op ≡ op = same_by_number node.problem x.op op of.there is_at.there (of.number ∙ of_n ∙ sym is_at.number) in
-    let l = of.lists.0 in
-    let there : Contains (listings_of node.problem op) l = subst (λ (o : Op). Contains (listings_of node.problem o) l) same_op of.lists.1 in
-    let found : slice_get each l.resource ≡ Some list = ap (slice_get each) of.lists.2 ∙ at in
-    let met = is.met l list there found y other among_y (subst (λ (o : Op). o.train < y.op.train) same_op trains) holds_y in
-    let held : hold_with x span ≡ one = same_Some (hold_with x span) one (sym (ap (option_map (hold_with x)) (ap (λ (k : ℕ). get_or spans k None) of_n ∙ runs)) ∙ holds_x) in
-    subst (λ (h : Hold). HoldMeets node h other seen) (ap (λ (o : Op). record { op = o; span = span; release = l.release }) (sym same_op) ∙ ap (λ (q : ℕ). record { op = x.op; span = span; release = q }) of.lists.3 ∙ held) met
-
 pub apart_settled : (node : Node) (each : List (Vec Holder)) (spans : List (Option Span)) (n : ℕ)
     → StandsApart each spans n → StandsSettled node each spans n
 apart_settled node each spans n apart r list x y one other at among_x among_y of_n trains holds_x holds_y = inl (apart r list x y one other at among_x among_y of_n trains holds_x holds_y)
@@ -246,19 +228,34 @@ pub none_settled : (node : Node) (each : List (Vec Holder)) (spans : List (Optio
 none_settled node each spans n none r list x y one other at among_x among_y of_n trains holds_x holds_y =
     absurd (none-some one (sym (ap (option_map (hold_with x)) (ap (λ (k : ℕ). get_or spans k None) of_n ∙ none)) ∙ holds_x))
 
-pub seen_settled : (node : Node) (each : List (Vec Holder)) (spans : List (Option Span)) (n : ℕ) (op : Op) (span : Span) (seen : Seen)
-    → AreSound node.problem each → IsAtNumber node.problem op n → get_or spans n None ≡ Some span
-    → IsSeenBy node each spans op span (listings_of node.problem op) seen → seen.first ≡ None
-    → StandsSettled node each spans n
-seen_settled node each spans n op span seen sound is_at runs is none r list x y one other at among_x among_y of_n trains holds_x holds_y =
-    elim (met_at node each spans n op span seen sound is_at runs is r list x y one other at among_x among_y of_n trains holds_x holds_y).settled [
-      | inl settled ↦ settled
-      | inr up ↦ absurd (subst (λ (o : Option Meeting). IsMeetingUpTo o other.op) none up)
-    ]
+-- what was seen of the operation of a number
+module _ (node : Node) (each : List (Vec Holder)) (spans : List (Option Span)) (n : ℕ) (op : Op)
+    (span : Span) (seen : Seen) (sound : AreSound node.problem each)
+    (is_at : IsAtNumber node.problem op n) (runs : get_or spans n None ≡ Some span)
+    (is : IsSeenBy node each spans op span (listings_of node.problem op) seen) where
+  -- it is seen of each of its holders
+  pub met_at : (r : ℕ) (list : Vec Holder) (x y : Holder) (one other : Hold)
+      → slice_get each r ≡ Some list → Contains list.items x → Contains list.items y
+      → x.number ≡ n → x.op.train < y.op.train
+      → hold_by spans x ≡ Some one → hold_by spans y ≡ Some other
+      → HoldMeets node one other seen
+  met_at r list x y one other at among_x among_y of_n trains holds_x holds_y =
+      let of = sound.holds r list x at among_x in
+      let same_op : x.op ≡ op = same_by_number node.problem x.op op of.there is_at.there (of.number ∙ of_n ∙ sym is_at.number) in
+      let l = of.lists.0 in
+      let there : Contains (listings_of node.problem op) l = subst (λ (o : Op). Contains (listings_of node.problem o) l) same_op of.lists.1 in
+      let found : slice_get each l.resource ≡ Some list = ap (slice_get each) of.lists.2 ∙ at in
+      let met = is.met l list there found y other among_y (subst (λ (o : Op). o.train < y.op.train) same_op trains) holds_y in
+      let held : hold_with x span ≡ one = same_Some (hold_with x span) one (sym (ap (option_map (hold_with x)) (ap (λ (k : ℕ). get_or spans k None) of_n ∙ runs)) ∙ holds_x) in
+      subst (λ (h : Hold). HoldMeets node h other seen) (ap (λ (o : Op). record { op = o; span = span; release = l.release }) (sym same_op) ∙ ap (λ (q : ℕ). record { op = x.op; span = span; release = q }) of.lists.3 ∙ held) met
 
-pub seen_apart : (node : Node) (each : List (Vec Holder)) (spans : List (Option Span)) (n : ℕ) (op : Op) (span : Span) (seen : Seen)
-    → AreSound node.problem each → IsAtNumber node.problem op n → get_or spans n None ≡ Some span
-    → IsSeenBy node each spans op span (listings_of node.problem op) seen → seen.apart ≡ true
-    → StandsApart each spans n
-seen_apart node each spans n op span seen sound is_at runs is apart r list x y one other at among_x among_y of_n trains holds_x holds_y =
-    (met_at node each spans n op span seen sound is_at runs is r list x y one other at among_x among_y of_n trains holds_x holds_y).apart apart
+  pub seen_settled : seen.first ≡ None → StandsSettled node each spans n
+  seen_settled none r list x y one other at among_x among_y of_n trains holds_x holds_y =
+      elim (met_at r list x y one other at among_x among_y of_n trains holds_x holds_y).settled [
+        | inl settled ↦ settled
+        | inr up ↦ absurd (subst (λ (o : Option Meeting). IsMeetingUpTo o other.op) none up)
+      ]
+
+  pub seen_apart : seen.apart ≡ true → StandsApart each spans n
+  seen_apart apart r list x y one other at among_x among_y of_n trains holds_x holds_y =
+      (met_at r list x y one other at among_x among_y of_n trains holds_x holds_y).apart apart

@@ -32,10 +32,12 @@ use Rattle.search_crew.specs.Working.{IsAtWork}
 -- ---- what grew below a lesser cost grew below a greater
 
 module _ (best other : Option ℕ) (less : IsBestNoMore best other) (rule : Rule) where
-  helps_more : (node : Node) (choice : Choice) → Helps rule best node choice → Helps rule other node choice
+  helps_more : (node : Node) (choice : Choice) → Helps rule best node choice
+      → Helps rule other node choice
   helps_more node choice is = record { alive = is.alive; picked = is.picked; bound = is.bound; bound_is = is.bound_is; below = less is.bound is.below }
 
-  pub grows_more : (places : List Node) (tree : List TreeNode) (bounds : List ℕ) → GrowsBelow rule best places tree bounds → GrowsBelow rule other places tree bounds
+  pub grows_more : (places : List Node) (tree : List TreeNode) (bounds : List ℕ)
+      → GrowsBelow rule best places tree bounds → GrowsBelow rule other places tree bounds
   grows_more [] [] [] is = tt
   grows_more [] [] (bound ∷ bounds) is = absurd is
   grows_more [] (top ∷ tree) bounds is = absurd is
@@ -48,7 +50,8 @@ module _ (best other : Option ℕ) (less : IsBestNoMore best other) (rule : Rule
 -- ---- what the board asks
 
 -- a plan of an edition stays one while the pass sees more
-pub plan_on : (before after : Pass) → PassGoesOn before after → (edition : ℕ) (plan : List Event) → IsPlanFor (known before) edition plan → IsPlanFor (known after) edition plan
+pub plan_on : (before after : Pass) → PassGoesOn before after → (edition : ℕ) (plan : List Event)
+    → IsPlanFor (known before) edition plan → IsPlanFor (known after) edition plan
 plan_on before after on edition plan is = record {
   terms = is.terms;
   terms_are = on.role.terms ∙ is.terms_are;
@@ -58,8 +61,10 @@ plan_on before after on edition plan is = record {
 }
 
 -- a plan that is valid at a node of the board's problem under an edition's fixings is one of that edition
-pub plan_at : (board : Board) (rule : Rule) (edition : ℕ) (pass : Pass) → IsAtWork board rule edition pass → (node : Node)
-    → node ≡ node_at (problem_of board) (fixings_after edition (known pass).seen) node.decisions → (plan : List Event) → IsPlanAt node plan → IsPlanFor (known pass) edition plan
+pub plan_at : (board : Board) (rule : Rule) (edition : ℕ) (pass : Pass)
+    → IsAtWork board rule edition pass → (node : Node)
+    → node ≡ node_at (problem_of board) (fixings_after edition (known pass).seen) node.decisions
+    → (plan : List Event) → IsPlanAt node plan → IsPlanFor (known pass) edition plan
 plan_at board rule edition pass at node same plan is =
     let here = subst (λ (n : Node). IsPlanAt n plan) same is in record {
       terms = at.searcher.terms;
@@ -74,7 +79,8 @@ module _ (board : Board) (rule : Rule) (pass : Pass) (work : Work) (at : IsAtWor
   abbrev pub node : Node
   node = node_at (problem_of board) (fixings_after work.edition (known pass).seen) work.decisions
 
-  pub growth_of : (nodes : List TreeNode) (bounds : List ℕ) (plan : Option (List Event)) → IsGrownFor rule node work (growth.Subtree nodes bounds plan)
+  pub growth_of : (nodes : List TreeNode) (bounds : List ℕ) (plan : Option (List Event))
+      → IsGrownFor rule node work (growth.Subtree nodes bounds plan)
       → IsGrowthOf (known pass) (record { work = work; subtree = nodes; bounds = bounds })
   growth_of nodes bounds plan is = record {
     terms = at.searcher.terms;
@@ -95,7 +101,8 @@ module _ (board : Board) (rule : Rule) (pass : Pass) (work : Work) (at : IsAtWor
         (subst (λ (p : Problem). IsExamined rule (node_at p (fixings_after work.edition (known pass).seen) work.decisions) work.bound) (sym at.problem) is.grown.1);
   }
 
-  pub plan_with : (nodes : List TreeNode) (bounds : List ℕ) (plan : Option (List Event)) → IsGrownFor rule node work (growth.Subtree nodes bounds plan)
-      → (found : List Event) → plan ≡ Some found → IsPlanFor (known pass) work.edition found
+  pub plan_with : (nodes : List TreeNode) (bounds : List ℕ) (plan : Option (List Event))
+      → IsGrownFor rule node work (growth.Subtree nodes bounds plan) → (found : List Event)
+      → plan ≡ Some found → IsPlanFor (known pass) work.edition found
   plan_with nodes bounds plan is found same =
       plan_at board rule work.edition pass at node refl found (plan_of rule node is.best work.allowance work.bound nodes bounds plan is.grown.2 found same)

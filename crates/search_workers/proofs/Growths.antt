@@ -29,14 +29,20 @@ use Rattle.near_plans.proofs.Finding.{earliest_within, small_beside}
 use Rattle.search_workers.specs.Grown.{GrowthEnds, IsGrownOf}
 
 -- the plan starts nothing past the horizon
-plan_within : (rule : Rule) (node : Node) (best : Option ℕ) (nodes : List TreeNode) (bounds : List ℕ) (plan : List Event) → IsOfEdition node → EndsInPlan rule node best nodes bounds plan → All (λ e. e.time ≤ horizon node.problem.trains) plan
+plan_within : (rule : Rule) (node : Node) (best : Option ℕ) (nodes : List TreeNode)
+    (bounds : List ℕ) (plan : List Event)
+    → IsOfEdition node → EndsInPlan rule node best nodes bounds plan
+    → All (λ e. e.time ≤ horizon node.problem.trains) plan
 plan_within rule node best nodes bounds plan edition ends =
     subst (λ (p : Problem). All (λ e. e.time ≤ horizon p.trains) plan) ends.last.below.problem
     (earliest_within ends.here plan (small_beside node ends.here edition ends.last.below.fixings) ends.earliest)
 
 -- a leaf that shows that the node is dead
-pub alone_grows : (rule : Rule) (node : Node) (best : Option ℕ) (allowance bound : ℕ) (leaf : TreeLeaf) → IsDeadLeaf node leaf
-    → (grown : Growth) → grown ≡ growth.Subtree (Leaf leaf ∷ []) (0 ∷ []) None → IsGrownOf rule node best allowance bound grown
+pub alone_grows : (rule : Rule) (node : Node) (best : Option ℕ) (allowance bound : ℕ)
+    (leaf : TreeLeaf)
+    → IsDeadLeaf node leaf → (grown : Growth)
+    → grown ≡ growth.Subtree (Leaf leaf ∷ []) (0 ∷ []) None
+    → IsGrownOf rule node best allowance bound grown
 alone_grows rule node best allowance bound leaf is grown same =
     subst (IsGrownOf rule node best allowance bound) (sym same) (leaf_alone rule best node leaf 0 (grown_leaf rule node (Dead leaf) is), omega arith, inl closed)
   where
@@ -44,23 +50,28 @@ alone_grows rule node best allowance bound leaf is grown same =
     closed = record { here = node; last = alone_last rule best node (Dead leaf) is; closed = inl is.dead }
 
 -- one number among others, where there are no others
-one_alone : (before : List ℕ) (b : ℕ) (behind : List ℕ) (bound : ℕ) → before ++ b ∷ behind ≡ bound ∷ [] → b ≡ bound
+one_alone : (before : List ℕ) (b : ℕ) (behind : List ℕ) (bound : ℕ)
+    → before ++ b ∷ behind ≡ bound ∷ [] → b ≡ bound
 one_alone [] b behind bound is = ap (λ (l : List ℕ). get_or l 0 0) is
 one_alone (x ∷ before) b behind bound is = absurd (omega (arith, ap (λ (l : List ℕ). length l) is, length-append before (b ∷ behind)))
 
 module _ (rule : Rule) (node : Node) (best : Option ℕ) (allowance bound : ℕ) (dive : Dive) (is : IsDive rule node best allowance dive) where
-  end_of : (end : End) → dive.end ≡ end → IsEndOf rule node best allowance dive.nodes dive.bounds end
+  end_of : (end : End) → dive.end ≡ end
+      → IsEndOf rule node best allowance dive.nodes dive.bounds end
   end_of end same = subst (λ (e : End). IsEndOf rule node best allowance dive.nodes dive.bounds e) same is.ends
 
   -- the last node needs no branch
-  pub when_closed : dive.end ≡ ends.Closed → IsGrownOf rule node best allowance bound (growth.Subtree dive.nodes dive.bounds None)
+  pub when_closed : dive.end ≡ ends.Closed
+      → IsGrownOf rule node best allowance bound (growth.Subtree dive.nodes dive.bounds None)
   when_closed end = (is.grows, is.few, inl (end_of ends.Closed end))
 
   -- it is left open
-  pub when_open : dive.end ≡ ends.Open → (allowance ≡ 0 → dive.bounds ≡ bound ∷ [] → ⊥) → IsGrownOf rule node best allowance bound (growth.Subtree dive.nodes dive.bounds None)
+  pub when_open : dive.end ≡ ends.Open → (allowance ≡ 0 → dive.bounds ≡ bound ∷ [] → ⊥)
+      → IsGrownOf rule node best allowance bound (growth.Subtree dive.nodes dive.bounds None)
   when_open end grown = (is.grows, is.few, inr (record { ends = end_of ends.Open end; not_as_before = grown }))
 
-  pub with_plan : IsOfEdition node → (plan : List Event) → dive.end ≡ ends.Plan plan → IsGrownOf rule node best allowance bound (growth.Subtree dive.nodes dive.bounds (Some plan))
+  pub with_plan : IsOfEdition node → (plan : List Event) → dive.end ≡ ends.Plan plan
+      → IsGrownOf rule node best allowance bound (growth.Subtree dive.nodes dive.bounds (Some plan))
   with_plan edition plan end = (is.grows, is.few, (here, in_plan))
     where
       in_plan : EndsInPlan rule node best dive.nodes dive.bounds plan
@@ -70,7 +81,8 @@ module _ (rule : Rule) (node : Node) (best : Option ℕ) (allowance bound : ℕ)
       here = record { valid = in_plan.valid; within = plan_within rule node best dive.nodes dive.bounds plan edition in_plan }
 
   -- the leaf stays with its bound
-  pub stays_examined : dive.end ≡ ends.Open → allowance ≡ 0 → dive.bounds ≡ bound ∷ [] → IsGrownOf rule node best allowance bound growth.Examined
+  pub stays_examined : dive.end ≡ ends.Open → allowance ≡ 0 → dive.bounds ≡ bound ∷ []
+      → IsGrownOf rule node best allowance bound growth.Examined
   stays_examined end none only = (
     none,
     subst (λ (n : Node). IsExamined rule n bound) at_root (record {

@@ -12,7 +12,10 @@ use Rattle.deeper_nodes.proofs.Staying.{leaf_stays}
 use Rattle.node_leaves.specs.Shown.{IsDeadLeaf}
 
 -- a leaf that shows that a node is dead shows it of the nodes below
-pub dead_below : (problem : Problem) (fixings : List Fixing) (decisions more : List Decision) (leaf : TreeLeaf) → IsDeadLeaf (node_at problem fixings decisions) leaf → IsDeadLeaf (node_at problem fixings (decisions ++ more)) leaf
+pub dead_below : (problem : Problem) (fixings : List Fixing) (decisions more : List Decision)
+    (leaf : TreeLeaf)
+    → IsDeadLeaf (node_at problem fixings decisions) leaf
+    → IsDeadLeaf (node_at problem fixings (decisions ++ more)) leaf
 dead_below problem fixings decisions more leaf is =
     let tighter = more_decided (node_at problem fixings decisions) more in
     record {
@@ -28,11 +31,14 @@ module _ (problem : Problem) (fixings : List Fixing) (decisions : List Decision)
   further = ap (λ (n : Node). with_decision n (get_or decisions k d)) at ∙ ap (λ (ds : List Decision). node_at problem fixings ds) (sym (take_more decisions k d lt))
 
   -- it is one further with the next
-  pub one_further : (after : Node) → after ≡ with_decision graph (get_or decisions k d) → after ≡ node_at problem fixings (take (k + 1) decisions)
+  pub one_further : (after : Node) → after ≡ with_decision graph (get_or decisions k d)
+      → after ≡ node_at problem fixings (take (k + 1) decisions)
   one_further after is = is ∙ further
 
   -- where the next is refused, the node of them all is dead
-  pub refused_further : (leaf : TreeLeaf) → IsDeadLeaf (with_decision graph (get_or decisions k d)) leaf → IsDeadLeaf (node_at problem fixings decisions) leaf
+  pub refused_further : (leaf : TreeLeaf)
+      → IsDeadLeaf (with_decision graph (get_or decisions k d)) leaf
+      → IsDeadLeaf (node_at problem fixings decisions) leaf
   refused_further leaf is =
       subst (λ (ds : List Decision). IsDeadLeaf (node_at problem fixings ds) leaf) (take-append-drop (k + 1) decisions)
       (dead_below problem fixings (take (k + 1) decisions) (drop (k + 1) decisions) leaf (subst (λ (n : Node). IsDeadLeaf n leaf) further is))

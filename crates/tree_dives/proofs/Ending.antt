@@ -30,11 +30,13 @@ use Rattle.tree_dives.specs.declared.stage.End.TheVariants.{Closed, Plan, Open}
 use Rattle.tree_dives.proofs.Growing.{grown, completes_first, below_itself, grows_with_leaf, branches_append, branches_leaf, branches_back}
 
 -- as many branches as the sides have
-pub whole_count : (sides : Sides) → branches (sides.before ++ reverse sides.behind) ≡ branches_in sides
+pub whole_count : (sides : Sides)
+    → branches (sides.before ++ reverse sides.behind) ≡ branches_in sides
 whole_count sides = omega (arith, branches_append sides.before (reverse sides.behind), branches_back sides.behind)
 
 -- a leaf that fills the place which is left stands at its node
-pub stands_there : (rule : Rule) (best : Option ℕ) (root here : Node) (sides : Sides) → Completes rule best root here sides → (shown : NodeLeaf) → IsLeafOf rule here shown
+pub stands_there : (rule : Rule) (best : Option ℕ) (root here : Node) (sides : Sides)
+    → Completes rule best root here sides → (shown : NodeLeaf) → IsLeafOf rule here shown
     → IsLeafAt rule best root here ((with_leaf sides shown).before ++ reverse sides.behind) ((with_leaf sides shown).before_bounds ++ reverse sides.behind_bounds)
 stands_there rule best root here sides complete shown is = record {
   sides = sides;
@@ -47,7 +49,9 @@ stands_there rule best root here sides complete shown is = record {
 }
 
 -- where nothing is branched a leaf alone is that of the last node
-pub alone_last : (rule : Rule) (best : Option ℕ) (root : Node) (shown : NodeLeaf) → IsLeafOf rule root shown → IsLastOf rule best root root (Leaf (leaf_held shown) ∷ []) (bound_in shown ∷ [])
+pub alone_last : (rule : Rule) (best : Option ℕ) (root : Node) (shown : NodeLeaf)
+    → IsLeafOf rule root shown
+    → IsLastOf rule best root root (Leaf (leaf_held shown) ∷ []) (bound_in shown ∷ [])
 alone_last rule best root shown is = record {
   below = below_itself root;
   deep = omega arith;
@@ -55,7 +59,9 @@ alone_last rule best root shown is = record {
 }
 
 -- and the last node is the root
-pub last_is_root : (rule : Rule) (best : Option ℕ) (root here : Node) (nodes : List TreeNode) (bounds : List ℕ) → IsLastOf rule best root here nodes bounds → branches nodes ≡ 0 → here ≡ root
+pub last_is_root : (rule : Rule) (best : Option ℕ) (root here : Node) (nodes : List TreeNode)
+    (bounds : List ℕ)
+    → IsLastOf rule best root here nodes bounds → branches nodes ≡ 0 → here ≡ root
 last_is_root rule best root here nodes bounds is none =
     let level : length here.decisions ≡ length root.decisions = omega (arith, is.deep, none) in
     let same : here.decisions ≡ root.decisions = sym (take_all (length root.decisions) here.decisions (omega (arith, level))) ∙ is.below.first in
@@ -63,7 +69,8 @@ last_is_root rule best root here nodes bounds is none =
     ∙ ap (λ (ds : List Decision). node_at root.problem root.fixings ds) same
 
 -- it adds no branch
-pub leaf_count : (sides : Sides) (shown : NodeLeaf) → branches_in (with_leaf sides shown) ≡ branches_in sides
+pub leaf_count : (sides : Sides) (shown : NodeLeaf)
+    → branches_in (with_leaf sides shown) ≡ branches_in sides
 leaf_count sides shown = ap (λ n. n + branches sides.behind) (branches_leaf sides.before (leaf_held shown))
 
 module _ (rule : Rule) (best : Option ℕ) (root : Node) (allowance : ℕ) (here : Node) (below : IsBelowNode root here) (sides : Sides)
@@ -76,7 +83,8 @@ module _ (rule : Rule) (best : Option ℕ) (root : Node) (allowance : ℕ) (here
   last = record { below = below; deep = deep ∙ ap (λ n. length root.decisions + n) (sym all); stands = rw (whole.nodes, whole.bounds) stands }
 
   -- no place is left, and a leaf stands at the last node
-  ended_dive : IsEndOf rule root best allowance dive.nodes dive.bounds end → IsDive rule root best allowance dive
+  ended_dive : IsEndOf rule root best allowance dive.nodes dive.bounds end
+      → IsDive rule root best allowance dive
   ended_dive ends = record {
     grows = grows_with_leaf rule best root here dive.nodes dive.bounds last.stands;
     few = omega (arith, all, few);
@@ -84,7 +92,8 @@ module _ (rule : Rule) (best : Option ℕ) (root : Node) (allowance : ℕ) (here
   }
 
   -- its plan is valid for the root, and costs the bound of its leaf
-  ends_in_plan : (plan : List Event) → HasPlan rule best here plan → EndsInPlan rule root best dive.nodes dive.bounds plan
+  ends_in_plan : (plan : List Event) → HasPlan rule best here plan
+      → EndsInPlan rule root best dive.nodes dive.bounds plan
   ends_in_plan plan has = record {
     valid = subst (λ (p : Problem). IsValid p root.fixings plan) below.problem (subst (λ f. IsValid here.problem f plan) below.fixings valid_here);
     better = subst (λ n. IsBoundBelow n best) (sym cost) has.below;
@@ -105,13 +114,15 @@ module _ (rule : Rule) (best : Option ℕ) (root : Node) (allowance : ℕ) (here
   pub ended_there : EndsThere rule best here end → IsDive rule root best allowance dive
   ended_there there = ended_dive (ends end there)
     where
-      ends : (e : End) → EndsThere rule best here e → IsEndOf rule root best allowance dive.nodes dive.bounds e
+      ends : (e : End) → EndsThere rule best here e
+          → IsEndOf rule root best allowance dive.nodes dive.bounds e
       ends Closed closed = record { here = here; last = last; closed = closed }
       ends (Plan plan) has = ends_in_plan plan has
       ends Open never = absurd never
 
   -- the whole allowance is spent, and there is more to branch
-  pub spent_there : (choice : Choice) → Helps rule best here choice → count ≡ allowance → end ≡ Open → IsDive rule root best allowance dive
+  pub spent_there : (choice : Choice) → Helps rule best here choice → count ≡ allowance → end ≡ Open
+      → IsDive rule root best allowance dive
   spent_there choice helps spent is_open =
       ended_dive (subst (IsEndOf rule root best allowance dive.nodes dive.bounds) (sym is_open)
       (record { all = all ∙ spent; here = here; last = last; choice = choice; helps = helps }))
