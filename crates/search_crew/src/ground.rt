@@ -49,9 +49,9 @@ pub(crate) fn lesser(best: Option<u64>, other: Option<u64>) -> Option<u64>
     ensures one { (result ≡ best) ⊎ (result ≡ other) }
 {
     match (best, other) {
-        (Some(cost), Some(least)) => Some(cost.min(least)),
-        (None, least) => least,
-        (cost, None) => cost,
+        (Some(cost), Some(least)) if cost <= least => best,
+        (_, None) => best,
+        _ => other,
     }
 }
 
