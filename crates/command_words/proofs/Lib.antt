@@ -1,2 +1,3 @@
+mod Building
 mod Rows
 mod Commands

@@ -50,7 +50,6 @@ fn refusal(alloc: Global, error: &Error) -> WordsNo
 }
 
 /// The value that clap finds for an argument, if there is one.
-#[tactic(auto, using(crate::proofs::Rows::first_is))]
 fn value<'a>(found: &ArgMatches<'a>, id: &str) -> Option<&'a str>
     ensures { option_map (λ text. text.now) result
         ≡ first_of id.now (rows_of (found_of found.now)) }
