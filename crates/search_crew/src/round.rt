@@ -3,11 +3,12 @@ ghost use Rattle.disp_model.specs.declared.fixing.Fixing.{Fixing as FixingOf};
 ghost use Rattle.disp_model.specs.declared.answer.Answer.{Answer as AnswerOf};
 ghost use Rattle.disp_model.specs.declared.settings.Rule.{Rule as RuleOf};
 ghost use Rattle.disp_model.specs.History.{fixings_after};
+ghost use Rattle.incumbent_cell.specs.Cell.{knowledge_of};
 ghost use Rattle.node_leaves.specs.Reckoned.{ReckonsFor};
 ghost use Rattle.shared_board.specs.Board.{board_of, problem_of, own_board, known};
 ghost use Rattle.shared_board.specs.Calls.{IsSearcher};
 ghost use Rattle.search_crew.specs.Crews.{IsHandOf, IsSameHand};
-ghost use Rattle.search_crew.specs.Grounds.{IsGround, IsBestNoMore};
+ghost use Rattle.search_crew.specs.Grounds.{IsGround, IsBestNoMore, IsCutoff};
 ghost use Rattle.search_crew.specs.Turns.{IsCrewTurn};
 ghost use Rattle.search_crew.specs.Working.{IsAnswered, IsAtWork, KeepsOn};
 
@@ -31,7 +32,8 @@ struct Outdated;
 fn cutoff(crew: &Crew, hand: &mut Hand, work: &Work) -> Result<Option<u64>, Outdated>
     requires { IsHandOf crew.now hand.old }
     ensures hand { IsSameHand hand.old hand.new }
-    ensures best { IfOk result (λ best. IsBestNoMore best work.now.best) }
+    ensures no_more { IfOk result (λ best. IsBestNoMore best work.now.best) }
+    ensures told { IfOk result (IsCutoff work.now (knowledge_of hand.old.cell)) }
 {
     let (newest, least) = crew.least.least(&mut hand.cell);
     if work.edition < newest {
