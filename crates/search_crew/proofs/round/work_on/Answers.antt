@@ -21,7 +21,7 @@ hand_in-requires-clause-grown g c =
     let on = subst (λ (p : Problem). IsGround p fixings c.args.ground.now) (sym c.problem.ensures) c.requires.ground in
     let grown = subst (λ (p : Problem). IfOk c.grow-growth.result (IsGrownOf rule (node_at p fixings work.decisions) c.in-Ok.best work.allowance work.bound)) c.problem.ensures (c.grow-growth.ensures.grown fixings on) in
     IfOk-weaker c.grow-growth.result _ _
-    (λ one is. (rule, c.requires.at, (c.in-Ok.best, c.in-Ok.ensures.best, is))) grown
+    (λ one is. (rule, c.requires.at, record { best = c.in-Ok.best; no_more = c.in-Ok.ensures.no_more; grown = is })) grown
 
 pub returns-in-Ok-clause-ground : goal.returns-in-Ok-clause-ground
 returns-in-Ok-clause-ground g c = λ fixings is.
