@@ -1,32 +1,41 @@
 // Faults of small trains, and the greatest cost. What a reader finds by these calls is tested
 // there.
 use disp_model::{Component, GREATEST_NUMBER, List, Operation, Train};
-use std::test::Fail;
+use std::alloc::Global;
+use std::panic::Expect;
+use std::process::Abort;
 use train_graphs::{first_loop, first_not_entered, first_not_left, greatest_sum};
 
-#[test]
-fn a_train_with_two_exits_is_found(rt: HostRuntime) -> Result<(), Fail> {
-    let alloc = rt.alloc();
-    let mut train: Train = List::new(alloc);
-    for _ in 0..2u32 {
-        train.push(Operation {
-            lower: 0,
-            upper: None,
-            min: 5,
-            listings: List::new(alloc),
-            next: List::new(alloc),
-        })?;
+/// An operation without successors.
+fn exit(alloc: Global) -> Operation {
+    Operation {
+        lower: 0,
+        upper: None,
+        min: 5,
+        listings: List::new(alloc),
+        next: List::new(alloc),
     }
-    let trains = vec![in alloc; train]?;
-    assert_eq!(rt; first_not_left(trains.as_slice()), Some((0, 2)));
-    Ok(())
+}
+
+/// A train of two exits.
+fn two_exits(rt: &impl Abort, alloc: Global) -> Train {
+    let operations = vec![in alloc; exit(alloc), exit(alloc)];
+    List::from_vec(operations.expect(rt, "operations"))
 }
 
 #[test]
-fn no_train_has_no_fault(rt: HostRuntime) -> Result<(), Fail> {
-    assert_eq!(rt; first_not_entered(rt.alloc(), &[])?, None);
-    assert_eq!(rt; first_loop(rt.alloc(), &[])?, None);
-    Ok(())
+fn a_train_with_two_exits_is_found(rt: HostRuntime) {
+    let train = two_exits(&rt, rt.alloc());
+    let trains = vec![in rt.alloc(); train].expect(&rt, "trains");
+    assert_eq!(rt; first_not_left(trains.as_slice()), Some((0, 2)));
+}
+
+#[test]
+fn no_train_has_no_fault(rt: HostRuntime) {
+    let entered = first_not_entered(rt.alloc(), &[]).expect(&rt, "an answer");
+    assert_eq!(rt; entered, None);
+    let loops = first_loop(rt.alloc(), &[]).expect(&rt, "an answer");
+    assert_eq!(rt; loops, None);
 }
 
 #[test]
