@@ -3,7 +3,9 @@ ghost use Rattle.std.specs.Prelude.{◌≡◌, length};
 
 use disp_model::{Decision, Fixing, Op, Problem};
 use event_graph::Graph;
+use incremental_paths::Arc;
 use std::alloc::Global;
+use std::panic::Expect;
 use std::process::Abort;
 
 /// The graph where nothing is fixed or decided.
@@ -38,6 +40,26 @@ pub(super) fn extend(rt: &impl Abort, graph: &mut Graph, decision: Decision)
 {
     let added = graph.extend(decision);
     assert!(rt; added.is_ok());
+}
+
+/// Adds a decision that is not refused, where there is one.
+pub(super) fn extend_by(rt: &impl Abort, graph: &mut Graph, decision: Option<Decision>)
+    ensures { graph.new.problem ≡ graph.old.problem }
+{
+    match decision {
+        Some(decision) => extend(rt, graph, decision),
+        None => {}
+    }
+}
+
+/// Arcs as a text: from, to and length of each.
+pub(super) fn shown_arcs(rt: &impl Abort, alloc: Global, arcs: &[Arc]) -> String {
+    let mut text = String::new(alloc);
+    for arc in arcs {
+        let Arc { from, to, length } = *arc;
+        write!(text, "{from}-{to}:{length} ").expect(rt, "a text");
+    }
+    text
 }
 
 pub(super) fn op(train: u32, op: u32) -> Op {

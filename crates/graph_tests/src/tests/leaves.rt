@@ -7,7 +7,6 @@ use share_leaves::short_bound;
 use std::alloc::Global;
 use std::panic::Expect;
 use std::process::Abort;
-use std::test::Fail;
 use worked_problems::{dear_fork, forked, two_trains};
 
 /// At the root the bound is this one, shown by so many walks, and so many trains with so many walks
@@ -28,7 +27,7 @@ fn check(rt: &impl Abort, alloc: Global, problem: &Problem, wanted: (u64, usize,
 // A forced component is walked to. A train is listed where each of its routes costs more than what
 // it must pay, without a walk where it is on time.
 #[test]
-fn leaves_of_shares_are_short(rt: HostRuntime) -> Result<(), Fail> {
+fn leaves_of_shares_are_short(rt: HostRuntime) {
     for (problem, wanted) in [
         (two_trains(rt.alloc()), (14, 2, 0, 0)),
         (forked(rt.alloc()), (3, 1, 0, 0)),
@@ -36,5 +35,4 @@ fn leaves_of_shares_are_short(rt: HostRuntime) -> Result<(), Fail> {
     ] {
         check(&rt, rt.alloc(), &problem.expect(&rt, "a problem"), wanted);
     }
-    Ok(())
 }

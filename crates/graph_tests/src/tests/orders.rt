@@ -2,38 +2,27 @@
 ghost use Rattle.std.specs.Prelude.{◌≡◌, Some};
 ghost use Rattle.worked_problems.specs.Worked.{blocked_trains};
 
-use super::graphs::{extend, op, order, root};
-use disp_model::{Decision, Memory, Op};
+use super::graphs::{extend, op, order, root, shown_arcs};
+use disp_model::{Decision, Op};
 use event_graph::{ExtendNo, Graph};
-use incremental_paths::Arc;
 use std::alloc::Global;
 use std::panic::Expect;
 use std::process::Abort;
-use std::test::Fail;
 use worked_problems::two_trains_until;
 
-/// The arcs as a text: from, to and length of each.
-fn shown(alloc: Global, graph: &Graph) -> Result<String, Memory> {
-    let mut text = String::new(alloc);
-    for arc in graph.paths().arcs() {
-        let Arc { from, to, length } = *arc;
-        text.push_str(format!(in alloc; "{from}-{to}:{length} ")?.as_str())?;
-    }
-    Ok(text)
-}
-
 fn check_arcs(rt: &impl Abort, alloc: Global, graph: &Graph, wanted: &str) {
-    let text = shown(alloc, graph).expect(rt, "a text");
+    let text = shown_arcs(rt, alloc, graph.paths().arcs());
     assert_eq!(rt; text.as_str(), wanted);
 }
 
 /// Which refusal it is.
-fn refusal(alloc: Global, no: ExtendNo) -> Result<String, Memory> {
-    match no {
-        ExtendNo::NoRoute(train) => Ok(format!(in alloc; "no route of {train}")?),
-        ExtendNo::Cycle(_) => Ok(String::from_str(alloc, "cycle")?),
-        ExtendNo::Memory => Ok(String::from_str(alloc, "memory")?),
-    }
+fn refusal(rt: &impl Abort, alloc: Global, no: ExtendNo) -> String {
+    let text = match no {
+        ExtendNo::NoRoute(train) => format!(in alloc; "no route of {train}"),
+        ExtendNo::Cycle(_) => String::from_str(alloc, "cycle"),
+        ExtendNo::Memory => String::from_str(alloc, "memory"),
+    };
+    text.expect(rt, "a text")
 }
 
 /// The decision is refused in these words.
@@ -47,7 +36,7 @@ fn check_refused(
     let Err(no) = graph.extend(decision) else {
         panic!(rt; "the decision is added");
     };
-    let text = refusal(alloc, no).expect(rt, "a text");
+    let text = refusal(rt, alloc, no);
     assert_eq!(rt; text.as_str(), wanted);
 }
 
@@ -62,11 +51,10 @@ fn check_added(rt: &impl Abort, alloc: Global, graph: &mut Graph) {
 }
 
 #[test]
-fn orders_are_added_and_refused(rt: HostRuntime) -> Result<(), Fail> {
+fn orders_are_added_and_refused(rt: HostRuntime) {
     let problem = two_trains_until(rt.alloc(), 3).expect(&rt, "two trains");
     let mut graph = root(&rt, rt.alloc(), &problem);
     check_added(&rt, rt.alloc(), &mut graph);
-    Ok(())
 }
 
 /// An order that is late, and is taken back, and then the other one.
@@ -82,11 +70,10 @@ fn check_undone(rt: &impl Abort, alloc: Global, graph: &mut Graph) {
 }
 
 #[test]
-fn the_last_order_is_taken_back(rt: HostRuntime) -> Result<(), Fail> {
+fn the_last_order_is_taken_back(rt: HostRuntime) {
     let problem = two_trains_until(rt.alloc(), 3).expect(&rt, "two trains");
     let mut graph = root(&rt, rt.alloc(), &problem);
     check_undone(&rt, rt.alloc(), &mut graph);
-    Ok(())
 }
 
 /// Whether the one train is put before the other, and the other before the one.
@@ -111,9 +98,8 @@ fn check_decided(rt: &impl Abort, graph: &mut Graph)
 }
 
 #[test]
-fn an_order_is_decided_until_it_is_taken_back(rt: HostRuntime) -> Result<(), Fail> {
+fn an_order_is_decided_until_it_is_taken_back(rt: HostRuntime) {
     let problem = two_trains_until(rt.alloc(), 3).expect(&rt, "two trains");
     let mut graph = root(&rt, rt.alloc(), &problem);
     check_decided(&rt, &mut graph);
-    Ok(())
 }

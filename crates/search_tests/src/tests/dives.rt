@@ -1,14 +1,13 @@
 // Dives from the root of a fork.
 ghost use Rattle.std.specs.Prelude.{◌≡◌};
 
-use disp_model::{Leaf, Memory, Problem, Rule, TreeNode};
+use disp_model::{Leaf, Problem, Rule, TreeNode};
 use event_graph::Graph;
 use node_leaves::Reckoning;
 use share_bound::KnownShares;
 use std::alloc::Global;
 use std::panic::Expect;
 use std::process::Abort;
-use std::test::Fail;
 use train_insertion::Target;
 use tree_dives::{Dive, End, Guide, dive};
 use worked_problems::forked;
@@ -42,16 +41,16 @@ fn shown_node(node: &TreeNode) -> &'static str {
 }
 
 /// How a dive ended, its nodes, and the bounds of its leaves.
-fn shown(alloc: Global, dive: &Dive) -> Result<String, Memory> {
-    let mut text = String::from_str(alloc, shown_end(&dive.end))?;
+fn shown(rt: &impl Abort, alloc: Global, dive: &Dive) -> String {
+    let mut text = String::from_str(alloc, shown_end(&dive.end)).expect(rt, "a text");
     for packed in dive.nodes.as_slice() {
-        let node = packed.node(alloc)?;
-        text.push_str(shown_node(&node))?;
+        let node = packed.node(alloc).expect(rt, "a node");
+        text.push_str(shown_node(&node)).expect(rt, "a text");
     }
     for bound in dive.bounds.as_slice() {
-        text.push_str(format!(in alloc; " {bound}")?.as_str())?;
+        write!(text, " {bound}").expect(rt, "a text");
     }
-    Ok(text)
+    text
 }
 
 /// A dive from the root with so many branches below the best cost gives this, and leaves the graph
@@ -72,46 +71,24 @@ fn check(
     let found = dive(
         alloc, problem, &reckoning, &mut graph, &mut known, best, allowance, &mut guide,
     );
-    let text = shown(alloc, &found.expect(rt, "a dive")).expect(rt, "a text");
-    assert_eq!(rt; text.as_str(), wanted);
-    assert_eq!(rt; graph.decisions().len(), 0);
+    let text = shown(rt, alloc, &found.expect(rt, "a dive"));
+    let decided = graph.decisions().len();
+    assert_eq!(rt; (text.as_str(), decided), (wanted, 0));
 }
 
-fn check_fork(rt: &impl Abort, alloc: Global, problem: &Problem) {
-    check(rt, alloc, problem, Rule::Fixed, None, 0, "open costs 3");
-    check(
-        rt,
-        alloc,
-        problem,
-        Rule::Fixed,
-        Some(3),
-        9,
-        "closed costs 3",
-    );
-    check(rt, alloc, problem, Rule::Free, Some(3), 9, "closed costs 3");
-    check(
-        rt,
-        alloc,
-        problem,
-        Rule::Fixed,
-        Some(5),
-        9,
-        "closed branch costs costs 5 13",
-    );
-    check(
-        rt,
-        alloc,
-        problem,
-        Rule::Fixed,
-        None,
-        1,
-        "plan branch costs costs 5 13",
-    );
-}
+/// The rule, the best cost, how many branches, and what a dive gives.
+const DIVES: &[(Rule, Option<u64>, u32, &str)] = &[
+    (Rule::Fixed, None, 0, "open costs 3"),
+    (Rule::Fixed, Some(3), 9, "closed costs 3"),
+    (Rule::Free, Some(3), 9, "closed costs 3"),
+    (Rule::Fixed, Some(5), 9, "closed branch costs costs 5 13"),
+    (Rule::Fixed, None, 1, "plan branch costs costs 5 13"),
+];
 
 #[test]
-fn the_way_that_costs_less_is_followed(rt: HostRuntime) -> Result<(), Fail> {
+fn the_way_that_costs_less_is_followed(rt: HostRuntime) {
     let problem = forked(rt.alloc()).expect(&rt, "a fork");
-    check_fork(&rt, rt.alloc(), &problem);
-    Ok(())
+    for (rule, best, allowance, wanted) in DIVES {
+        check(&rt, rt.alloc(), &problem, *rule, *best, *allowance, wanted);
+    }
 }

@@ -11,11 +11,10 @@ use packed_nodes::PackedNode;
 use std::alloc::Global;
 use std::panic::Expect;
 use std::process::Abort;
-use std::test::Fail;
 use worked_problems::no_trains;
 
 #[test]
-fn one_leaf_is_taken_and_given_back(rt: HostRuntime) -> Result<(), Fail> {
+fn one_leaf_is_taken_and_given_back(rt: HostRuntime) {
     let mut nodes = Nodes::new(rt.alloc()).expect(&rt, "a tree");
     assert_eq!(rt; nodes.bound(), Some(0));
     let Take::Taken(work) = nodes
@@ -24,9 +23,8 @@ fn one_leaf_is_taken_and_given_back(rt: HostRuntime) -> Result<(), Fail> {
     else {
         panic!(&rt; "no leaf is taken");
     };
-    assert_eq!(rt; work.node, 0);
-    assert_eq!(rt; work.allowance, 3);
-    assert_eq!(rt; nodes.allowed(), 3);
+    let seen = (work.node, work.allowance, nodes.allowed());
+    assert_eq!(rt; seen, (0, 3, 3));
     let again = nodes
         .take(rt.alloc(), None, 2, 3, 7, 0)
         .expect(&rt, "an answer");
@@ -36,7 +34,6 @@ fn one_leaf_is_taken_and_given_back(rt: HostRuntime) -> Result<(), Fail> {
         .take(rt.alloc(), None, 0, 3, 7, 0)
         .expect(&rt, "an answer");
     assert!(rt; matches!(dry, Take::Dry));
-    Ok(())
 }
 
 /// A leaf that shows no walks.
@@ -103,7 +100,7 @@ fn are_found(rt: &impl Abort, alloc: Global, nodes: &Nodes) -> bool {
 }
 
 #[test]
-fn a_branch_has_two_leaves(rt: HostRuntime) -> Result<(), Fail> {
+fn a_branch_has_two_leaves(rt: HostRuntime) {
     let alloc = rt.alloc();
     let mut nodes = Nodes::new(alloc).expect(&rt, "a tree");
     assert!(rt; grow_one(&rt, alloc, &mut nodes));
@@ -114,5 +111,4 @@ fn a_branch_has_two_leaves(rt: HostRuntime) -> Result<(), Fail> {
     assert_eq!(rt; nodes.wanted(Some(20)), Some((1, 0)));
     let tree = nodes.tree(alloc).expect(&rt, "the nodes");
     assert_eq!(rt; tree.len(), 3);
-    Ok(())
 }

@@ -22,7 +22,6 @@ use solution_verifier::Fault;
 use std::alloc::Global;
 use std::panic::Expect;
 use std::process::Abort;
-use std::test::Fail;
 use train_insertion::Target;
 use tree_dives::Guide;
 use worked_problems::two_trains;
@@ -290,8 +289,8 @@ fn check_change(rt: &impl Abort, alloc: Global, core: &mut Core)
     ensures run { IsRun core.new }
 {
     let root = taken(rt, alloc, core, 0, 0, 1);
-    assert_eq!(rt; (root.node, root.allowance, root.seen), (0, 1, 0));
-    assert_eq!(rt; root.best, None);
+    let seen = (root.node, root.allowance, root.seen, root.best);
+    assert_eq!(rt; seen, (0, 1, 0, None));
     check_take(rt, alloc, core, 0, "one out");
     check_ask(rt, alloc, core, 1, started(), "accepted 1");
     check_first(rt, alloc, core, root, "grown 1");
@@ -322,8 +321,8 @@ fn check_verdict(rt: &impl Abort, alloc: Global, core: &mut Core)
         "leaf 2 open for 18",
     );
     let leaf = taken(rt, alloc, core, 0, 1, 1);
-    assert_eq!(rt; (leaf.node, leaf.allowance, leaf.seen), (2, 1, 3));
-    assert_eq!(rt; leaf.best, Some(24));
+    let seen = (leaf.node, leaf.allowance, leaf.seen, leaf.best);
+    assert_eq!(rt; seen, (2, 1, 3, Some(24)));
     check_newest(rt, alloc, core, leaf, "grown 0");
     check(
         rt,
@@ -408,9 +407,8 @@ fn check_shares(rt: &impl Abort, alloc: Global, core: &mut Core)
     let root = taken(rt, alloc, core, 0, 0, 32);
     check_first(rt, alloc, core, root, "grown 1");
     let first = taken(rt, alloc, core, 0, 0, 2);
-    assert_eq!(rt; first.allowance, 2);
     let second = taken(rt, alloc, core, 1, 0, 2);
-    assert_eq!(rt; second.allowance, 0);
+    assert_eq!(rt; (first.allowance, second.allowance), (2, 0));
 }
 
 /// A leaf whose node is dead by a start is handed in when that was taken back: it shows nothing.
@@ -454,25 +452,23 @@ fn begun(rt: &impl Abort, alloc: Global, budget: u32) -> Core
 }
 
 #[test]
-fn a_train_starts_while_the_root_is_out(rt: HostRuntime) -> Result<(), Fail> {
+fn a_train_starts_while_the_root_is_out(rt: HostRuntime) {
     let mut core = begun(&rt, rt.alloc(), 1);
     check_change(&rt, rt.alloc(), &mut core);
     check_verdict(&rt, rt.alloc(), &mut core);
     check_end(&rt, rt.alloc(), &mut core);
-    Ok(())
 }
 
 #[test]
-fn a_start_is_taken_back_behind_a_verdict(rt: HostRuntime) -> Result<(), Fail> {
+fn a_start_is_taken_back_behind_a_verdict(rt: HostRuntime) {
     let mut core = begun(&rt, rt.alloc(), 1);
     check_change(&rt, rt.alloc(), &mut core);
     check_verdict(&rt, rt.alloc(), &mut core);
     check_withdrawal(&rt, rt.alloc(), &mut core);
-    Ok(())
 }
 
 #[test]
-fn a_start_is_taken_back_while_a_leaf_is_out(rt: HostRuntime) -> Result<(), Fail> {
+fn a_start_is_taken_back_while_a_leaf_is_out(rt: HostRuntime) {
     let mut core = begun(&rt, rt.alloc(), 1);
     check_change(&rt, rt.alloc(), &mut core);
     check_plan(
@@ -484,12 +480,10 @@ fn a_start_is_taken_back_while_a_leaf_is_out(rt: HostRuntime) -> Result<(), Fail
         "published 24",
     );
     check_late(&rt, rt.alloc(), &mut core);
-    Ok(())
 }
 
 #[test]
-fn a_budget_is_shared_out(rt: HostRuntime) -> Result<(), Fail> {
+fn a_budget_is_shared_out(rt: HostRuntime) {
     let mut core = begun(&rt, rt.alloc(), 3);
     check_shares(&rt, rt.alloc(), &mut core);
-    Ok(())
 }
