@@ -52,11 +52,11 @@ type Step = (u32, u32, u32);
 type Start = (u64, u32, u32);
 
 /// The plan under these arcs.
-fn plan_of(rt: &impl Abort, alloc: Global, arcs: &[Step]) -> Plan {
-    let problem = two_trains(alloc).expect(rt, "two trains");
-    let routes = both_routes(alloc).expect(rt, "routes");
+fn plan_of(rt: &impl Abort, alloc: Global, arcs: &[Step]) -> Result<Plan, Memory> {
+    let problem = two_trains(alloc)?;
+    let routes = both_routes(alloc)?;
     let paths = paths_of(rt, alloc, arcs);
-    earliest(alloc, &problem, &routes, &paths).expect(rt, "a plan")
+    earliest(alloc, &problem, &routes, &paths)
 }
 
 /// The events are these.
@@ -69,7 +69,7 @@ fn check_events(rt: &impl Abort, events: &[Event], wanted: &[Start]) {
 
 /// The plan under these arcs is this one.
 fn compare(rt: &impl Abort, alloc: Global, arcs: &[Step], wanted: &[Start]) {
-    let plan = plan_of(rt, alloc, arcs);
+    let plan = plan_of(rt, alloc, arcs).expect(rt, "a plan");
     check_events(rt, plan.as_slice(), wanted);
 }
 
