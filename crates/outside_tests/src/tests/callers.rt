@@ -3,16 +3,18 @@ ghost use Rattle.std.specs.Prelude.{◌≡◌, ◌≢◌, ◌<◌, ◌↔◌, �
 ghost use Rattle.std.specs.Io.KnownBytes.{append_known};
 ghost use Rattle.disp_outside.specs.Lines.{feed_lines};
 
+use super::steady_shelf;
 use disp_outside::{
     Feed, FeedLine, FeedNo, FetchNo, FileShelf, Gate, LineBuf, OpenGate, Point, Shelf, Sink,
     StandardOutput, WriteNo,
 };
 use outside_in_memory::{BrokenWrite, MemShelf, MemSink, SteadyShelf, SteadySink};
 use std::alloc::Global;
-use std::test::Fail;
+use std::panic::Expect;
+use std::process::Abort;
 use std::thread;
 
-#[derive(Clone, Copy, Debug, PartialEq, Eq)]
+#[derive(Clone, Copy, Debug, PartialEq)]
 enum PrintNo {
     Fetch(FetchNo),
     Write(WriteNo),
@@ -58,7 +60,7 @@ fn print_steadily(
 }
 
 // What the first line of the name comes to.
-fn begin<S: Shelf>(
+pub fn begin<S: Shelf>(
     alloc: Global,
     shelf: &mut S,
     name: &str,
@@ -80,88 +82,108 @@ fn begin<S: Shelf>(
     Ok(answer)
 }
 
-#[test]
-fn a_caller_sees_each_fault_of_a_feed(rt: HostRuntime) -> Result<(), Fail> {
-    let alloc = rt.alloc();
-    let mut shelf = MemShelf::new(alloc);
-    shelf.place("a", b"one\n", &[])?;
-    shelf.place("b", b"one\n", &[])?;
-    shelf.break_lines("b", &[1])?;
-    let mut line = LineBuf::new();
-    let rows = [
-        ("a", Ok(FeedLine::Got), 0),
-        ("b", Ok(FeedLine::Failed), 1),
-        ("none", Err(FeedNo::Failed), 1),
-    ];
-    for (name, want, faults) in rows {
-        assert_eq!(rt; begin(alloc, &mut shelf, name, &mut line), want, "{name}");
-        assert_eq!(rt; shelf.faults(name), faults, "{name}");
+const FIRST_LINES: &[(&str, Result<FeedLine, FeedNo>, u64)] = &[
+    ("a", Ok(FeedLine::Got), 0),
+    ("b", Ok(FeedLine::Failed), 1),
+    ("none", Err(FeedNo::Failed), 1),
+];
+
+/// Asserts what the first line of a name comes to, and how often its readings have failed then.
+pub fn check_first_line(
+    rt: &impl Abort,
+    alloc: Global,
+    shelf: &mut MemShelf,
+    row: (&str, Result<FeedLine, FeedNo>, u64),
+) {
+    let told = begin(alloc, shelf, row.0, &mut LineBuf::new());
+    assert_eq!(rt; (row.0, told, shelf.faults(row.0)), row);
+}
+
+/// The same for each row of a table.
+pub fn check_first_lines(
+    rt: &impl Abort,
+    alloc: Global,
+    shelf: &mut MemShelf,
+    rows: &[(&str, Result<FeedLine, FeedNo>, u64)],
+) {
+    for row in rows {
+        check_first_line(rt, alloc, shelf, *row);
     }
-    Ok(())
 }
 
 #[test]
-fn a_caller_sees_each_fault(rt: HostRuntime) -> Result<(), Fail> {
-    let alloc = rt.alloc();
-    let mut shelf = MemShelf::new(alloc);
-    shelf.place("a", b"abc", &[2])?;
-    shelf.place("long", b"0123456789", &[])?;
+fn a_caller_sees_each_fault_of_a_feed(rt: HostRuntime) {
+    let mut shelf = MemShelf::new(rt.alloc());
+    shelf.place("a", b"one\n", &[]).expect(&rt, "room");
+    shelf.place("b", b"one\n", &[]).expect(&rt, "room");
+    shelf.break_lines("b", &[1]).expect(&rt, "room");
+    check_first_lines(&rt, rt.alloc(), &mut shelf, FIRST_LINES);
+}
+
+const PRINTS: &[(&str, Result<(), PrintNo>, &str)] = &[
+    ("a", Ok(()), "abc"),
+    ("a", Err(PrintNo::Fetch(FetchNo::Failed)), "abc"),
+    ("a", Err(PrintNo::Write(WriteNo::Failed)), "abcab"),
+    ("long", Err(PrintNo::Fetch(FetchNo::TooLong)), "abcab"),
+    ("none", Err(PrintNo::Fetch(FetchNo::Failed)), "abcab"),
+    ("a", Ok(()), "abcababc"),
+];
+
+/// Asserts what each printing of the table answers, and what is written then.
+fn check_prints(rt: &impl Abort, alloc: Global, shelf: &mut MemShelf, out: &mut MemSink) {
+    for (name, want, written) in PRINTS {
+        let told = print_file(alloc, shelf, out, name);
+        let wanted = (*name, *want, written.as_bytes());
+        assert_eq!(rt; (*name, told, out.written()), wanted);
+    }
+}
+
+/// Asserts which faults there are then.
+fn check_faults(rt: &impl Abort, shelf: &MemShelf, out: &MemSink) {
+    let (short, long) = (shelf.faults("a"), shelf.faults("long"));
+    let faults = (short, long, shelf.faults("none"), out.faults());
+    assert_eq!(rt; faults, (1, 0, 1, 1));
+}
+
+#[test]
+fn a_caller_sees_each_fault(rt: HostRuntime) {
+    let mut shelf = MemShelf::new(rt.alloc());
+    shelf.place("a", b"abc", &[2]).expect(&rt, "room");
+    shelf.place("long", b"0123456789", &[]).expect(&rt, "room");
     let broken = [BrokenWrite { call: 2, sent: 2 }];
-    let mut out = MemSink::new(alloc, &broken)?;
-    let rows = [
-        ("a", Ok(()), "abc"),
-        ("a", Err(PrintNo::Fetch(FetchNo::Failed)), "abc"),
-        ("a", Err(PrintNo::Write(WriteNo::Failed)), "abcab"),
-        ("long", Err(PrintNo::Fetch(FetchNo::TooLong)), "abcab"),
-        ("none", Err(PrintNo::Fetch(FetchNo::Failed)), "abcab"),
-        ("a", Ok(()), "abcababc"),
-    ];
-    for (name, want, written) in rows {
-        assert_eq!(rt;
-            print_file(alloc, &mut shelf, &mut out, name),
-            want,
-            "{name}"
-        );
-        assert_eq!(rt; out.written(), written.as_bytes(), "{name}");
-    }
-    assert_eq!(rt;
-        (
-            shelf.faults("a"),
-            shelf.faults("long"),
-            shelf.faults("none")
-        ),
-        (1, 0, 1)
-    );
-    assert_eq!(rt; out.faults(), 1);
-    Ok(())
+    let mut out = MemSink::new(rt.alloc(), &broken).expect(&rt, "a sink");
+    check_prints(&rt, rt.alloc(), &mut shelf, &mut out);
+    check_faults(&rt, &shelf, &out);
+}
+
+/// Asserts that doubles that never fail print `a`, and nothing of `b`.
+fn check_steady(rt: &impl Abort, alloc: Global, shelf: &mut SteadyShelf, out: &mut SteadySink) {
+    let first = print_steadily(alloc, shelf, out);
+    let second = print_file(alloc, shelf, out, "b");
+    assert_eq!(rt; (first, second), (Ok(()), Ok(())));
+    let held = (out.written(), shelf.file("a"), shelf.file("b"));
+    let wanted = (b"abc".as_slice(), b"abc".as_slice(), b"".as_slice());
+    assert_eq!(rt; held, wanted);
 }
 
 #[test]
-fn steady_doubles_never_fail(rt: HostRuntime) -> Result<(), Fail> {
-    let alloc = rt.alloc();
-    let mut shelf = SteadyShelf::new(alloc);
-    shelf.place("a", b"abc")?;
-    let mut out = SteadySink::new(alloc);
-    assert_eq!(rt; print_steadily(alloc, &mut shelf, &mut out), Ok(()));
-    assert_eq!(rt; print_file(alloc, &mut shelf, &mut out, "b"), Ok(()));
-    assert_eq!(rt; out.written(), b"abc".as_slice());
-    assert_eq!(rt;
-        (shelf.file("a"), shelf.file("b")),
-        (b"abc".as_slice(), b"".as_slice())
-    );
-    Ok(())
+fn steady_doubles_never_fail(rt: HostRuntime) {
+    let mut shelf = steady_shelf(&rt, rt.alloc(), b"abc");
+    let mut out = SteadySink::new(rt.alloc());
+    check_steady(&rt, rt.alloc(), &mut shelf, &mut out);
 }
 
 // Two threads share a gate, and each has shelves and sinks of its own.
 #[test]
-fn threads_share_a_gate(rt: HostRuntime) -> Result<(), Fail> {
+fn threads_share_a_gate(rt: HostRuntime) {
     let alloc = rt.alloc();
     let gate = OpenGate;
     let (mut steady, mut memory) = (SteadyShelf::new(alloc), MemShelf::new(alloc));
     let mut files = FileShelf::new(alloc, rt);
-    let (mut kept, mut told) = (SteadySink::new(alloc), MemSink::new(alloc, &[])?);
+    let mut told = MemSink::new(alloc, &[]).expect(&rt, "a sink");
+    let mut kept = SteadySink::new(alloc);
     let mut printed = StandardOutput::new(rt.stdout());
-    let (first, second) = thread::join(
+    let answers = thread::join(
         &rt,
         || {
             gate.reach(Point::Line, 0);
@@ -174,7 +196,5 @@ fn threads_share_a_gate(rt: HostRuntime) -> Result<(), Fail> {
         },
     );
     let failed = Err(PrintNo::Fetch(FetchNo::Failed));
-    assert_eq!(rt; first, (Ok(()), failed));
-    assert_eq!(rt; second, failed);
-    Ok(())
+    assert_eq!(rt; answers, ((Ok(()), failed), failed));
 }

@@ -1,7 +1,9 @@
 // Files in memory.
 use disp_outside::{PutNo, Shelf};
 use outside_in_memory::MemShelf;
-use std::test::Fail;
+use std::alloc::Global;
+use std::panic::Expect;
+use std::process::Abort;
 
 // The name's file is there, with these bytes.
 fn holds(shelf: &MemShelf, name: &str, bytes: &[u8]) -> bool {
@@ -11,17 +13,30 @@ fn holds(shelf: &MemShelf, name: &str, bytes: &[u8]) -> bool {
     }
 }
 
+const PUTS: &[(&str, &str, Result<(), PutNo>)] = &[
+    ("a", "one", Ok(())),
+    ("a", "two", Err(PutNo::Failed)),
+    ("b", "three", Ok(())),
+];
+
+/// Asserts what each putting of the table answers.
+fn check_puts(rt: &impl Abort, alloc: Global, shelf: &mut MemShelf) {
+    for (name, bytes, want) in PUTS {
+        assert_eq!(rt; shelf.put(alloc, name, bytes.as_bytes()), *want);
+    }
+}
+
+/// Asserts which files there are then, and which faults.
+fn check_files(rt: &impl Abort, shelf: &MemShelf) {
+    assert!(rt; holds(shelf, "a", b"one") && holds(shelf, "b", b"three"));
+    let puts = (shelf.put_faults("a"), shelf.put_faults("b"));
+    assert_eq!(rt; (puts, shelf.faults("a")), ((1, 0), 0));
+}
+
 #[test]
-fn a_putting_in_memory_breaks_where_it_is_told_to(rt: HostRuntime) -> Result<(), Fail> {
-    let alloc = rt.alloc();
-    let mut shelf = MemShelf::new(alloc);
-    shelf.break_puts(&[2])?;
-    assert_eq!(rt; shelf.put(alloc, "a", b"one"), Ok(()));
-    assert_eq!(rt; shelf.put(alloc, "a", b"two"), Err(PutNo::Failed));
-    assert_eq!(rt; shelf.put(alloc, "b", b"three"), Ok(()));
-    assert!(rt; holds(&shelf, "a", b"one"));
-    assert!(rt; holds(&shelf, "b", b"three"));
-    assert_eq!(rt; (shelf.put_faults("a"), shelf.put_faults("b")), (1, 0));
-    assert_eq!(rt; shelf.faults("a"), 0);
-    Ok(())
+fn a_putting_in_memory_breaks_where_it_is_told_to(rt: HostRuntime) {
+    let mut shelf = MemShelf::new(rt.alloc());
+    shelf.break_puts(&[2]).expect(&rt, "room");
+    check_puts(&rt, rt.alloc(), &mut shelf);
+    check_files(&rt, &shelf);
 }
