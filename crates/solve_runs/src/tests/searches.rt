@@ -1,12 +1,8 @@
 // What is printed for problems that want a search, with fixings and budgets.
-use disp_outside::OpenGate;
-use dispatch_cli::dispatch;
-use outside_in_memory::{SteadyShelf, SteadySink};
+use super::doubles::{ends, steady, steady_beside};
 use std::process::Abort;
 use std::sync::Wait;
-use std::test::Fail;
 use std::thread::Threads;
-use word_lists::words_of;
 
 /// Two trains on one block, for 10 and for 4.
 pub(crate) const ONE_BLOCK: &str =
@@ -29,7 +25,7 @@ const EIGHTEEN: &str =
 
 /// `solve p --fixings f --rule RULE --budget B` of these files ends with this status and these
 /// lines.
-fn check_by(
+fn is_solved_by(
     rt: &(impl Threads + Wait + Sync + Abort + AllocGlobal),
     rule: &str,
     problem: &str,
@@ -37,142 +33,129 @@ fn check_by(
     budget: &str,
     status: u8,
     want: &str,
-) -> Result<(), Fail> {
-    let alloc = rt.alloc();
-    let words = words_of(
-        alloc,
-        &[
-            "solve",
-            "p",
-            "--fixings",
-            "f",
-            "--rule",
-            rule,
-            "--budget",
-            budget,
-        ],
-    )?;
-    let mut shelf = SteadyShelf::new(alloc);
-    shelf.place("p", problem.as_bytes())?;
-    shelf.place("f", fixings.as_bytes())?;
-    let mut out = SteadySink::new(alloc);
-    let done = dispatch(rt, alloc, &words, &mut shelf, &mut out, &OpenGate);
-    assert_eq!(rt; done.status, status, "{want}");
-    assert_eq!(rt; out.written(), want.as_bytes(), "{want}");
-    Ok(())
+) {
+    let mut shelf = steady_beside(rt, problem, "f", fixings);
+    let words = [
+        "solve",
+        "p",
+        "--fixings",
+        "f",
+        "--rule",
+        rule,
+        "--budget",
+        budget,
+    ];
+    ends(rt, &mut shelf, &words, status, want);
 }
 
-/// The same by both rules.
-fn check(
+/// So ends each row, of a problem, its fixings, the budget, the status and the lines, by both rules.
+fn are_solved(
     rt: &(impl Threads + Wait + Sync + Abort + AllocGlobal),
-    problem: &str,
-    fixings: &str,
-    budget: &str,
-    status: u8,
-    want: &str,
-) -> Result<(), Fail> {
-    check_by(rt, "fixed", problem, fixings, budget, status, want)?;
-    check_by(rt, "free", problem, fixings, budget, status, want)
+    rows: &[(&str, &str, &str, u8, &str)],
+) {
+    for (problem, fixings, budget, status, want) in rows {
+        is_solved_by(rt, "fixed", problem, fixings, budget, *status, want);
+        is_solved_by(rt, "free", problem, fixings, budget, *status, want);
+    }
 }
 
-#[test]
-fn problems_with_choices_are_solved(rt: HostRuntime) -> Result<(), Fail> {
-    check(&rt, ONE_BLOCK, "", "100", 0, EIGHTEEN)?;
-    check(&rt, ONE_BLOCK, "", "1", 0, EIGHTEEN)?;
-    check(
-        &rt,
+const CHOICES: &[(&str, &str, &str, u8, &str)] = &[
+    (ONE_BLOCK, "", "100", 0, EIGHTEEN),
+    (ONE_BLOCK, "", "1", 0, EIGHTEEN),
+    (
         RELEASED,
         "",
         "100",
         0,
         "edition 0\noptimal 21\n{\"events\":[{\"operation\":0,\"time\":0,\"train\":1},{\"operation\":1,\"time\":4,\"train\":1},{\"operation\":0,\"time\":7,\"train\":0},{\"operation\":1,\"time\":17,\"train\":0}],\"objective_value\":21}\n",
-    )?;
-    check(
-        &rt,
+    ),
+    (
         FORK,
         "",
         "1",
         0,
         "edition 0\noptimal 5\n{\"events\":[{\"operation\":0,\"time\":0,\"train\":0},{\"operation\":1,\"time\":0,\"train\":0},{\"operation\":3,\"time\":5,\"train\":0}],\"objective_value\":5}\n",
-    )
-}
+    ),
+];
 
 #[test]
-fn a_spent_budget_is_told(rt: HostRuntime) -> Result<(), Fail> {
-    check(
-        &rt,
+fn problems_with_choices_are_solved(rt: HostRuntime) {
+    are_solved(&rt, CHOICES);
+}
+
+const SPENT: &[(&str, &str, &str, u8, &str)] = &[
+    (
         ONE_BLOCK,
         "",
         "0",
         3,
         "edition 0\nunfinished best none bound 14 spent 0\n",
-    )?;
-    check(
-        &rt,
+    ),
+    (
         FORK,
         "",
         "0",
         3,
         "edition 0\nunfinished best none bound 3 spent 0\n",
-    )
-}
+    ),
+];
 
 #[test]
-fn fixings_change_what_is_least(rt: HostRuntime) -> Result<(), Fail> {
-    check(
-        &rt,
+fn a_spent_budget_is_told(rt: HostRuntime) {
+    are_solved(&rt, SPENT);
+}
+
+const FIXED: &[(&str, &str, &str, u8, &str)] = &[
+    (
         ONE_BLOCK,
         "started 0 0 0\nstarted 0 0 0\n",
         "100",
         0,
         "edition 1\noptimal 24\n{\"events\":[{\"operation\":0,\"time\":0,\"train\":0},{\"operation\":1,\"time\":10,\"train\":0},{\"operation\":0,\"time\":10,\"train\":1},{\"operation\":1,\"time\":14,\"train\":1}],\"objective_value\":24}\n",
-    )?;
-    check(
-        &rt,
+    ),
+    (
         FORK,
         "chosen 0 0 2\n",
         "100",
         0,
         "edition 1\noptimal 13\n{\"events\":[{\"operation\":0,\"time\":0,\"train\":0},{\"operation\":2,\"time\":0,\"train\":0},{\"operation\":3,\"time\":3,\"train\":0}],\"objective_value\":13}\n",
-    )?;
-    check(
-        &rt,
+    ),
+    (
         SWAP,
         "started 0 0 0\nstarted 1 0 0\n",
         "100",
         1,
         "edition 2\ninfeasible\n",
-    )?;
-    check(
-        &rt,
+    ),
+    (
         ONE_BLOCK,
         "started 0 0 0\nstarted 0 0 7\n",
         "100",
         2,
         "fixings line 2: refused StartedAt 0\n",
-    )
+    ),
+];
+
+#[test]
+fn fixings_change_what_is_least(rt: HostRuntime) {
+    are_solved(&rt, FIXED);
 }
 
 /// `solve p --workers W` of two trains on one block finds the same plan.
-fn check_workers(
-    rt: &(impl Threads + Wait + Sync + Abort + AllocGlobal),
-    workers: &str,
-) -> Result<(), Fail> {
-    let alloc = rt.alloc();
-    let words = words_of(alloc, &["solve", "p", "--workers", workers])?;
-    let mut shelf = SteadyShelf::new(alloc);
-    shelf.place("p", ONE_BLOCK.as_bytes())?;
-    let mut out = SteadySink::new(alloc);
-    let done = dispatch(rt, alloc, &words, &mut shelf, &mut out, &OpenGate);
-    assert_eq!(rt; done.status, 0, "{workers}");
-    assert_eq!(rt; out.written(), EIGHTEEN.as_bytes(), "{workers}");
-    Ok(())
+fn is_found_by(rt: &(impl Threads + Wait + Sync + Abort + AllocGlobal), workers: &str) {
+    let mut shelf = steady(rt, ONE_BLOCK.as_bytes());
+    ends(
+        rt,
+        &mut shelf,
+        &["solve", "p", "--workers", workers],
+        0,
+        EIGHTEEN,
+    );
 }
 
 #[test]
-fn searchers_side_by_side_find_the_same(rt: HostRuntime) -> Result<(), Fail> {
+fn searchers_side_by_side_find_the_same(rt: HostRuntime) {
     for workers in ["1", "2", "4"] {
-        check_workers(&rt, workers)?;
+        is_found_by(&rt, workers);
     }
-    Ok(())
 }
