@@ -1,54 +1,39 @@
 // What `check` prints where files are refused or cannot be read: the first one decides.
-use super::runs::{TREE, TWO, row};
-use disp_outside::{FeedNo, FetchNo, OpenGate, PutNo, Shelf};
-use dispatch_cli::dispatch;
-use outside_in_memory::{MemShelf, SteadyFeed, SteadySink};
+use super::runs::{TREE, TWO, ends, place_counted, row};
+use disp_outside::{FeedNo, FetchNo, PutNo, Shelf};
+use outside_in_memory::{MemShelf, SteadyFeed};
 use std::alloc::Global;
-use std::process::Abort;
-use std::sync::Wait;
-use std::test::Fail;
-use std::thread::Threads;
-use word_lists::words_of;
 
 const ALL: [&str; 7] = ["check", "p", "t", "--plan", "s", "--fixings", "f"];
 
-#[test]
-fn the_first_file_that_is_refused_decides(rt: HostRuntime) -> Result<(), Fail> {
-    row(&rt, &ALL, "{", "", "show\n", "{", 2, "problem: NotJson\n")?;
-    let unreadable = "fixings line 1: unreadable\n";
-    row(&rt, &ALL, TWO, "", "show\n", "{", 2, unreadable)?;
-    row(&rt, &ALL, TWO, "", "", "{", 2, "tree: Truncated\n")?;
-    row(&rt, &ALL, TWO, TREE, "", "{", 2, "plan: NotJson\n")
-}
+// A problem, a tree, fixings, and the line, where the plan is refused too.
+const REFUSED: &[(&str, &str, &str, &str)] = &[
+    ("{", "", "show\n", "problem: NotJson\n"),
+    (TWO, "", "show\n", "fixings line 1: unreadable\n"),
+    (TWO, "", "", "tree: Truncated\n"),
+    (TWO, TREE, "", "plan: NotJson\n"),
+];
 
-// The shelf gives this line and the status 4.
-fn fails(
-    rt: &(impl Threads + Wait + Sync + Abort + AllocGlobal),
-    shelf: &mut MemShelf,
-    line: &str,
-) -> Result<(), Fail> {
-    let alloc = rt.alloc();
-    let words = words_of(alloc, &ALL)?;
-    let mut out = SteadySink::new(alloc);
-    let done = dispatch(rt, alloc, &words, shelf, &mut out, &OpenGate);
-    assert_eq!(rt; out.written(), line.as_bytes(), "{line}");
-    assert_eq!(rt; done.status, 4, "{line}");
-    Ok(())
+#[test]
+fn the_first_file_that_is_refused_decides(rt: HostRuntime) {
+    for (problem, tree, fixings, line) in REFUSED {
+        row(&rt, &ALL, problem, tree, fixings, "{", 2, line);
+    }
 }
 
 #[test]
-fn the_first_file_that_cannot_be_read_is_told(rt: HostRuntime) -> Result<(), Fail> {
+fn the_first_file_that_cannot_be_read_is_told(rt: HostRuntime) {
     let mut shelf = MemShelf::new(rt.alloc());
-    fails(&rt, &mut shelf, "problem: Failed\n")?;
-    shelf.place("p", TWO.as_bytes(), &[])?;
-    fails(&rt, &mut shelf, "fixings: Failed\n")?;
-    shelf.place("f", b"", &[])?;
-    fails(&rt, &mut shelf, "tree: Failed\n")?;
-    shelf.place("t", TREE.as_bytes(), &[])?;
-    fails(&rt, &mut shelf, "plan: Failed\n")?;
-    assert_eq!(rt; (shelf.faults("p"), shelf.faults("f")), (1, 1));
-    assert_eq!(rt; (shelf.faults("t"), shelf.faults("s")), (1, 1));
-    Ok(())
+    ends(&rt, &mut shelf, &ALL, 4, "problem: Failed\n");
+    place_counted(&rt, &mut shelf, "p", TWO.as_bytes());
+    ends(&rt, &mut shelf, &ALL, 4, "fixings: Failed\n");
+    place_counted(&rt, &mut shelf, "f", b"");
+    ends(&rt, &mut shelf, &ALL, 4, "tree: Failed\n");
+    place_counted(&rt, &mut shelf, "t", TREE.as_bytes());
+    ends(&rt, &mut shelf, &ALL, 4, "plan: Failed\n");
+    let first = (shelf.faults("p"), shelf.faults("f"));
+    let last = (shelf.faults("t"), shelf.faults("s"));
+    assert_eq!(rt; (first, last), ((1, 1), (1, 1)));
 }
 
 // The two trains under each name and their tree under "t", but one file is too long.
@@ -91,30 +76,18 @@ impl Shelf for LongShelf {
     fn close(&mut self, _feed: SteadyFeed) {}
 }
 
-// Where the file of this name is too long, this is told.
-fn is_too_long(
-    rt: &(impl Threads + Wait + Sync + Abort + AllocGlobal),
-    long: &'static str,
-    line: &str,
-) -> Result<(), Fail> {
-    let alloc = rt.alloc();
-    let words = words_of(alloc, &["check", "p", "t", "--plan", "s"])?;
-    let mut out = SteadySink::new(alloc);
-    let mut shelf = LongShelf { long };
-    let done = dispatch(rt, alloc, &words, &mut shelf, &mut out, &OpenGate);
-    assert_eq!(rt; out.written(), line.as_bytes(), "{line}");
-    assert_eq!(rt; done.status, 2, "{line}");
-    Ok(())
-}
+// The file that is too long, and the line.
+const TOO_LONG: &[(&str, &str)] = &[
+    ("p", "problem: TooLong\n"),
+    ("t", "tree: TooLong\n"),
+    ("s", "plan: TooLong\n"),
+];
 
 #[test]
-fn a_file_that_is_too_long_is_told(rt: HostRuntime) -> Result<(), Fail> {
-    for (long, line) in [
-        ("p", "problem: TooLong\n"),
-        ("t", "tree: TooLong\n"),
-        ("s", "plan: TooLong\n"),
-    ] {
-        is_too_long(&rt, long, line)?;
+fn a_file_that_is_too_long_is_told(rt: HostRuntime) {
+    let words = ["check", "p", "t", "--plan", "s"];
+    for (long, line) in TOO_LONG {
+        let mut shelf = LongShelf { long };
+        ends(&rt, &mut shelf, &words, 2, line);
     }
-    Ok(())
 }

@@ -1,13 +1,12 @@
 // What `verify` prints where the plan is to meet fixings.
 use super::judged::{SECOND, TWO};
-use disp_outside::OpenGate;
-use dispatch_cli::dispatch;
-use outside_in_memory::{MemShelf, SteadySink};
+use super::runs::{ends, place_counted};
+use outside_in_memory::MemShelf;
 use std::process::Abort;
 use std::sync::Wait;
-use std::test::Fail;
 use std::thread::Threads;
-use word_lists::words_of;
+
+const VERIFY: [&str; 5] = ["verify", "p", "s", "--fixings", "f"];
 
 // The solution of cost 18 is judged so with a file of fixings.
 fn row(
@@ -15,112 +14,125 @@ fn row(
     fixings: &[u8],
     status: u8,
     line: &str,
-) -> Result<(), Fail> {
-    let alloc = rt.alloc();
-    let words = words_of(alloc, &["verify", "p", "s", "--fixings", "f"])?;
-    let mut shelf = MemShelf::new(alloc);
-    shelf.place("p", TWO.as_bytes(), &[])?;
-    shelf.place("s", SECOND.as_bytes(), &[])?;
-    shelf.place("f", fixings, &[])?;
-    let mut out = SteadySink::new(alloc);
-    let done = dispatch(rt, alloc, &words, &mut shelf, &mut out, &OpenGate);
-    assert_eq!(rt; out.written(), line.as_bytes(), "{line}");
-    assert_eq!(rt; done.status, status, "{line}");
-    Ok(())
+) {
+    let mut shelf = MemShelf::new(rt.alloc());
+    place_counted(rt, &mut shelf, "p", TWO.as_bytes());
+    place_counted(rt, &mut shelf, "s", SECOND.as_bytes());
+    place_counted(rt, &mut shelf, "f", fixings);
+    ends(rt, &mut shelf, &VERIFY, status, line);
 }
 
-#[test]
-fn fixings_are_met_or_not(rt: HostRuntime) -> Result<(), Fail> {
-    row(&rt, b"", 0, "valid 18\n")?;
-    row(&rt, b"started 0 0 0\n", 1, "FixingUnmet 1\n")?;
-    row(&rt, b"started 1 0 0\n", 0, "valid 18\n")?;
-    row(&rt, b"started 1 0 0\r\n", 0, "valid 18\n")?;
-    row(&rt, b"started 1 0 0", 0, "valid 18\n")?;
-    row(
-        &rt,
-        b"started 1 0 0\nstarted 1 0 0\nchosen 0 0 1\n",
+// Fixings, the status, and the line.
+type Row = (&'static str, u8, &'static str);
+
+// So it is in each row.
+fn rows(rt: &(impl Threads + Wait + Sync + Abort + AllocGlobal), rows: &[Row]) {
+    for (fixings, status, line) in rows {
+        row(rt, fixings.as_bytes(), *status, line);
+    }
+}
+
+const MET_OR_NOT: &[Row] = &[
+    ("", 0, "valid 18\n"),
+    ("started 0 0 0\n", 1, "FixingUnmet 1\n"),
+    ("started 1 0 0\n", 0, "valid 18\n"),
+    ("started 1 0 0\r\n", 0, "valid 18\n"),
+    ("started 1 0 0", 0, "valid 18\n"),
+    (
+        "started 1 0 0\nstarted 1 0 0\nchosen 0 0 1\n",
         0,
         "valid 18\n",
-    )
-}
+    ),
+];
 
 #[test]
-fn an_operation_starts_no_sooner(rt: HostRuntime) -> Result<(), Fail> {
-    row(&rt, b"notbefore 0 0 4\n", 0, "valid 18\n")?;
-    row(&rt, b"notbefore 0 0 5\n", 1, "FixingUnmet 1\n")?;
-    let known = b"notbefore 1 0 20\nnotbefore 1 0 20\n";
-    row(&rt, known, 1, "FixingUnmet 1\n")?;
-    let sooner = b"notbefore 1 0 20\nstarted 1 0 5\n";
-    row(&rt, sooner, 2, "fixings line 2: refused EarliestIs 20\n")?;
-    let later = b"started 1 0 20\nnotbefore 1 0 30\n";
-    row(&rt, later, 2, "fixings line 2: refused StartedAt 20\n")?;
-    row(
-        &rt,
-        b"notbefore 0 0 2147483648\n",
+fn fixings_are_met_or_not(rt: HostRuntime) {
+    rows(&rt, MET_OR_NOT);
+}
+
+const NO_SOONER: &[Row] = &[
+    ("notbefore 0 0 4\n", 0, "valid 18\n"),
+    ("notbefore 0 0 5\n", 1, "FixingUnmet 1\n"),
+    ("notbefore 1 0 20\nnotbefore 1 0 20\n", 1, "FixingUnmet 1\n"),
+    (
+        "notbefore 1 0 20\nstarted 1 0 5\n",
+        2,
+        "fixings line 2: refused EarliestIs 20\n",
+    ),
+    (
+        "started 1 0 20\nnotbefore 1 0 30\n",
+        2,
+        "fixings line 2: refused StartedAt 20\n",
+    ),
+    (
+        "notbefore 0 0 2147483648\n",
         2,
         "fixings line 1: refused TooLarge\n",
-    )
-}
+    ),
+];
 
 #[test]
-fn a_fixing_is_taken_back(rt: HostRuntime) -> Result<(), Fail> {
-    row(&rt, b"started 0 0 0\nwithdraw 1\n", 0, "valid 18\n")?;
-    row(
-        &rt,
-        b"withdraw 1\n",
+fn an_operation_starts_no_sooner(rt: HostRuntime) {
+    rows(&rt, NO_SOONER);
+}
+
+const TAKEN_BACK: &[Row] = &[
+    ("started 0 0 0\nwithdraw 1\n", 0, "valid 18\n"),
+    ("withdraw 1\n", 2, "fixings line 1: refused NoSuchChange\n"),
+    (
+        "started 0 0 0\nwithdraw 1\nwithdraw 1\n",
         2,
-        "fixings line 1: refused NoSuchChange\n",
-    )?;
-    let twice = b"started 0 0 0\nwithdraw 1\nwithdraw 1\n";
-    row(&rt, twice, 2, "fixings line 3: refused Withdrawn 2\n")?;
-    let withdrawal = b"started 0 0 0\nwithdraw 1\nwithdraw 2\n";
-    row(&rt, withdrawal, 2, "fixings line 3: refused NoSuchChange\n")
-}
+        "fixings line 3: refused Withdrawn 2\n",
+    ),
+    (
+        "started 0 0 0\nwithdraw 1\nwithdraw 2\n",
+        2,
+        "fixings line 3: refused NoSuchChange\n",
+    ),
+];
 
 #[test]
-fn a_line_that_is_not_taken_is_told(rt: HostRuntime) -> Result<(), Fail> {
-    let refused = b"started 0 0 0\nstarted 0 0 7\n";
-    row(&rt, refused, 2, "fixings line 2: refused StartedAt 0\n")?;
-    let unreadable = "fixings line 1: unreadable\n";
-    row(&rt, b"show\n", 2, unreadable)?;
-    row(&rt, b"\n", 2, unreadable)?;
-    row(&rt, b"started 0 0\n", 2, unreadable)?;
-    row(&rt, b"started 00 0 0\n", 2, unreadable)?;
-    row(&rt, b"started 0 0 0 \n", 2, unreadable)?;
-    row(&rt, b"started 0 0 18446744073709551616\n", 2, unreadable)?;
+fn a_fixing_is_taken_back(rt: HostRuntime) {
+    rows(&rt, TAKEN_BACK);
+}
+
+const NOT_TAKEN: &[Row] = &[
+    (
+        "started 0 0 0\nstarted 0 0 7\n",
+        2,
+        "fixings line 2: refused StartedAt 0\n",
+    ),
+    ("show\n", 2, "fixings line 1: unreadable\n"),
+    ("\n", 2, "fixings line 1: unreadable\n"),
+    ("started 0 0\n", 2, "fixings line 1: unreadable\n"),
+    ("started 00 0 0\n", 2, "fixings line 1: unreadable\n"),
+    ("started 0 0 0 \n", 2, "fixings line 1: unreadable\n"),
+    (
+        "started 0 0 18446744073709551616\n",
+        2,
+        "fixings line 1: unreadable\n",
+    ),
+    ("chosen 0 1 0\n", 2, "fixings line 1: refused NoSuccessor\n"),
+    (
+        "started 0 0 2147483648\n",
+        2,
+        "fixings line 1: refused TooLarge\n",
+    ),
+    ("started 2 0 0\n", 2, "fixings line 1: refused NoTrain\n"),
+];
+
+#[test]
+fn a_line_that_is_not_taken_is_told(rt: HostRuntime) {
+    rows(&rt, NOT_TAKEN);
     let long = [b'x'; 257];
-    row(&rt, &long[1..], 2, unreadable)?;
-    row(&rt, &long, 2, "fixings line 1: long\n")?;
-    row(
-        &rt,
-        b"chosen 0 1 0\n",
-        2,
-        "fixings line 1: refused NoSuccessor\n",
-    )?;
-    row(
-        &rt,
-        b"started 0 0 2147483648\n",
-        2,
-        "fixings line 1: refused TooLarge\n",
-    )?;
-    row(
-        &rt,
-        b"started 2 0 0\n",
-        2,
-        "fixings line 1: refused NoTrain\n",
-    )
+    row(&rt, &long[1..], 2, "fixings line 1: unreadable\n");
+    row(&rt, &long, 2, "fixings line 1: long\n");
 }
 
 #[test]
-fn fixings_that_cannot_be_read_are_told(rt: HostRuntime) -> Result<(), Fail> {
-    let alloc = rt.alloc();
-    let words = words_of(alloc, &["verify", "p", "s", "--fixings", "f"])?;
-    let mut shelf = MemShelf::new(alloc);
-    shelf.place("p", TWO.as_bytes(), &[])?;
-    let mut out = SteadySink::new(alloc);
-    let done = dispatch(&rt, alloc, &words, &mut shelf, &mut out, &OpenGate);
-    assert_eq!(rt; done.status, 4);
-    assert_eq!(rt; out.written(), b"fixings: Failed\n".as_slice());
+fn fixings_that_cannot_be_read_are_told(rt: HostRuntime) {
+    let mut shelf = MemShelf::new(rt.alloc());
+    place_counted(&rt, &mut shelf, "p", TWO.as_bytes());
+    ends(&rt, &mut shelf, &VERIFY, 4, "fixings: Failed\n");
     assert_eq!(rt; (shelf.faults("f"), shelf.faults("s")), (1, 0));
-    Ok(())
 }

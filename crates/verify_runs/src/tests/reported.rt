@@ -1,13 +1,12 @@
 // What `report` prints of solutions.
 use super::judged::{SECOND, TWO};
-use disp_outside::OpenGate;
-use dispatch_cli::dispatch;
-use outside_in_memory::{SteadyShelf, SteadySink};
+use super::runs::{ends, place};
+use outside_in_memory::SteadyShelf;
 use std::process::Abort;
 use std::sync::Wait;
-use std::test::Fail;
 use std::thread::Threads;
-use word_lists::words_of;
+
+const REPORT: [&str; 5] = ["report", "p", "s", "--fixings", "f"];
 
 /// `report p s --fixings f` of these files ends with this status and these lines.
 fn row(
@@ -16,40 +15,37 @@ fn row(
     fixings: &str,
     status: u8,
     lines: &str,
-) -> Result<(), Fail> {
-    let alloc = rt.alloc();
-    let words = words_of(alloc, &["report", "p", "s", "--fixings", "f"])?;
-    let mut shelf = SteadyShelf::new(alloc);
-    shelf.place("p", TWO.as_bytes())?;
-    shelf.place("s", solution.as_bytes())?;
-    shelf.place("f", fixings.as_bytes())?;
-    let mut out = SteadySink::new(alloc);
-    let done = dispatch(rt, alloc, &words, &mut shelf, &mut out, &OpenGate);
-    assert_eq!(rt; out.written(), lines.as_bytes(), "{lines}");
-    assert_eq!(rt; done.status, status, "{lines}");
-    Ok(())
+) {
+    let mut shelf = SteadyShelf::new(rt.alloc());
+    place(rt, &mut shelf, "p", TWO);
+    place(rt, &mut shelf, "s", solution);
+    place(rt, &mut shelf, "f", fixings);
+    ends(rt, &mut shelf, &REPORT, status, lines);
 }
 
-#[test]
-fn a_valid_solution_has_its_table(rt: HostRuntime) -> Result<(), Fail> {
-    row(
-        &rt,
-        SECOND,
-        "started 1 0 0\n",
-        0,
-        " train        start          end        delay         cost\n     0            4           14           14           14\n     1            0            4            4            4\ntotal 18\n",
-    )
-}
+const TABLE: &str =
+    " train        start          end        delay         cost\n     0            4           14           14           14\n     1            0            4            4            4\ntotal 18\n";
 
 #[test]
-fn a_fault_has_no_table(rt: HostRuntime) -> Result<(), Fail> {
-    row(&rt, SECOND, "started 0 0 0\n", 1, "FixingUnmet 1\n")?;
-    row(
-        &rt,
+fn a_valid_solution_has_its_table(rt: HostRuntime) {
+    row(&rt, SECOND, "started 1 0 0\n", 0, TABLE);
+}
+
+/// A solution, fixings, the status, and the line.
+const FAULTS: &[(&str, &str, u8, &str)] = &[
+    (SECOND, "started 0 0 0\n", 1, "FixingUnmet 1\n"),
+    (
         r#"{"events":[{"operation":0,"time":0,"train":0},{"operation":0,"time":4,"train":1}]}"#,
         "",
         1,
         "Held 0 1 \"r\"\n",
-    )?;
-    row(&rt, "{", "", 2, "solution: NotJson\n")
+    ),
+    ("{", "", 2, "solution: NotJson\n"),
+];
+
+#[test]
+fn a_fault_has_no_table(rt: HostRuntime) {
+    for (solution, fixings, status, line) in FAULTS {
+        row(&rt, solution, fixings, *status, line);
+    }
 }

@@ -1,10 +1,10 @@
-// Runs of `check` on files in memory.
-use disp_outside::OpenGate;
+// Runs of the program on files in memory, and what they are to end with.
+use disp_outside::{OpenGate, Shelf, Sink};
 use dispatch_cli::dispatch;
-use outside_in_memory::{SteadyShelf, SteadySink};
+use outside_in_memory::{MemShelf, SteadyShelf, SteadySink};
+use std::panic::Expect;
 use std::process::Abort;
 use std::sync::Wait;
-use std::test::Fail;
 use std::thread::Threads;
 use word_lists::words_of;
 
@@ -21,6 +21,55 @@ pub(crate) const TREE: &str =
 pub(crate) const SECOND: &str =
     r#"{"events":[{"operation":0,"time":0,"train":1},{"operation":1,"time":4,"train":1},{"operation":0,"time":4,"train":0},{"operation":1,"time":14,"train":0}],"objective_value":18}"#;
 
+// The status that the words end with, and whether the journal is empty.
+pub(crate) fn run(
+    rt: &(impl Threads + Wait + Sync + Abort + AllocGlobal),
+    shelf: &mut impl Shelf,
+    words: &[&str],
+    out: &mut impl Sink,
+) -> (u8, bool) {
+    let words = words_of(rt.alloc(), words).expect(rt, "words");
+    let done = dispatch(rt, rt.alloc(), &words, shelf, out, &OpenGate);
+    (done.status, done.journal.is_empty())
+}
+
+// A run ended with this status and an empty journal, and wrote these lines.
+fn is_so(rt: &impl Abort, ended: (u8, bool), written: &[u8], status: u8, lines: &str) {
+    assert_eq!(rt;
+        (ended, written),
+        ((status, true), lines.as_bytes()),
+        "{lines}"
+    );
+}
+
+// The words end with this status and these lines, and the journal is empty.
+pub(crate) fn ends(
+    rt: &(impl Threads + Wait + Sync + Abort + AllocGlobal),
+    shelf: &mut impl Shelf,
+    words: &[&str],
+    status: u8,
+    lines: &str,
+) {
+    let mut out = SteadySink::new(rt.alloc());
+    let ended = run(rt, shelf, words, &mut out);
+    is_so(rt, ended, out.written(), status, lines);
+}
+
+// The shelf has this file.
+pub(crate) fn place(rt: &impl Abort, shelf: &mut SteadyShelf, name: &str, text: &str) {
+    shelf.place(name, text.as_bytes()).expect(rt, "a file");
+}
+
+// The shelf that counts faults has this file.
+pub(crate) fn place_counted(rt: &impl Abort, shelf: &mut MemShelf, name: &str, bytes: &[u8]) {
+    shelf.place(name, bytes, &[]).expect(rt, "a file");
+}
+
+// The file has this text still.
+fn is_kept(rt: &impl Abort, file: &[u8], text: &str, lines: &str) {
+    assert_eq!(rt; file, text.as_bytes(), "{lines}");
+}
+
 // The words give this status and these lines, for these files; nothing is put, and the journal is
 // empty.
 pub(crate) fn row(
@@ -32,19 +81,12 @@ pub(crate) fn row(
     plan: &str,
     status: u8,
     lines: &str,
-) -> Result<(), Fail> {
-    let alloc = rt.alloc();
-    let words = words_of(alloc, words)?;
-    let mut shelf = SteadyShelf::new(alloc);
-    shelf.place("p", problem.as_bytes())?;
-    shelf.place("t", tree.as_bytes())?;
-    shelf.place("f", fixings.as_bytes())?;
-    shelf.place("s", plan.as_bytes())?;
-    let mut out = SteadySink::new(alloc);
-    let done = dispatch(rt, alloc, &words, &mut shelf, &mut out, &OpenGate);
-    assert_eq!(rt; out.written(), lines.as_bytes(), "{lines}");
-    assert_eq!(rt; done.status, status, "{lines}");
-    assert!(rt; done.journal.is_empty(), "{lines}");
-    assert_eq!(rt; shelf.file("s"), plan.as_bytes(), "{lines}");
-    Ok(())
+) {
+    let mut shelf = SteadyShelf::new(rt.alloc());
+    place(rt, &mut shelf, "p", problem);
+    place(rt, &mut shelf, "t", tree);
+    place(rt, &mut shelf, "f", fixings);
+    place(rt, &mut shelf, "s", plan);
+    ends(rt, &mut shelf, words, status, lines);
+    is_kept(rt, shelf.file("s"), plan, lines);
 }
