@@ -19,7 +19,8 @@ pub struct FileFeed<R> {
 impl<R: Read + Drop> FileFeed<R> {
     ghost use Rattle.disp_outside.specs.FileFeed.{feed_name, fault_count, has_ended};
 
-    pub(crate) fn new(ticket: Ticket, reader: R) -> Self
+    /// A feed of what the reader gives, by the name of the ticket, which counts its fault.
+    pub fn new(ticket: Ticket, reader: R) -> Self
         ensures name { feed_name result ≡ string_bytes ticket.name }
         ensures faults { fault_count result ≡ 0 }
         ensures open { has_ended result ≡ false }

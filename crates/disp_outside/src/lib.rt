@@ -30,6 +30,3 @@ pub use line_buf::{LineBuf, MOST_LINE_BYTES, line_feed_at};
 pub use shelf::{FetchNo, PutNo, Shelf};
 pub use sink::{Sink, WriteNo};
 pub use standard_output::StandardOutput;
-
-#[cfg(test)]
-mod tests;

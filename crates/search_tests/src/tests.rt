@@ -4,3 +4,4 @@ mod leaves;
 mod script;
 mod searches;
 mod steps;
+mod targets;

@@ -20,6 +20,3 @@ mod windows;
 pub use advice::{Start, Target};
 pub use climb::{INSERTIONS, target};
 pub use draw::Draw;
-
-#[cfg(test)]
-mod tests;

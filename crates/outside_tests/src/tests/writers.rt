@@ -1,8 +1,8 @@
 // Writers that take a part at a time, break, or are interrupted.
-use crate::{Sink, StandardOutput, WriteNo};
+use disp_outside::{Sink, StandardOutput, WriteNo};
 use std::io;
 use std::io::{ErrorKind, Write};
-use std::test::Fail;
+use std::process::Abort;
 
 // Takes two bytes at a time, is interrupted in its second write, and breaks in its fifth.
 #[derive(Drop)]
@@ -30,32 +30,35 @@ impl Write for &mut Halting {
     }
 }
 
-#[test]
-fn a_piece_goes_out_in_parts(rt: HostRuntime) -> Result<(), Fail> {
-    let alloc = rt.alloc();
-    let mut writer = Halting {
-        taken: Vec::new(alloc),
-        writes: 0,
-    };
-    let mut out = StandardOutput::new(&mut writer);
-    let rows = [
-        (b"abc".as_slice(), Ok(()), 0),
-        (b"".as_slice(), Ok(()), 0),
-        (b"defg".as_slice(), Err(WriteNo::Failed), 1),
-        (b"hij".as_slice(), Ok(()), 1),
-    ];
-    for (piece, want, faults) in rows {
-        assert_eq!(rt; out.write(piece), want);
-        assert_eq!(rt; out.faults(), faults);
+const PIECES: &[(&str, Result<(), WriteNo>, u64)] = &[
+    ("abc", Ok(()), 0),
+    ("", Ok(()), 0),
+    ("defg", Err(WriteNo::Failed), 1),
+    ("hij", Ok(()), 1),
+];
+
+/// Asserts what each piece of the table comes to, and the faults so far.
+fn check_pieces(rt: &impl Abort, writer: &mut Halting) {
+    let mut out = StandardOutput::new(writer);
+    for (piece, want, faults) in PIECES {
+        let told = out.write(piece.as_bytes());
+        assert_eq!(rt; (told, out.faults()), (*want, *faults));
     }
-    assert_eq!(rt; writer.taken.as_slice(), b"abcdehij".as_slice());
-    Ok(())
 }
 
 #[test]
-fn standard_output_takes_a_line(rt: HostRuntime) -> Result<(), Fail> {
+fn a_piece_goes_out_in_parts(rt: HostRuntime) {
+    let mut writer = Halting {
+        taken: Vec::new(rt.alloc()),
+        writes: 0,
+    };
+    check_pieces(&rt, &mut writer);
+    assert_eq!(rt; writer.taken.as_slice(), b"abcdehij".as_slice());
+}
+
+#[test]
+fn standard_output_takes_a_line(rt: HostRuntime) {
     let mut out = StandardOutput::new(rt.stdout());
-    assert_eq!(rt; out.write(b"a line\n"), Ok(()));
-    assert_eq!(rt; out.faults(), 0);
-    Ok(())
+    let told = out.write(b"a line\n");
+    assert_eq!(rt; (told, out.faults()), (Ok(()), 0));
 }
