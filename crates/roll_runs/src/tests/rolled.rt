@@ -1,10 +1,10 @@
-// A run of `roll` on a shelf in memory, and what to find in what it wrote.
-use disp_outside::OpenGate;
+// Runs of `roll` on files and feeds in memory, and what to find in what they wrote.
+use disp_outside::{Gate, OpenGate, Shelf, Sink};
 use dispatch_cli::dispatch;
-use outside_in_memory::{MemShelf, SteadySink};
+use outside_in_memory::{MemShelf, SteadyShelf, SteadySink};
+use std::panic::Expect;
 use std::process::Abort;
 use std::sync::Wait;
-use std::test::Fail;
 use std::thread::Threads;
 use word_lists::words_of;
 
@@ -12,54 +12,128 @@ use word_lists::words_of;
 pub(crate) const ONE_BLOCK: &str =
     r#"{"trains":[[{"min_duration":10,"resources":[{"resource":"r"}],"successors":[1]},{}],[{"min_duration":4,"resources":[{"resource":"r"}],"successors":[1]},{}]],"objective":[{"type":"op_delay","train":0,"operation":1,"coeff":1},{"type":"op_delay","train":1,"operation":1,"coeff":1}]}"#;
 
-/// How many searchers there are, in turn.
-pub(crate) const WORKERS: [&str; 3] = ["1", "2", "4"];
+/// What is written for one searcher on that problem, where the train of 10 has started first.
+const STARTED_FIRST: &str =
+    "plan 1 24 {\"events\":[{\"operation\":0,\"time\":0,\"train\":0},{\"operation\":1,\"time\":10,\"train\":0},{\"operation\":0,\"time\":10,\"train\":1},{\"operation\":1,\"time\":14,\"train\":1}],\"objective_value\":24}\nsettled 1 optimal 24\n";
 
-/// What a run wrote, and its status.
-#[derive(Drop)]
-pub(crate) struct Rolled {
-    pub(crate) status: u8,
-    pub(crate) text: String,
+/// How many searchers there are, in turn.
+pub(crate) const WORKERS: &[&str] = &["1", "2", "4"];
+
+/// The words are run on the shelf and the sink, and threads ask the gate: the status.
+pub(crate) fn run<S: Shelf, O: Sink, G: Gate>(
+    rt: &(impl Threads + Wait + Sync + Abort + AllocGlobal),
+    shelf: &mut S,
+    words: &[&str],
+    out: &mut O,
+    gate: &G,
+) -> u8 {
+    let alloc = rt.alloc();
+    let words = words_of(alloc, words).expect(rt, "words");
+    let done = dispatch(rt, alloc, &words, shelf, out, gate);
+    done.status
 }
 
-/// Rolls with these words on the shelf.
-pub(crate) fn run(
-    rt: &(impl Threads + Wait + Sync + AllocGlobal),
+/// A shelf with these texts under these names.
+pub(crate) fn shelf_of(rt: &(impl Abort + AllocGlobal), files: &[(&str, &str)]) -> MemShelf {
+    let mut shelf = MemShelf::new(rt.alloc());
+    for (name, text) in files {
+        shelf.place(name, text.as_bytes(), &[]).expect(rt, "room");
+    }
+    shelf
+}
+
+/// Such a shelf that never fails.
+pub(crate) fn steady_of(rt: &(impl Abort + AllocGlobal), files: &[(&str, &str)]) -> SteadyShelf {
+    let mut shelf = SteadyShelf::new(rt.alloc());
+    for (name, text) in files {
+        shelf.place(name, text.as_bytes()).expect(rt, "room");
+    }
+    shelf
+}
+
+/// What was written, as a text.
+pub(crate) fn text_of(rt: &(impl Abort + AllocGlobal), written: &[u8]) -> String {
+    let bytes = written.to_vec(rt.alloc()).expect(rt, "room");
+    String::from_utf8(bytes).expect(rt, "a text")
+}
+
+/// A run ended with this status, and wrote this.
+fn is_so(rt: &impl Abort, got: u8, written: &[u8], status: u8, want: &str) {
+    assert_eq!(rt; (got, written), (status, want.as_bytes()), "{want}");
+}
+
+/// The words end on the shelf with this status, and this is written.
+pub(crate) fn ends(
+    rt: &(impl Threads + Wait + Sync + Abort + AllocGlobal),
     shelf: &mut MemShelf,
     words: &[&str],
-) -> Result<Rolled, Fail> {
-    let alloc = rt.alloc();
-    let words = words_of(alloc, words)?;
-    let mut out = SteadySink::new(alloc);
-    let done = dispatch(rt, alloc, &words, shelf, &mut out, &OpenGate);
-    let text = String::from_utf8(out.written().to_vec(alloc)?)?;
-    Ok(Rolled {
-        status: done.status,
-        text,
-    })
+    status: u8,
+    want: &str,
+) {
+    let mut out = SteadySink::new(rt.alloc());
+    let got = run(rt, shelf, words, &mut out, &OpenGate);
+    is_so(rt, got, out.written(), status, want);
+}
+
+/// The words are run on the shelf: the status, and what is written.
+pub(crate) fn rolled(
+    rt: &(impl Threads + Wait + Sync + Abort + AllocGlobal),
+    shelf: &mut MemShelf,
+    words: &[&str],
+) -> (u8, String) {
+    let mut out = SteadySink::new(rt.alloc());
+    let status = run(rt, shelf, words, &mut out, &OpenGate);
+    (status, text_of(rt, out.written()))
+}
+
+/// A run ended with this status, and what it wrote, this text, is right.
+pub(crate) fn is_told(rt: &impl Abort, got: (u8, bool), status: u8, text: String) {
+    assert_eq!(rt; got, (status, true), "{text}");
+}
+
+/// The words end on the shelf with this status, the feeds are answered so, and this is settled
+/// last.
+pub(crate) fn answers(
+    rt: &(impl Threads + Wait + Sync + Abort + AllocGlobal),
+    shelf: &mut MemShelf,
+    words: &[&str],
+    status: u8,
+    lines: &[&str],
+    settled: &str,
+) {
+    let (got, text) = rolled(rt, shelf, words);
+    let told = has_lines(text.as_str(), "feed ", lines) && settles(text.as_str(), settled);
+    is_told(rt, (got, told), status, text);
+}
+
+/// A run ended with this status, and wrote this and then that the train of 10 goes first.
+pub(crate) fn goes_first(
+    rt: &(impl Abort + AllocGlobal),
+    got: u8,
+    written: &[u8],
+    status: u8,
+    want: &str,
+) {
+    let whole = format!(in rt.alloc(); "{want}{STARTED_FIRST}").expect(rt, "a text");
+    is_so(rt, got, written, status, whole.as_str());
 }
 
 /// The lines that begin with a word begin so, in this order, and there are no others of it.
-pub(crate) fn has_lines(
-    rt: &(impl Abort + AllocGlobal),
-    text: &str,
-    word: &str,
-    wanted: &[&str],
-) -> Result<(), Fail> {
+pub(crate) fn has_lines(text: &str, word: &str, wanted: &[&str]) -> bool {
     let mut count = 0;
     for line in text.split('\n') {
         if line.starts_with(word) {
-            assert!(rt; count < wanted.len(), "{text}");
-            assert!(rt; line.starts_with(wanted[count]), "{text}");
+            if count >= wanted.len() || !line.starts_with(wanted[count]) {
+                return false;
+            }
             count += 1;
         }
     }
-    assert_eq!(rt; count, wanted.len(), "{text}");
-    Ok(())
+    count == wanted.len()
 }
 
-/// Whether the last line that settles or stops an edition is this one.
-fn ends_with(text: &str, wanted: &str) -> bool {
+/// The last line that settles or stops an edition is this one.
+pub(crate) fn settles(text: &str, wanted: &str) -> bool {
     let mut found = false;
     for line in text.split('\n') {
         if line.starts_with("settled ") || line.starts_with("stopped ") {
@@ -67,14 +141,4 @@ fn ends_with(text: &str, wanted: &str) -> bool {
         }
     }
     found
-}
-
-/// The last line that settles or stops an edition is this one.
-pub(crate) fn settles(
-    rt: &(impl Abort + AllocGlobal),
-    text: &str,
-    wanted: &str,
-) -> Result<(), Fail> {
-    assert!(rt; ends_with(text, wanted), "{text}");
-    Ok(())
 }

@@ -1,13 +1,15 @@
 // Two searchers share the tree of one problem.
 use super::holds::Sign;
+use super::rolled::steady_of;
 use disp_model::Entry;
 use disp_outside::{Gate, Point};
-use dispatch_cli::{Done, dispatch};
-use outside_in_memory::{SteadyShelf, SteadySink};
+use dispatch_cli::dispatch;
+use outside_in_memory::SteadySink;
+use std::panic::Expect;
+use std::process::Abort;
 use std::sync::Wait;
 use std::sync::atomic::AtomicU64;
 use std::sync::atomic::Ordering::SeqCst;
-use std::test::Fail;
 use std::thread::Threads;
 use word_lists::words_of;
 
@@ -64,16 +66,6 @@ impl Gate for Sharing {
 const EIGHT: &str =
     r#"{"trains":[[{"min_duration":10,"resources":[{"resource":"r"}],"successors":[1]},{}],[{"min_duration":10,"resources":[{"resource":"r"}],"successors":[1]},{}],[{"min_duration":10,"resources":[{"resource":"r"}],"successors":[1]},{}],[{"min_duration":10,"resources":[{"resource":"r"}],"successors":[1]},{}],[{"min_duration":10,"resources":[{"resource":"r"}],"successors":[1]},{}],[{"min_duration":10,"resources":[{"resource":"r"}],"successors":[1]},{}],[{"min_duration":10,"resources":[{"resource":"r"}],"successors":[1]},{}],[{"min_duration":10,"resources":[{"resource":"r"}],"successors":[1]},{}]],"objective":[{"type":"op_delay","train":0,"operation":1,"coeff":1},{"type":"op_delay","train":1,"operation":1,"coeff":1},{"type":"op_delay","train":2,"operation":1,"coeff":1},{"type":"op_delay","train":3,"operation":1,"coeff":1},{"type":"op_delay","train":4,"operation":1,"coeff":1},{"type":"op_delay","train":5,"operation":1,"coeff":1},{"type":"op_delay","train":6,"operation":1,"coeff":1},{"type":"op_delay","train":7,"operation":1,"coeff":1}]}"#;
 
-/// `solve` with two searchers and a budget of 500 on that problem.
-fn run(rt: &(impl Threads + Wait + Sync + AllocGlobal), gate: &Sharing) -> Result<Done, Fail> {
-    let alloc = rt.alloc();
-    let words = words_of(alloc, &["solve", "p", "--workers", "2", "--budget", "500"])?;
-    let mut shelf = SteadyShelf::new(alloc);
-    shelf.place("p", EIGHT.as_bytes())?;
-    let mut out = SteadySink::new(alloc);
-    Ok(dispatch(rt, alloc, &words, &mut shelf, &mut out, gate))
-}
-
 /// The searcher has an entry for what it grew.
 fn has_grown(journal: &[Entry], number: u32) -> bool {
     for entry in journal {
@@ -86,16 +78,39 @@ fn has_grown(journal: &[Entry], number: u32) -> bool {
     false
 }
 
+/// The words of `solve` with two searchers and a budget of 500.
+const SOLVE: &[&str] = &["solve", "p", "--workers", "2", "--budget", "500"];
+
+/// They are run on that problem: whether the first and the second searcher have grown the tree.
+fn run(rt: &(impl Threads + Wait + Sync + Abort + AllocGlobal), gate: &Sharing) -> (bool, bool) {
+    let alloc = rt.alloc();
+    let words = words_of(alloc, SOLVE).expect(rt, "words");
+    let mut shelf = steady_of(rt, &[("p", EIGHT)]);
+    let mut out = SteadySink::new(alloc);
+    let done = dispatch(rt, alloc, &words, &mut shelf, &mut out, gate);
+    let journal = done.journal.as_slice();
+    (has_grown(journal, 0), has_grown(journal, 1))
+}
+
+/// Each searcher came in time for the other, and has grown the tree.
+fn is_shared(rt: &impl Abort, gate: &Sharing, grown: (bool, bool)) {
+    let seen = (
+        gate.first.has_two.was_seen(),
+        gate.second.has_two.was_seen(),
+    );
+    assert_eq!(rt;
+        (seen, grown),
+        ((true, true), (true, true)),
+        "in time, grown"
+    );
+}
+
 #[test]
-fn each_of_two_searchers_grows_the_tree(rt: HostRuntime) -> Result<(), Fail> {
+fn each_of_two_searchers_grows_the_tree(rt: HostRuntime) {
     let gate = Sharing {
         first: Progress::new(),
         second: Progress::new(),
     };
-    let done = run(&rt, &gate)?;
-    assert!(rt; gate.first.has_two.was_seen(), "the first came too late");
-    assert!(rt; gate.second.has_two.was_seen(), "the second came too late");
-    assert!(rt; has_grown(done.journal.as_slice(), 0));
-    assert!(rt; has_grown(done.journal.as_slice(), 1));
-    Ok(())
+    let grown = run(&rt, &gate);
+    is_shared(&rt, &gate, grown);
 }
