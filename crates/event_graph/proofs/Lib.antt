@@ -6,6 +6,7 @@ pub mod Adding
 pub mod Naming
 pub mod Deciding
 pub mod Training
+pub mod Knowing
 pub mod Past
 pub mod Windowed
 pub mod Rooting

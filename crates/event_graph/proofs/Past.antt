@@ -14,6 +14,7 @@ use Rattle.event_graph.specs.declared.parts.Parts.{Parts}
 use Rattle.event_graph.specs.States.{GraphState, IsStateAt, restored_state, MayRestore}
 use Rattle.event_graph.specs.Late.{AreUppersOf}
 use Rattle.event_graph.specs.Kept.{state_of, Decides}
+use Rattle.event_graph.specs.Known.{AreKnown}
 use Rattle.event_graph.specs.Graphs.{ArePast, IsGraph}
 
 got_front : {X : Type 0} → (xs : List X) (i j : ℕ) (x : X) → j < i → slice_get xs j ≡ Some x → slice_get (take i xs) j ≡ Some x
@@ -45,9 +46,9 @@ past_more problem fixings decisions trail d change (suc k) state le past = recor
 }
 
 pub graph_extends : (problem : Problem) (fixings : List Fixing) (ops closed : List Op) (decisions : List Decision) (parts new : Parts) (trail : List Change) (d : Decision) (change : Change) → IsGraph problem fixings ops closed decisions parts trail
-    → Decides (with_decision (node_at problem fixings decisions) d) change (state_of parts) (state_of new) → new.paths.lowers ≡ parts.paths.lowers → new.paths.uppers ≡ parts.paths.uppers → new.orders.size ≡ parts.orders.size
+    → Decides (with_decision (node_at problem fixings decisions) d) change (state_of parts) (state_of new) → new.paths.lowers ≡ parts.paths.lowers → new.paths.uppers ≡ parts.paths.uppers → new.orders.size ≡ parts.orders.size → AreKnown problem new.known
     → IsGraph problem fixings ops closed (decisions ++ d ∷ []) new (trail ++ change ∷ [])
-graph_extends problem fixings ops closed decisions parts new trail d change is decides lowers uppers size = record {
+graph_extends problem fixings ops closed decisions parts new trail d change is decides lowers uppers size known = record {
   uppers_are = subst (AreUppersOf problem fixings) (sym uppers) is.uppers_are;
   closed_are = is.closed_are;
   may = record {
@@ -59,6 +60,7 @@ graph_extends problem fixings ops closed decisions parts new trail d change is d
   };
   long = length-append trail (change ∷ []) ∙ ap (λ (n : ℕ). n + 1) is.long ∙ sym (length-append decisions (d ∷ []));
   past = subst (λ (n : ℕ). ArePast problem fixings (decisions ++ d ∷ []) (trail ++ change ∷ []) n (state_of new)) (let same : suc (length decisions) ≡ length (decisions ++ d ∷ []) = omega (arith, length-append decisions (d ∷ [])) in same) last;
+  known = known;
 }
   where
     last : ArePast problem fixings (decisions ++ d ∷ []) (trail ++ change ∷ []) (suc (length decisions)) (state_of new)
@@ -118,8 +120,8 @@ pub may_undo : (problem : Problem) (fixings : List Fixing) (ops closed : List Op
 may_undo problem fixings ops closed decisions parts trail left change is popped = (last_is problem fixings ops closed decisions parts left change (subst (IsGraph problem fixings ops closed decisions parts) popped is)).may
 
 pub graph_undone : (problem : Problem) (fixings : List Fixing) (ops closed : List Op) (decisions kept : List Decision) (parts new : Parts) (trail left : List Change) (change : Change) → IsGraph problem fixings ops closed decisions parts trail → trail ≡ left ++ change ∷ []
-    → kept ≡ take (length decisions - 1) decisions → state_of new ≡ restored_state change (state_of parts) → new.paths.lowers ≡ parts.paths.lowers → new.paths.uppers ≡ parts.paths.uppers → new.orders.size ≡ parts.orders.size → IsGraph problem fixings ops closed kept new left
-graph_undone problem fixings ops closed decisions kept parts new trail left change is popped shorter state lowers uppers size =
+    → kept ≡ take (length decisions - 1) decisions → state_of new ≡ restored_state change (state_of parts) → new.paths.lowers ≡ parts.paths.lowers → new.paths.uppers ≡ parts.paths.uppers → new.orders.size ≡ parts.orders.size → AreKnown problem new.known → IsGraph problem fixings ops closed kept new left
+graph_undone problem fixings ops closed decisions kept parts new trail left change is popped shorter state lowers uppers size known =
     let last = last_is problem fixings ops closed decisions parts left change (subst (IsGraph problem fixings ops closed decisions parts) popped is) in
     let same : kept ≡ take (length left) decisions = shorter ∙ ap (λ (n : ℕ). take n decisions) (omega (arith, last.long)) in
     let count : length kept ≡ length left = ap (λ (ds : List Decision). length ds) same ∙ length-take-le (length left) decisions (omega (arith, last.long)) in
@@ -138,4 +140,5 @@ graph_undone problem fixings ops closed decisions kept parts new trail left chan
           (subst (λ (n : ℕ). ArePast problem fixings kept left n (restored_state change (state_of parts))) (sym count)
           (subst (λ (ds : List Decision). ArePast problem fixings ds left (length left) (restored_state change (state_of parts))) (sym same)
           (past_front problem fixings decisions left change (length left) (length left) (restored_state change (state_of parts)) (omega arith) refl last.before)));
+      known = known;
     }

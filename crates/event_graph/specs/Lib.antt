@@ -1,6 +1,7 @@
 pub mod Pairs
 pub mod Touched
 pub mod States
+pub mod Known
 pub mod Joined
 pub mod Late
 pub mod Kept

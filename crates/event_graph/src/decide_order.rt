@@ -101,6 +101,7 @@ pub(crate) fn decide_order(
     ensures lowers { parts.new.paths.lowers ≡ parts.old.paths.lowers }
     ensures uppers { parts.new.paths.uppers ≡ parts.old.paths.uppers }
     ensures size { parts.new.orders.size ≡ parts.old.orders.size }
+    ensures known { parts.new.known ≡ parts.old.known }
     ensures decided { (fixings : List Fixing) (decisions : List DecisionOf)
         → MayDecide (node_at problem.now fixings decisions) ops.now parts.old
         → AnswersAt (with_decision (node_at problem.now fixings decisions) (First a b))

@@ -1,18 +1,23 @@
 ghost use Rattle.std.specs.Prelude.{◌≡◌, ◌<◌, ◌++◌, ◌∷◌, [], List, Some, IfOk, OnErr, length};
 ghost use Rattle.disp_model.specs.declared.fixing.Fixing.{Fixing};
 ghost use Rattle.disp_model.specs.declared.decision.Decision.{Decision as DecisionOf};
-ghost use Rattle.disp_model.specs.Node.{node_at, with_decision};
+ghost use Rattle.disp_model.specs.Node.{Node, node_at, with_decision};
+ghost use Rattle.disp_model.specs.Routes.{HasRoute};
+ghost use Rattle.route_sets.specs.Sets.{AreRoutesOf};
 ghost use Rattle.event_arcs.specs.Owned.{train_of_decision};
 ghost use Rattle.event_graph.specs.Kept.{state_of, MayDecide, MayAddTrain, AddsArcs, AnswersAt};
+ghost use Rattle.event_graph.specs.Known.{IsKnown, AreKnown, IsFor};
 
 use crate::changes::Change;
 use crate::faults::ExtendNo;
 use crate::join::join;
+use crate::known::{Known, KnownRoutes};
 use crate::orders::Orders;
 use crate::parts::Parts;
 use crate::touched::arcs_of_train;
 use disp_model::{Copied, Decision, Memory, Op, Problem};
 use event_arcs::{Own, Placed};
+use route_sets::Routes;
 use std::alloc::Global;
 use std::mem;
 use timed_paths::TimedPaths;
@@ -26,6 +31,33 @@ fn own_with(own: &Own, decision: Decision) -> Result<Own, Memory>
     let mut decisions = own.decisions.copy()?;
     decisions.push(decision)?;
     Ok(Own { fixings, decisions })
+}
+
+/// A train's fixings and decisions with one decision more, and the routes that they allow, which may
+/// be known.
+fn routes_with(
+    problem: &Problem,
+    train: usize,
+    own: &Own,
+    routes: &Routes,
+    known: &mut KnownRoutes,
+    decision: Decision,
+) -> Result<Known, Memory>
+    requires there { train < length problem.now.trains }
+    requires routes { (node : Node) × (node.problem ≡ problem.now)
+        × AreRoutesOf node train routes.now × HasRoute node train }
+    requires known { AreKnown problem.now known.old }
+    ensures left { AreKnown problem.now known.new }
+    ensures known { IfOk result (IsKnown problem.now) }
+    ensures made { IfOk result (IsFor train own.now decision) }
+{
+    if let Some(found) = known.take(train, own, decision) {
+        return Ok(found);
+    }
+    let own = own_with(own, decision)?;
+    let (fixings, decisions) = (own.fixings.as_slice(), own.decisions.as_slice());
+    let routes = routes.others(problem, train as u32, fixings, decisions)?;
+    Ok(Known { train, own, routes })
 }
 
 /// Adds the arcs of a train whose routes have changed, and of orders of its operations, and gives
@@ -74,26 +106,27 @@ pub(crate) fn decide_train(
     requires about { train_of_decision decision ≡ Some train }
     requires may { (fixings : List Fixing) × (decisions : List DecisionOf)
         × MayDecide (node_at problem.now fixings decisions) ops.now parts.old }
+    requires known { AreKnown problem.now parts.old.known }
     ensures lowers { parts.new.paths.lowers ≡ parts.old.paths.lowers }
     ensures uppers { parts.new.paths.uppers ≡ parts.old.paths.uppers }
     ensures size { parts.new.orders.size ≡ parts.old.orders.size }
+    ensures known { AreKnown problem.now parts.new.known }
     ensures decided { (fixings : List Fixing) (decisions : List DecisionOf)
         → MayDecide (node_at problem.now fixings decisions) ops.now parts.old
         → AnswersAt (with_decision (node_at problem.now fixings decisions) decision)
         (state_of parts.old) (state_of parts.new) result }
 {
-    let Ok(own) = own_with(&parts.owns[train], decision) else {
-        return Err(ExtendNo::Memory);
-    };
-    let Ok(routes) = parts.each[train].routes.others(
+    let Ok(made) = routes_with(
         problem,
-        train as u32,
-        own.fixings.as_slice(),
-        own.decisions.as_slice(),
-    )
-    else {
+        train,
+        &parts.owns[train],
+        &parts.each[train].routes,
+        &mut parts.known,
+        decision,
+    ) else {
         return Err(ExtendNo::Memory);
     };
+    let Known { own, routes, .. } = made;
     if routes.none_left() {
         return Err(ExtendNo::NoRoute(train as u32));
     }

@@ -14,6 +14,7 @@ mod decide_train;
 mod faults;
 mod graph;
 mod join;
+mod known;
 mod late;
 mod opening;
 mod orders;

@@ -1,10 +1,14 @@
 ghost use Rattle.std.specs.Prelude.{◌≡◌};
+ghost use Rattle.disp_model.specs.declared.problem.Problem.{Problem as ProblemOf};
 ghost use Rattle.event_graph.specs.States.{restored_state, MayRestore};
 ghost use Rattle.event_graph.specs.Kept.{state_of};
+ghost use Rattle.event_graph.specs.Known.{AreKnown, AreByOwn};
 
 use crate::changes::Change;
+use crate::known::{Known, KnownRoutes};
 use crate::orders::Orders;
 use event_arcs::{Own, Placed};
+use std::mem;
 use timed_paths::TimedPaths;
 
 /// What is kept of a node that decisions change.
@@ -16,15 +20,19 @@ pub(crate) struct Parts {
     pub each: Vec<Placed>,
     pub orders: Orders,
     pub paths: TimedPaths,
+    /// Routes that were made before.
+    pub known: KnownRoutes,
 }
 
-/// Puts back what a change has replaced.
+/// Puts back what a change has replaced, and keeps routes that are not in use then.
 pub(crate) fn restore(parts: &mut Parts, change: Change)
     requires { MayRestore change (state_of parts.old) }
     ensures lowers { parts.new.paths.lowers ≡ parts.old.paths.lowers }
     ensures uppers { parts.new.paths.uppers ≡ parts.old.paths.uppers }
     ensures size { parts.new.orders.size ≡ parts.old.orders.size }
     ensures state { state_of parts.new ≡ restored_state change (state_of parts.old) }
+    ensures known { (problem : ProblemOf) → AreKnown problem parts.old.known
+        → AreByOwn problem (state_of parts.old) → AreKnown problem parts.new.known }
 {
     match change {
         Change::Nothing => {}
@@ -39,8 +47,9 @@ pub(crate) fn restore(parts: &mut Parts, change: Change)
             arcs,
         } => {
             parts.paths.withdraw(arcs);
-            parts.owns[train] = own;
-            parts.each[train] = placed;
+            let own = mem::replace(&mut parts.owns[train], own);
+            let Placed { routes, .. } = mem::replace(&mut parts.each[train], placed);
+            parts.known.keep(Known { train, own, routes });
         }
     }
 }

@@ -6,10 +6,12 @@ ghost use Rattle.event_graph.specs.Joined.{IsOfEdition, IsCycleOr};
 ghost use Rattle.event_windows.specs.Operations.{AreOperationsOf};
 ghost use Rattle.event_graph.specs.Late.{AreUppersOf};
 ghost use Rattle.event_graph.specs.Kept.{MayDecide, IsRefusedAt};
+ghost use Rattle.event_graph.specs.Known.{AreKnown};
 ghost use Rattle.event_graph.specs.Roots.{ArePathsOf};
 
 use crate::faults::ExtendNo;
 use crate::join::join;
+use crate::known::KnownRoutes;
 use crate::opening::paths_without_arcs;
 use crate::orders::Orders;
 use crate::parts::Parts;
@@ -57,6 +59,7 @@ pub(crate) fn parts_of(
     ensures ok { IfOk result (MayDecide (node_at problem.now fixings.now []) ops.now) }
     ensures uppers { IfOk result
         (λ parts. AreUppersOf problem.now fixings.now parts.paths.uppers) }
+    ensures known { IfOk result (λ parts. AreKnown problem.now parts.known) }
     ensures err { IfErr result (IsRefusedAt (node_at problem.now fixings.now [])) }
 {
     let owns = owns_of(alloc, problem.trains.len(), fixings, &[])?;
@@ -64,11 +67,13 @@ pub(crate) fn parts_of(
         Placing::Each(each) => {
             let paths = paths_of(alloc, problem, fixings, ops, windows, &each)?;
             let orders = Orders::new(alloc, ops.len())?;
+            let known = KnownRoutes::new(alloc, problem.trains.len())?;
             Ok(Parts {
                 owns,
                 each,
                 orders,
                 paths,
+                known,
             })
         }
         Placing::NoRoute(train) => Err(ExtendNo::NoRoute(train)),

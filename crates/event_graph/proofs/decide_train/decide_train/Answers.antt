@@ -1,4 +1,4 @@
-use Rattle.std.proofs.Common.{◌∙◌, ◌<◌, length, set, refl, sym, ap, subst, arith}
+use Rattle.std.proofs.Common.{◌∙◌, ℕ, ◌<◌, length, set, refl, sym, ap, subst, arith}
 use Rattle.event_arcs.specs.declared.placed.Placed.{Placed}
 use Rattle.route_sets.specs.Sets.{AreRoutesOf}
 use Rattle.disp_model.specs.Node.{Node, node_at, with_decision}
@@ -7,8 +7,8 @@ use Rattle.event_graph.proofs.Deciding.{refused_at}
 use Rattle.event_graph.proofs.Training.{own_after, routes_now, placed_now, train_placed, first_without, train_decides, read_as, read_same, may_train, both_back}
 use Rattle.event_graph.proofs.decide_train.decide_train.Goals as goal
 
-pub others-requires-clause-routes : goal.others-requires-clause-routes
-others-requires-clause-routes c =
+pub routes_with-requires-clause-routes : goal.routes_with-requires-clause-routes
+routes_with-requires-clause-routes c =
     let may = c.requires.may.2 in
     let parts = c.args.parts.now in
     let node : Node = node_at c.args.problem.now c.requires.may.0 c.requires.may.1 in
@@ -21,8 +21,8 @@ returns-then-none_left-clause-decided c fixings decisions may =
     let parts = c.args.parts.now in
     let node : Node = node_at c.args.problem.now fixings decisions in
     let next : Node = with_decision node c.args.decision in
-    let routes = routes_now c.args.problem.now fixings decisions c.args.decision c.args.train parts.owns.items c.index.result.now c.in-Ok.own c.as_slice.result.now c.as_slice-2.result.now c.in-Ok-others.routes may.state.own c.requires.about
-    (omega (arith, c.requires.there, may.state.owns_long)) c.index.ensures c.in-Ok.ensures c.as_slice.ensures c.as_slice-2.ensures c.in-Ok-others.ensures in
+    let routes = routes_now c.args.problem.now fixings decisions c.args.decision c.args.train parts.owns.items c.index.result.now c.in-Ok.made.own c.in-Ok.made.own.fixings c.in-Ok.made.own.decisions c.in-Ok.made.routes may.state.own c.requires.about
+    (omega (arith, c.requires.there, may.state.owns_long)) c.index.ensures c.in-Ok.ensures.made.own_is refl refl (subst (λ (u : ℕ). AreRoutesOf (node_at c.args.problem.now c.in-Ok.made.own.fixings c.in-Ok.made.own.decisions) u c.in-Ok.made.routes) c.in-Ok.ensures.made.train_is c.in-Ok.ensures.known) in
     (first_without node c.args.decision c.args.train parts.each.items c.requires.about c.requires.there may.state.placed ((c.none_left.ensures next c.args.train routes).0 c.if-none_left.true), refl)
 
 pub join_train-requires : goal.join_train-requires
@@ -35,8 +35,7 @@ join_train-requires c =
     let t = c.args.train in
     let within = (let lt : t < length parts.owns.items = omega (arith, c.requires.there, may.state.owns_long) in lt) in
     let each_within = (let lt : t < length parts.each.items = omega (arith, c.requires.there, may.state.placed.long) in lt) in
-    let routes = routes_now c.args.problem.now c.requires.may.0 c.requires.may.1 d t parts.owns.items c.index.result.now c.in-Ok.own c.as_slice.result.now c.as_slice-2.result.now c.in-Ok-others.routes may.state.own c.requires.about within c.index.ensures c.in-Ok.ensures
-    c.as_slice.ensures c.as_slice-2.ensures c.in-Ok-others.ensures in
+    let routes = routes_now c.args.problem.now c.requires.may.0 c.requires.may.1 d t parts.owns.items c.index.result.now c.in-Ok.made.own c.in-Ok.made.own.fixings c.in-Ok.made.own.decisions c.in-Ok.made.routes may.state.own c.requires.about within c.index.ensures c.in-Ok.ensures.made.own_is refl refl (subst (λ (u : ℕ). AreRoutesOf (node_at c.args.problem.now c.in-Ok.made.own.fixings c.in-Ok.made.own.decisions) u c.in-Ok.made.routes) c.in-Ok.ensures.made.train_is c.in-Ok.ensures.known) in
     let before = c.replace-before.result in
     let stood = read_as parts.each.items t before c.index_mut.result.now c.replace-before.ensures.value c.index_mut.ensures.value in
     let made = c.replace-before.ensures.after in
@@ -54,8 +53,7 @@ returns-in-Ok-join_train-clause-decided c fixings decisions may =
     let t = c.args.train in
     let within = (let lt : t < length parts.owns.items = omega (arith, c.requires.there, may.state.owns_long) in lt) in
     let each_within = (let lt : t < length parts.each.items = omega (arith, c.requires.there, may.state.placed.long) in lt) in
-    let routes = routes_now c.args.problem.now fixings decisions d t parts.owns.items c.index.result.now c.in-Ok.own c.as_slice.result.now c.as_slice-2.result.now c.in-Ok-others.routes may.state.own c.requires.about within c.index.ensures c.in-Ok.ensures
-    c.as_slice.ensures c.as_slice-2.ensures c.in-Ok-others.ensures in
+    let routes = routes_now c.args.problem.now fixings decisions d t parts.owns.items c.index.result.now c.in-Ok.made.own c.in-Ok.made.own.fixings c.in-Ok.made.own.decisions c.in-Ok.made.routes may.state.own c.requires.about within c.index.ensures c.in-Ok.ensures.made.own_is refl refl (subst (λ (u : ℕ). AreRoutesOf (node_at c.args.problem.now c.in-Ok.made.own.fixings c.in-Ok.made.own.decisions) u c.in-Ok.made.routes) c.in-Ok.ensures.made.train_is c.in-Ok.ensures.known) in
     let before = c.replace-before.result in
     let stood = read_as parts.each.items t before c.index_mut.result.now c.replace-before.ensures.value c.index_mut.ensures.value in
     let made = c.replace-before.ensures.after in
@@ -63,7 +61,7 @@ returns-in-Ok-join_train-clause-decided c fixings decisions may =
     let placed = placed_now node d t parts.each.items before c.replace-before.new.dest c.none_left.result c.requires.there may.state.placed stood first (subst (λ (p : Placed). AreRoutesOf next t p.routes) (sym made) routes)
     (c.none_left.ensures next t routes) c.if-none_left.false in
     let own_stood = read_as parts.owns.items t c.replace-own.result c.index_mut-in-Ok-join_train.result.now c.replace-own.ensures.value c.index_mut-in-Ok-join_train.ensures.value in
-    let more = own_after fixings decisions d t parts.owns.items c.index.result.now c.in-Ok.own may.state.own c.requires.about within c.index.ensures c.in-Ok.ensures in
+    let more = own_after fixings decisions d t parts.owns.items c.index.result.now c.in-Ok.made.own may.state.own c.requires.about within c.index.ensures c.in-Ok.ensures.made.own_is in
     train_decides node d t parts.owns.items parts.each.items parts.orders.pairs parts.paths.arcs c.replace-own.result c.replace-own.new.dest before c.replace-before.new.dest c.join_train.new.paths.arcs c.in-Ok-join_train.arcs may.state c.requires.about c.requires.there
     (rw c.replace-own.ensures.after more) (train_placed node d t parts.each.items c.replace-before.new.dest c.requires.about each_within may.state.placed placed) own_stood stood
     (c.in-Ok-join_train.ensures.added fixings decisions d (may_train node d c.args.ops.now parts t before c.replace-before.new.dest c.deref.result.now may c.requires.about c.requires.there stood placed c.deref.ensures.value))
@@ -77,8 +75,7 @@ returns-in-Err-clause-decided c fixings decisions may =
     let t = c.args.train in
     let within = (let lt : t < length parts.owns.items = omega (arith, c.requires.there, may.state.owns_long) in lt) in
     let each_within = (let lt : t < length parts.each.items = omega (arith, c.requires.there, may.state.placed.long) in lt) in
-    let routes = routes_now c.args.problem.now fixings decisions d t parts.owns.items c.index.result.now c.in-Ok.own c.as_slice.result.now c.as_slice-2.result.now c.in-Ok-others.routes may.state.own c.requires.about within c.index.ensures c.in-Ok.ensures
-    c.as_slice.ensures c.as_slice-2.ensures c.in-Ok-others.ensures in
+    let routes = routes_now c.args.problem.now fixings decisions d t parts.owns.items c.index.result.now c.in-Ok.made.own c.in-Ok.made.own.fixings c.in-Ok.made.own.decisions c.in-Ok.made.routes may.state.own c.requires.about within c.index.ensures c.in-Ok.ensures.made.own_is refl refl (subst (λ (u : ℕ). AreRoutesOf (node_at c.args.problem.now c.in-Ok.made.own.fixings c.in-Ok.made.own.decisions) u c.in-Ok.made.routes) c.in-Ok.ensures.made.train_is c.in-Ok.ensures.known) in
     let before = c.replace-before.result in
     let stood = read_as parts.each.items t before c.index_mut.result.now c.replace-before.ensures.value c.index_mut.ensures.value in
     let made = c.replace-before.ensures.after in

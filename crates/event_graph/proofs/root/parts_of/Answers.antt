@@ -29,3 +29,8 @@ pub returns-in_err-orders-in-Each-clause-err : goal.returns-in_err-orders-in-Eac
 returns-in_err-orders-in-Each-clause-err c =
     let p = err_from_is_err_and c.from_residual-in_err-orders-in-Each.result c.from_residual-in_err-orders-in-Each.ensures.1 in
     rw (p.1, p.2) tt
+
+pub returns-in_err-known-in-Each-clause-err : goal.returns-in_err-known-in-Each-clause-err
+returns-in_err-known-in-Each-clause-err c =
+    let p = err_from_is_err_and c.from_residual-in_err-known-in-Each.result c.from_residual-in_err-known-in-Each.ensures.1 in
+    rw (p.1, p.2) tt

@@ -12,4 +12,4 @@ invariant_of-self-in-Ok-decide c =
     let decisions : c.push-in-Ok-decide.new.self.items ≡ g.decisions.items ++ c.args.decision ∷ [] =
     (rw (c.is_err-in-Ok-decide.ensures.negation, c.if-is_err-2.false) at c.push-in-Ok-decide.ensures.items) ∙ ap (λ (l : List Decision). l ++ c.args.decision ∷ []) c.reserve-2.ensures.items in
     rw (trail, decisions) (graph_extends g.problem.now g.fixings.items g.ops.items g.closed.items g.decisions.items g.parts c.decide.new.parts g.trail.items c.args.decision change c.self.invariant
-    (c.in-Ok-decide.ensures.decided g.fixings.items g.decisions.items (rw c.deref.ensures.value c.self.invariant.may)) c.in-Ok-decide.ensures.lowers c.in-Ok-decide.ensures.uppers c.in-Ok-decide.ensures.size)
+    (c.in-Ok-decide.ensures.decided g.fixings.items g.decisions.items (rw c.deref.ensures.value c.self.invariant.may)) c.in-Ok-decide.ensures.lowers c.in-Ok-decide.ensures.uppers c.in-Ok-decide.ensures.size c.in-Ok-decide.ensures.known)
