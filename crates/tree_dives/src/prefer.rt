@@ -69,17 +69,22 @@ fn first_with(op: Option<Op>, children: &[Decision]) -> Option<usize>
 }
 
 /// The place of the child that costs least among those that are not dead, the first one of several,
-/// or 0. The graph is as before.
+/// or 0. No child costs less than the node itself, so none is tried behind one that costs no more.
+/// The graph is as before.
 fn cheapest(problem: &Problem, graph: &mut Graph, children: &[Decision]) -> usize
     requires { graph.old.problem ≡ problem.now }
     ensures same { graph.new ≡ graph.old }
     ensures within { result ≤ length children.now }
     ensures there { 0 < length children.now → result < length children.now }
 {
+    let floor = cost(problem, graph);
     let mut found = 0;
     let mut least = None;
     for (place, decision) in children.iter().enumerate() {
         if let Some(cost) = child_cost(problem, graph, *decision) {
+            if cost == floor {
+                return place;
+            }
             if least.is_none_or(|least| cost < least) {
                 least = Some(cost);
                 found = place;
