@@ -7,4 +7,5 @@ mod nodes;
 mod orders;
 mod overlaps;
 mod routes;
+mod rows;
 mod shares;

@@ -1,106 +1,96 @@
 // Two trains on one block, and a fork: what decisions make of their costs.
-ghost use Rattle.std.specs.Prelude.{◌≡◌, length};
+ghost use Rattle.std.specs.Prelude.{◌≡◌};
 
-use super::graphs::{extend, extend_by, go, later, op, order, root};
+use super::graphs::{ENTRY, ENTRY_FIRST, GO_1, GO_2, OTHER_FIRST, RUN_1, SKIP_1, check_bound};
+use super::rows::{Of, Row, Shown, are_shown};
 use cost_bound::{bound, cost};
-use disp_model::{ComponentWalk, Decision, Op, Problem};
+use disp_model::{ComponentWalk, Op, Problem};
 use event_graph::Graph;
 use std::alloc::Global;
 use std::panic::Expect;
 use std::process::Abort;
-use worked_problems::{forked, two_trains_until};
 
-/// The bound is this one, by both calls.
-fn check_bound(rt: &impl Abort, alloc: Global, problem: &Problem, graph: &Graph, wanted: u64)
+/// The bound, by both calls.
+fn costs(rt: &impl Abort, alloc: Global, problem: &Problem, graph: &Graph) -> (u64, u64)
     requires { graph.now.problem ≡ problem.now }
 {
-    let found = cost(problem, graph);
     let shown = bound(alloc, problem, graph).expect(rt, "a bound");
-    assert_eq!(rt; (found, shown.cost), (wanted, wanted));
+    (cost(problem, graph), shown.cost)
 }
 
-/// Where this is decided, if anything, the bound is this one.
-fn check_with(
+/// The bound is this one, by both calls.
+pub(super) fn check_cost(
     rt: &impl Abort,
     alloc: Global,
     problem: &Problem,
-    decision: Option<Decision>,
+    graph: &Graph,
     wanted: u64,
-) {
-    let mut graph = root(rt, alloc, problem);
-    extend_by(rt, &mut graph, decision);
-    check_bound(rt, alloc, problem, &graph, wanted);
+)
+    requires { graph.now.problem ≡ problem.now }
+{
+    check_bound(rt, costs(rt, alloc, problem, graph), wanted);
 }
 
-/// Adds a walk to a text: its component, and train and number of each operation.
-fn show(rt: &impl Abort, text: &mut String, walk: &ComponentWalk) {
-    let component = walk.component;
-    write!(text, "{component}:").expect(rt, "a text");
-    for op in walk.walk.as_slice() {
-        let Op { train, op } = *op;
-        write!(text, " {train}/{op}").expect(rt, "a text");
-    }
-    text.push_str("\n").expect(rt, "a text");
+/// There is one walk, to this component, over these operations.
+fn is_walk(rt: &impl Abort, walks: &[ComponentWalk], component: u32, ops: &[Op]) {
+    assert!(rt; walks.len() == 1);
+    let walk = &walks[0];
+    assert!(rt; walk.component == component);
+    assert_eq!(rt; walk.walk.as_slice(), ops);
 }
 
-/// Walks as a text.
-fn shown(rt: &impl Abort, alloc: Global, walks: &[ComponentWalk]) -> String {
-    let mut text = String::new(alloc);
-    for walk in walks {
-        show(rt, &mut text, walk);
-    }
-    text
-}
-
-/// The walks are these.
-fn check_walks(rt: &impl Abort, alloc: Global, problem: &Problem, graph: &Graph, wanted: &str)
+/// One walk shows the bound: this one.
+pub(super) fn check_walk(
+    rt: &impl Abort,
+    alloc: Global,
+    problem: &Problem,
+    graph: &Graph,
+    component: u32,
+    ops: &[Op],
+)
     requires { graph.now.problem ≡ problem.now }
 {
     let bound = bound(alloc, problem, graph).expect(rt, "a bound");
-    let text = shown(rt, alloc, bound.walks.as_slice());
-    assert_eq!(rt; text.as_str(), wanted);
+    is_walk(rt, bound.walks.as_slice(), component, ops);
 }
 
 /// What the two trains cost, in no order and in either.
-fn check_orders(rt: &impl Abort, alloc: Global, problem: &Problem) {
-    check_with(rt, alloc, problem, None, 14);
-    check_with(rt, alloc, problem, Some(order(0, 1)), 24);
-    check_with(rt, alloc, problem, Some(order(1, 0)), 18);
-}
+const ORDERS: &[Row] = &[
+    (Of::TwoTrainsUntil3, None, Shown::Cost(14)),
+    (Of::TwoTrainsUntil3, Some(ENTRY_FIRST), Shown::Cost(24)),
+    (Of::TwoTrainsUntil3, Some(OTHER_FIRST), Shown::Cost(18)),
+];
 
 #[test]
 fn orders_cost(rt: HostRuntime) {
-    let problem = two_trains_until(rt.alloc(), 3).expect(&rt, "two trains");
-    check_orders(&rt, rt.alloc(), &problem);
+    are_shown(&rt, ORDERS);
 }
 
 /// What the fork costs, by what is decided of its routes.
-fn check_routes(rt: &impl Abort, alloc: Global, problem: &Problem) {
-    check_with(rt, alloc, problem, None, 3);
-    check_with(rt, alloc, problem, Some(go(1)), 5);
-    check_with(rt, alloc, problem, Some(go(2)), 13);
-    check_with(rt, alloc, problem, Some(Decision::Run(op(0, 1))), 5);
-    check_with(rt, alloc, problem, Some(Decision::Skip(op(0, 1))), 13);
-}
+const ROUTES: &[Row] = &[
+    (Of::Forked, None, Shown::Cost(3)),
+    (Of::Forked, Some(GO_1), Shown::Cost(5)),
+    (Of::Forked, Some(GO_2), Shown::Cost(13)),
+    (Of::Forked, Some(RUN_1), Shown::Cost(5)),
+    (Of::Forked, Some(SKIP_1), Shown::Cost(13)),
+];
 
 #[test]
 fn routes_cost(rt: HostRuntime) {
-    let problem = forked(rt.alloc()).expect(&rt, "a fork");
-    check_routes(&rt, rt.alloc(), &problem);
+    are_shown(&rt, ROUTES);
 }
 
 /// What the fork costs where it begins later, and by which walk.
-fn check_later(rt: &impl Abort, alloc: Global, problem: &Problem)
-    requires { length problem.now.trains ≡ 1 }
-{
-    let mut graph = later(rt, alloc, problem);
-    extend(rt, &mut graph, go(1));
-    check_bound(rt, alloc, problem, &graph, 12);
-    check_walks(rt, alloc, problem, &graph, "1: 0/0 0/3\n");
-}
+const LATER: &[Row] = &[
+    (Of::ForkedLater, Some(GO_1), Shown::Cost(12)),
+    (
+        Of::ForkedLater,
+        Some(GO_1),
+        Shown::Walk(1, &[ENTRY, Op { train: 0, op: 3 }]),
+    ),
+];
 
 #[test]
 fn a_fixing_raises_a_lower(rt: HostRuntime) {
-    let problem = forked(rt.alloc()).expect(&rt, "a fork");
-    check_later(&rt, rt.alloc(), &problem);
+    are_shown(&rt, LATER);
 }

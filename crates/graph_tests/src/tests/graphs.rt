@@ -1,12 +1,31 @@
-// Graphs of nodes, and the decisions that tests add to them.
+// Graphs of nodes, and the operations and decisions that tests speak of.
 ghost use Rattle.std.specs.Prelude.{◌≡◌, length};
 
 use disp_model::{Decision, Fixing, Op, Problem};
 use event_graph::Graph;
 use incremental_paths::Arc;
 use std::alloc::Global;
-use std::panic::Expect;
 use std::process::Abort;
+
+/// The first operation of the first train, and of the second.
+pub(super) const ENTRY: Op = Op { train: 0, op: 0 };
+
+pub(super) const OTHER: Op = Op { train: 1, op: 0 };
+
+/// The first train before the second, and the second before the first.
+pub(super) const ENTRY_FIRST: Decision = Decision::First { a: ENTRY, b: OTHER };
+
+pub(super) const OTHER_FIRST: Decision = Decision::First { a: OTHER, b: ENTRY };
+
+/// The first train goes on from its first operation to 1, or to 2.
+pub(super) const GO_1: Decision = Decision::Go { op: ENTRY, next: 1 };
+
+pub(super) const GO_2: Decision = Decision::Go { op: ENTRY, next: 2 };
+
+/// The first train runs its operation 1, or skips it.
+pub(super) const RUN_1: Decision = Decision::Run(Op { train: 0, op: 1 });
+
+pub(super) const SKIP_1: Decision = Decision::Skip(Op { train: 0, op: 1 });
 
 /// The graph where nothing is fixed or decided.
 pub(super) fn root<'p>(rt: &impl Abort, alloc: Global, problem: &'p Problem) -> Graph<'p>
@@ -52,29 +71,30 @@ pub(super) fn extend_by(rt: &impl Abort, graph: &mut Graph, decision: Option<Dec
     }
 }
 
-/// Arcs as a text: from, to and length of each.
-pub(super) fn shown_arcs(rt: &impl Abort, alloc: Global, arcs: &[Arc]) -> String {
-    let mut text = String::new(alloc);
-    for arc in arcs {
-        let Arc { from, to, length } = *arc;
-        write!(text, "{from}-{to}:{length} ").expect(rt, "a text");
+/// Takes the last decision back.
+pub(super) fn undo(rt: &impl Abort, graph: &mut Graph)
+    ensures { graph.new.problem ≡ graph.old.problem }
+{
+    assert!(rt; graph.decisions().len() > 0);
+    graph.undo();
+}
+
+/// Both calls find this bound.
+pub(super) fn check_bound(rt: &impl Abort, found: (u64, u64), wanted: u64) {
+    assert_eq!(rt; found, (wanted, wanted));
+}
+
+/// An arc: its two nodes and its length.
+pub(super) type Step = (u32, u32, u64);
+
+fn check_arc(rt: &impl Abort, arc: Arc, wanted: Step) {
+    assert_eq!(rt; (arc.from, arc.to, arc.length), wanted);
+}
+
+/// The arcs are these.
+pub(super) fn check_arcs(rt: &impl Abort, arcs: &[Arc], wanted: &[Step]) {
+    assert!(rt; arcs.len() == wanted.len());
+    for (arc, step) in arcs.iter().zip(wanted) {
+        check_arc(rt, *arc, *step);
     }
-    text
-}
-
-pub(super) fn op(train: u32, op: u32) -> Op {
-    Op { train, op }
-}
-
-/// The one train before the other.
-pub(super) fn order(first: u32, second: u32) -> Decision {
-    Decision::First {
-        a: op(first, 0),
-        b: op(second, 0),
-    }
-}
-
-/// The train 0 goes on from its operation 0 so.
-pub(super) fn go(next: u32) -> Decision {
-    Decision::Go { op: op(0, 0), next }
 }

@@ -1,105 +1,162 @@
 // Two trains on one block: orders added, refused and taken back.
-ghost use Rattle.std.specs.Prelude.{◌≡◌, Some};
-ghost use Rattle.worked_problems.specs.Worked.{blocked_trains};
+ghost use Rattle.std.specs.Prelude.{◌≡◌, ◌<◌, IsTrue, length};
+ghost use Rattle.disp_model.specs.Valid.{train_at};
 
-use super::graphs::{extend, op, order, root, shown_arcs};
-use disp_model::{Decision, Op};
+use super::graphs::{ENTRY, ENTRY_FIRST, OTHER, OTHER_FIRST, Step, check_arcs, extend, undo};
+use super::rows::{Of, Shown, are_shown};
+use disp_model::{Decision, Op, Problem};
 use event_graph::{ExtendNo, Graph};
-use std::alloc::Global;
-use std::panic::Expect;
 use std::process::Abort;
-use worked_problems::two_trains_until;
 
-fn check_arcs(rt: &impl Abort, alloc: Global, graph: &Graph, wanted: &str) {
-    let text = shown_arcs(rt, alloc, graph.paths().arcs());
-    assert_eq!(rt; text.as_str(), wanted);
+/// What a graph is asked, or how it is moved.
+#[derive(Clone, Copy)]
+pub(super) enum Move {
+    /// The arcs are these.
+    Arcs(&'static [Step]),
+    /// The decision is added.
+    Add(Decision),
+    /// The decision is refused for this, and for this train, or 0.
+    Refuse(Decision, &'static str, u32),
+    /// The last decision is taken back.
+    Undo,
+    /// This operation is late.
+    Late(Option<Op>),
+    /// Whether the first train is put before the second, and the second before the first.
+    Decided(bool, bool),
 }
 
-/// Which refusal it is.
-fn refusal(rt: &impl Abort, alloc: Global, no: ExtendNo) -> String {
-    let text = match no {
-        ExtendNo::NoRoute(train) => format!(in alloc; "no route of {train}"),
-        ExtendNo::Cycle(_) => String::from_str(alloc, "cycle"),
-        ExtendNo::Memory => String::from_str(alloc, "memory"),
-    };
-    text.expect(rt, "a text")
+/// Which refusal it is, and of which train.
+fn refusal(no: &ExtendNo) -> (&'static str, u32) {
+    match no {
+        ExtendNo::NoRoute(train) => ("no route", *train),
+        ExtendNo::Cycle(_) => ("cycle", 0),
+        ExtendNo::Memory => ("memory", 0),
+    }
 }
 
-/// The decision is refused in these words.
-fn check_refused(
-    rt: &impl Abort,
-    alloc: Global,
-    graph: &mut Graph,
-    decision: Decision,
-    wanted: &str,
-) {
-    let Err(no) = graph.extend(decision) else {
-        panic!(rt; "the decision is added");
-    };
-    let text = refusal(rt, alloc, no);
-    assert_eq!(rt; text.as_str(), wanted);
+/// How the decision is refused.
+fn refused(graph: &mut Graph, decision: Decision) -> (&'static str, u32)
+    ensures { graph.new.problem ≡ graph.old.problem }
+{
+    match graph.extend(decision) {
+        Ok(()) => ("added", 0),
+        Err(no) => refusal(&no),
+    }
 }
 
-/// Orders that are added, and refused, from the root on.
-fn check_added(rt: &impl Abort, alloc: Global, graph: &mut Graph) {
-    check_arcs(rt, alloc, graph, "0-1:10 2-3:4 ");
-    check_refused(rt, alloc, graph, Decision::Skip(op(1, 0)), "no route of 1");
-    extend(rt, graph, order(0, 1));
-    check_arcs(rt, alloc, graph, "0-1:10 2-3:4 0-2:10 1-2:0 ");
-    check_refused(rt, alloc, graph, order(1, 0), "cycle");
-    check_arcs(rt, alloc, graph, "0-1:10 2-3:4 0-2:10 1-2:0 ");
+/// The decision is refused so.
+fn check_refused(rt: &impl Abort, graph: &mut Graph, decision: Decision, wanted: (&str, u32))
+    ensures { graph.new.problem ≡ graph.old.problem }
+{
+    let refusal = refused(graph, decision);
+    assert_eq!(rt; refusal, wanted);
 }
+
+fn check_late(rt: &impl Abort, graph: &Graph, wanted: Option<Op>) {
+    assert_eq!(rt; graph.late(), wanted);
+}
+
+/// Whether there is such an operation.
+fn is_there(problem: &Problem, op: Op) -> bool
+    ensures { IsTrue result → (op.train < length problem.now.trains)
+        × (op.op < length (train_at problem.now op.train)) }
+{
+    match problem.trains.as_slice().get(op.train as usize) {
+        Some(train) => (op.op as usize) < train.len(),
+        None => false,
+    }
+}
+
+/// Whether the first train is put before the second, and the second before the first.
+fn decided(rt: &impl Abort, problem: &Problem, graph: &Graph) -> (bool, bool)
+    requires { graph.now.problem ≡ problem.now }
+{
+    assert!(rt; is_there(problem, ENTRY));
+    assert!(rt; is_there(problem, OTHER));
+    (
+        graph.is_decided(ENTRY, OTHER),
+        graph.is_decided(OTHER, ENTRY),
+    )
+}
+
+fn check_decided(rt: &impl Abort, problem: &Problem, graph: &Graph, wanted: (bool, bool))
+    requires { graph.now.problem ≡ problem.now }
+{
+    assert_eq!(rt; decided(rt, problem, graph), wanted);
+}
+
+fn check_move(rt: &impl Abort, problem: &Problem, graph: &mut Graph, next: Move)
+    requires { graph.old.problem ≡ problem.now }
+    ensures { graph.new.problem ≡ problem.now }
+{
+    match next {
+        Move::Arcs(wanted) => check_arcs(rt, graph.paths().arcs(), wanted),
+        Move::Add(decision) => extend(rt, graph, decision),
+        Move::Refuse(decision, wanted, train) => {
+            check_refused(rt, graph, decision, (wanted, train))
+        }
+        Move::Undo => undo(rt, graph),
+        Move::Late(wanted) => check_late(rt, graph, wanted),
+        Move::Decided(one, other) => check_decided(rt, problem, graph, (one, other)),
+    }
+}
+
+/// So it is move by move.
+pub(super) fn check_moves(rt: &impl Abort, problem: &Problem, graph: &mut Graph, moves: &[Move])
+    requires { graph.old.problem ≡ problem.now }
+{
+    for next in moves {
+        check_move(rt, problem, graph, *next);
+    }
+}
+
+/// The arcs in no order, and where the first train goes first, or the second.
+const NONE: &[Step] = &[(0, 1, 10), (2, 3, 4)];
+
+const FIRST: &[Step] = &[(0, 1, 10), (2, 3, 4), (0, 2, 10), (1, 2, 0)];
+
+const SECOND: &[Step] = &[(0, 1, 10), (2, 3, 4), (2, 0, 4), (3, 0, 0)];
+
+const ADDED: &[Move] = &[
+    Move::Arcs(NONE),
+    Move::Refuse(Decision::Skip(OTHER), "no route", 1),
+    Move::Add(ENTRY_FIRST),
+    Move::Arcs(FIRST),
+    Move::Refuse(OTHER_FIRST, "cycle", 0),
+    Move::Arcs(FIRST),
+];
 
 #[test]
 fn orders_are_added_and_refused(rt: HostRuntime) {
-    let problem = two_trains_until(rt.alloc(), 3).expect(&rt, "two trains");
-    let mut graph = root(&rt, rt.alloc(), &problem);
-    check_added(&rt, rt.alloc(), &mut graph);
+    are_shown(&rt, &[(Of::TwoTrainsUntil3, None, Shown::Moves(ADDED))]);
 }
 
 /// An order that is late, and is taken back, and then the other one.
-fn check_undone(rt: &impl Abort, alloc: Global, graph: &mut Graph) {
-    assert_eq!(rt; graph.late(), None);
-    extend(rt, graph, order(0, 1));
-    assert_eq!(rt; graph.late(), Some(op(1, 0)));
-    assert!(rt; graph.decisions().len() > 0);
-    graph.undo();
-    assert_eq!(rt; graph.late(), None);
-    extend(rt, graph, order(1, 0));
-    check_arcs(rt, alloc, graph, "0-1:10 2-3:4 2-0:4 3-0:0 ");
-}
+const UNDONE: &[Move] = &[
+    Move::Late(None),
+    Move::Add(ENTRY_FIRST),
+    Move::Late(Some(OTHER)),
+    Move::Undo,
+    Move::Late(None),
+    Move::Add(OTHER_FIRST),
+    Move::Arcs(SECOND),
+];
 
 #[test]
 fn the_last_order_is_taken_back(rt: HostRuntime) {
-    let problem = two_trains_until(rt.alloc(), 3).expect(&rt, "two trains");
-    let mut graph = root(&rt, rt.alloc(), &problem);
-    check_undone(&rt, rt.alloc(), &mut graph);
-}
-
-/// Whether the one train is put before the other, and the other before the one.
-fn decided(graph: &Graph) -> (bool, bool)
-    requires { graph.now.problem.trains ≡ blocked_trains (Some 3) 0 }
-{
-    let one = Op { train: 0, op: 0 };
-    let other = Op { train: 1, op: 0 };
-    (graph.is_decided(one, other), graph.is_decided(other, one))
+    are_shown(&rt, &[(Of::TwoTrainsUntil3, None, Shown::Moves(UNDONE))]);
 }
 
 /// An order that is added is decided until it is taken back, and its reverse never is.
-fn check_decided(rt: &impl Abort, graph: &mut Graph)
-    requires { graph.old.problem.trains ≡ blocked_trains (Some 3) 0 }
-{
-    assert_eq!(rt; decided(graph), (false, false));
-    extend(rt, graph, order(0, 1));
-    assert_eq!(rt; decided(graph), (true, false));
-    assert!(rt; graph.decisions().len() > 0);
-    graph.undo();
-    assert_eq!(rt; decided(graph), (false, false));
-}
+const DECIDED: &[Move] = &[
+    Move::Decided(false, false),
+    Move::Add(ENTRY_FIRST),
+    Move::Decided(true, false),
+    Move::Undo,
+    Move::Decided(false, false),
+];
 
 #[test]
 fn an_order_is_decided_until_it_is_taken_back(rt: HostRuntime) {
-    let problem = two_trains_until(rt.alloc(), 3).expect(&rt, "two trains");
-    let mut graph = root(&rt, rt.alloc(), &problem);
-    check_decided(&rt, &mut graph);
+    are_shown(&rt, &[(Of::TwoTrainsUntil3, None, Shown::Moves(DECIDED))]);
 }
