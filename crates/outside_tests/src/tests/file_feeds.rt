@@ -1,4 +1,6 @@
 // Feeds of files of the system, and of a reader that halts.
+ghost use Rattle.std.specs.Prelude.{◌≡◌};
+
 use super::file_shelves::path_of;
 use disp_outside::{Feed, FeedLine, FeedNo, FileFeed, FileShelf, LineBuf, Shelf};
 use fault_counts::Ticket;
@@ -9,7 +11,9 @@ use std::process::Abort;
 use std::{fs, io};
 
 /// Asserts what a feed answers, and its lines where one is named.
-fn check_lines(rt: &impl Abort, feed: &mut impl Feed, rows: &[(FeedLine, Option<&str>)]) {
+fn check_lines<F: Feed>(rt: &impl Abort, feed: &mut F, rows: &[(FeedLine, Option<&str>)])
+    ensures { F.name feed.new ≡ F.name feed.old }
+{
     let mut line = LineBuf::new();
     for (told, text) in rows {
         assert_eq!(rt; feed.line(&mut line), *told);
