@@ -1,6 +1,7 @@
 mod ahead;
 mod dives;
 mod leaves;
+mod parts;
 mod script;
 mod searches;
 mod steps;

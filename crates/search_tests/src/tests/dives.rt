@@ -1,26 +1,14 @@
 // Dives from the root of a fork.
 ghost use Rattle.std.specs.Prelude.{◌≡◌};
 
-use disp_model::{Leaf, Problem, Rule, TreeNode};
+use super::parts::{Worked, means_of, problem_of, root};
+use disp_model::{Leaf, List, Problem, Rule, TreeNode};
 use event_graph::Graph;
-use node_leaves::Reckoning;
-use share_bound::KnownShares;
+use packed_nodes::PackedNode;
 use std::alloc::Global;
 use std::panic::Expect;
 use std::process::Abort;
-use train_insertion::Target;
-use tree_dives::{Dive, End, Guide, dive};
-use worked_problems::forked;
-
-/// The graph where nothing is fixed or decided.
-fn root<'p>(rt: &impl Abort, alloc: Global, problem: &'p Problem) -> Graph<'p>
-    ensures { result.problem ≡ problem.now }
-{
-    match Graph::new(alloc, problem, &[]) {
-        Ok(graph) => graph,
-        Err(_) => panic!(rt; "there is no graph"),
-    }
-}
+use tree_dives::{Dive, End, dive};
 
 /// How a dive ended.
 fn shown_end(end: &End) -> &'static str {
@@ -34,61 +22,120 @@ fn shown_end(end: &End) -> &'static str {
 /// The kind of a node.
 fn shown_node(node: &TreeNode) -> &'static str {
     match node {
-        TreeNode::Branch { .. } => " branch",
-        TreeNode::Leaf(Leaf::Costs(_)) => " costs",
-        TreeNode::Leaf(_) => " other",
+        TreeNode::Branch { .. } => "branch",
+        TreeNode::Leaf(Leaf::Costs(_)) => "costs",
+        TreeNode::Leaf(_) => "other",
     }
 }
 
-/// How a dive ended, its nodes, and the bounds of its leaves.
-fn shown(rt: &impl Abort, alloc: Global, dive: &Dive) -> String {
-    let mut text = String::from_str(alloc, shown_end(&dive.end)).expect(rt, "a text");
-    for packed in dive.nodes.as_slice() {
-        let node = packed.node(alloc).expect(rt, "a node");
-        text.push_str(shown_node(&node)).expect(rt, "a text");
-    }
-    for bound in dive.bounds.as_slice() {
-        write!(text, " {bound}").expect(rt, "a text");
-    }
-    text
+/// A packed node is of this kind.
+fn check_node(rt: &impl Abort, alloc: Global, packed: &PackedNode, wanted: &str) {
+    let node = packed.node(alloc).expect(rt, "a node");
+    assert_eq!(rt; shown_node(&node), wanted);
+    drop(node);
 }
 
-/// A dive from the root with so many branches below the best cost gives this, and leaves the graph
-/// at the root.
-fn check(
+/// The nodes are of these kinds, one by one.
+fn check_nodes(rt: &impl Abort, alloc: Global, nodes: &List<PackedNode>, wanted: &[&str]) {
+    for (packed, kind) in nodes.as_slice().iter().zip(wanted) {
+        check_node(rt, alloc, packed, kind);
+    }
+}
+
+/// A rule, the best cost and how many branches; how a dive ends, the kinds of its nodes, and the
+/// bounds of its leaves.
+type Row = (
+    Rule,
+    Option<u64>,
+    u32,
+    &'static str,
+    &'static [&'static str],
+    &'static [u64],
+);
+
+/// What a dive gives, with what it works with made for it alone.
+fn dived(
     rt: &impl Abort,
     alloc: Global,
     problem: &Problem,
+    graph: &mut Graph,
     rule: Rule,
     best: Option<u64>,
     allowance: u32,
-    wanted: &str,
-) {
-    let mut graph = root(rt, alloc, problem);
-    let mut guide = Guide::new(alloc, problem, Target::none(alloc)).expect(rt, "a guide");
-    let reckoning = Reckoning::new(alloc, problem, rule).expect(rt, "a reckoning");
-    let mut known = KnownShares::new(alloc, problem).expect(rt, "shares");
+) -> Dive
+    requires { graph.old.problem ≡ problem.now }
+{
+    let mut means = means_of(rt, alloc, problem, rule);
     let found = dive(
-        alloc, problem, &reckoning, &mut graph, &mut known, best, allowance, &mut guide,
+        alloc,
+        problem,
+        &means.reckoning,
+        graph,
+        &mut means.known,
+        best,
+        allowance,
+        &mut means.guide,
     );
-    let text = shown(rt, alloc, &found.expect(rt, "a dive"));
-    let decided = graph.decisions().len();
-    assert_eq!(rt; (text.as_str(), decided), (wanted, 0));
+    drop(means);
+    found.expect(rt, "a dive")
 }
 
-/// The rule, the best cost, how many branches, and what a dive gives.
-const DIVES: &[(Rule, Option<u64>, u32, &str)] = &[
-    (Rule::Fixed, None, 0, "open costs 3"),
-    (Rule::Fixed, Some(3), 9, "closed costs 3"),
-    (Rule::Free, Some(3), 9, "closed costs 3"),
-    (Rule::Fixed, Some(5), 9, "closed branch costs costs 5 13"),
-    (Rule::Fixed, None, 1, "plan branch costs costs 5 13"),
+/// A dive from the root of a graph gives what its row says, and leaves the graph there.
+fn check_dive(rt: &impl Abort, alloc: Global, problem: &Problem, graph: &mut Graph, row: &Row)
+    requires { graph.old.problem ≡ problem.now }
+{
+    let (rule, best, allowance, end, nodes, bounds) = *row;
+    let found = dived(rt, alloc, problem, graph, rule, best, allowance);
+    let seen = (
+        shown_end(&found.end),
+        found.bounds.as_slice(),
+        found.nodes.len(),
+        graph.decisions().len(),
+    );
+    assert_eq!(rt; seen, (end, bounds, nodes.len(), 0));
+    check_nodes(rt, alloc, &found.nodes, nodes);
+    drop(found);
+}
+
+/// The same at a graph of its own.
+fn check_row(rt: &impl Abort, alloc: Global, problem: &Problem, row: &Row) {
+    let mut graph = root(rt, alloc, problem);
+    check_dive(rt, alloc, problem, &mut graph, row);
+    drop(graph);
+}
+
+/// So it is for each row.
+fn check_rows(rt: &impl Abort, alloc: Global, problem: &Problem, rows: &[Row]) {
+    for row in rows {
+        check_row(rt, alloc, problem, row);
+    }
+}
+
+const DIVES: &[Row] = &[
+    (Rule::Fixed, None, 0, "open", &["costs"], &[3]),
+    (Rule::Fixed, Some(3), 9, "closed", &["costs"], &[3]),
+    (Rule::Free, Some(3), 9, "closed", &["costs"], &[3]),
+    (
+        Rule::Fixed,
+        Some(5),
+        9,
+        "closed",
+        &["branch", "costs", "costs"],
+        &[5, 13],
+    ),
+    (
+        Rule::Fixed,
+        None,
+        1,
+        "plan",
+        &["branch", "costs", "costs"],
+        &[5, 13],
+    ),
 ];
 
 #[test]
 fn the_way_that_costs_less_is_followed(rt: HostRuntime) {
-    let problem = forked(rt.alloc()).expect(&rt, "a fork");
-    for (rule, best, allowance, wanted) in DIVES {
-        check(&rt, rt.alloc(), &problem, *rule, *best, *allowance, wanted);
-    }
+    let problem = problem_of(&rt, rt.alloc(), Worked::Fork);
+    check_rows(&rt, rt.alloc(), &problem, DIVES);
+    drop(problem);
 }

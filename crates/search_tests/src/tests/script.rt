@@ -8,23 +8,19 @@ ghost use Rattle.dispatch_core.specs.Replies.{Steps};
 ghost use Rattle.event_graph.specs.Joined.{IsOfEdition};
 ghost use Rattle.search_tests.specs.Scripts.{IsGrownAt, IsRun};
 
+use super::parts::{Worked, graph_of, means_of, problem_of};
 use disp_model::{
     Change, Copied, Event, Fixing, List, Mark, Plan, Problem, Reply, Rule, Settings, Verdict,
 };
 use dispatch_core::{Core, CoreEvent, CoreReply, StepNo};
 use event_graph::Graph;
-use node_leaves::Reckoning;
 use open_nodes::{Fragment, Work};
 use packed_nodes::PackedNode;
 use search_workers::{Growth, grow};
-use share_bound::KnownShares;
 use solution_verifier::Fault;
 use std::alloc::Global;
 use std::panic::Expect;
 use std::process::Abort;
-use train_insertion::Target;
-use tree_dives::Guide;
-use worked_problems::two_trains;
 
 /// A reply as a text, as far as it comes here.
 fn shown(told: &CoreReply) -> &'static str {
@@ -99,7 +95,25 @@ fn taken(
     }
 }
 
-/// What grows at the node of a work, from the root of these fixings.
+/// Searcher 0 takes a leaf of an edition for one branch: its number, its allowance, its place in
+/// the history and the best cost are these.
+fn taken_so(
+    rt: &impl Abort,
+    alloc: Global,
+    core: &mut Core,
+    edition: u32,
+    wanted: (u128, u32, u64, Option<u64>),
+) -> Work
+    requires run { IsRun core.old }
+    ensures run { IsRun core.new }
+{
+    let work = taken(rt, alloc, core, 0, edition, 1);
+    let seen = (work.node, work.allowance, work.seen, work.best);
+    assert_eq!(rt; seen, wanted);
+    work
+}
+
+/// What grows at the node of a work, from the root of a graph.
 fn growth(
     rt: &impl Abort,
     alloc: Global,
@@ -111,16 +125,39 @@ fn growth(
     requires edition { IsOfEdition graph.old }
     ensures grown { IsGrownAt problem.now graph.old.fixings work.now result.0 result.1 }
 {
-    let reckoning = Reckoning::new(alloc, problem, Rule::Fixed).expect(rt, "a reckoning");
-    let mut guide = Guide::new(alloc, problem, Target::none(alloc)).expect(rt, "a guide");
-    let mut known = KnownShares::new(alloc, problem).expect(rt, "shares");
+    let mut means = means_of(rt, alloc, problem, Rule::Fixed);
     let grown = grow(
-        alloc, problem, &reckoning, graph, &mut known, work, work.best, &mut guide,
+        alloc,
+        problem,
+        &means.reckoning,
+        graph,
+        &mut means.known,
+        work,
+        work.best,
+        &mut means.guide,
     );
+    drop(means);
     match grown {
         Ok(Growth::Subtree { nodes, bounds, .. }) => (nodes, bounds),
         _ => panic!(rt; "nothing grows"),
     }
+}
+
+/// The same from the root of these fixings.
+fn growth_at(
+    rt: &impl Abort,
+    alloc: Global,
+    problem: &Problem,
+    work: &Work,
+    fixings: &[Fixing],
+) -> (List<PackedNode>, List<u64>)
+    requires edition { IsOfEdition (node_at problem.now fixings.now []) }
+    ensures grown { IsGrownAt problem.now fixings.now work.now result.0 result.1 }
+{
+    let mut graph = graph_of(rt, alloc, problem, fixings);
+    let grown = growth(rt, alloc, problem, &mut graph, work);
+    drop(graph);
+    grown
 }
 
 /// What a searcher makes of the leaf of a work under these fixings.
@@ -135,10 +172,7 @@ fn grown(
     ensures work { result.work ≡ work }
     ensures grown { IsGrownAt problem.now fixings.now result.work result.subtree result.bounds }
 {
-    let Ok(mut graph) = Graph::new(alloc, problem, fixings) else {
-        panic!(rt; "no graph");
-    };
-    let (subtree, bounds) = growth(rt, alloc, problem, &mut graph, &work);
+    let (subtree, bounds) = growth_at(rt, alloc, problem, &work, fixings);
     Fragment {
         work,
         subtree,
@@ -288,9 +322,7 @@ fn check_change(rt: &impl Abort, alloc: Global, core: &mut Core)
     requires run { IsRun core.old }
     ensures run { IsRun core.new }
 {
-    let root = taken(rt, alloc, core, 0, 0, 1);
-    let seen = (root.node, root.allowance, root.seen, root.best);
-    assert_eq!(rt; seen, (0, 1, 0, None));
+    let root = taken_so(rt, alloc, core, 0, (0, 1, 0, None));
     check_take(rt, alloc, core, 0, "one out");
     check_ask(rt, alloc, core, 1, started(), "accepted 1");
     check_first(rt, alloc, core, root, "grown 1");
@@ -320,9 +352,7 @@ fn check_verdict(rt: &impl Abort, alloc: Global, core: &mut Core)
         CoreEvent::Settle { edition: 1 },
         "leaf 2 open for 18",
     );
-    let leaf = taken(rt, alloc, core, 0, 1, 1);
-    let seen = (leaf.node, leaf.allowance, leaf.seen, leaf.best);
-    assert_eq!(rt; seen, (2, 1, 3, Some(24)));
+    let leaf = taken_so(rt, alloc, core, 1, (2, 1, 3, Some(24)));
     check_newest(rt, alloc, core, leaf, "grown 0");
     check(
         rt,
@@ -394,21 +424,37 @@ fn check_back(rt: &impl Abort, alloc: Global, core: &mut Core, work: Work, wante
     check(rt, alloc, core, back, wanted);
 }
 
-/// What is free of a budget of 3 is shared out, and a work comes back once.
-fn check_shares(rt: &impl Abort, alloc: Global, core: &mut Core)
+/// What is free of a budget of 3 goes out with the root, which comes back once.
+fn check_root(rt: &impl Abort, alloc: Global, core: &mut Core)
     requires run { IsRun core.old }
     ensures run { IsRun core.new }
 {
     let root = taken(rt, alloc, core, 0, 0, 32);
-    assert_eq!(rt; root.allowance, 3);
+    assert!(rt; root.allowance == 3);
     let again = same(rt, &root);
     check_back(rt, alloc, core, root, "noted");
     check_back(rt, alloc, core, again, "0 is gone");
+}
+
+/// What may be grown at a leaf that a searcher takes.
+fn allowance(rt: &impl Abort, alloc: Global, core: &mut Core, searcher: u32) -> u32
+    requires run { IsRun core.old }
+    ensures run { IsRun core.new }
+{
+    taken(rt, alloc, core, searcher, 0, 2).allowance
+}
+
+/// What is free is shared out between two leaves.
+fn check_shares(rt: &impl Abort, alloc: Global, core: &mut Core)
+    requires run { IsRun core.old }
+    ensures run { IsRun core.new }
+{
+    check_root(rt, alloc, core);
     let root = taken(rt, alloc, core, 0, 0, 32);
     check_first(rt, alloc, core, root, "grown 1");
-    let first = taken(rt, alloc, core, 0, 0, 2);
-    let second = taken(rt, alloc, core, 1, 0, 2);
-    assert_eq!(rt; (first.allowance, second.allowance), (2, 0));
+    let first = allowance(rt, alloc, core, 0);
+    let second = allowance(rt, alloc, core, 1);
+    assert_eq!(rt; (first, second), (2, 0));
 }
 
 /// A leaf whose node is dead by a start is handed in when that was taken back: it shows nothing.
@@ -443,47 +489,76 @@ fn check_late(rt: &impl Abort, alloc: Global, core: &mut Core)
 fn begun(rt: &impl Abort, alloc: Global, budget: u32) -> Core
     ensures { IsRun result }
 {
-    let problem = two_trains(alloc).expect(rt, "two trains");
+    let problem = problem_of(rt, alloc, Worked::Trains);
     let settings = Settings {
         budget,
         rule: Rule::Fixed,
     };
-    Core::new(alloc, &problem, settings, 1, 2).expect(rt, "a core")
+    let core = Core::new(alloc, &problem, settings, 1, 2).expect(rt, "a core");
+    drop(problem);
+    core
+}
+
+/// How a run goes on behind a start, or from its begin.
+#[derive(Clone, Copy)]
+enum Scene {
+    /// To a verdict, and to its end.
+    End,
+    /// To a verdict, behind which the start is taken back.
+    Withdrawal,
+    /// The start is taken back while a leaf is out.
+    Late,
+    /// A budget is shared out.
+    Shares,
+}
+
+/// The run goes so.
+fn play(rt: &impl Abort, alloc: Global, core: &mut Core, scene: Scene)
+    requires { IsRun core.old }
+{
+    match scene {
+        Scene::End => {
+            check_change(rt, alloc, core);
+            check_verdict(rt, alloc, core);
+            check_end(rt, alloc, core);
+        }
+        Scene::Withdrawal => {
+            check_change(rt, alloc, core);
+            check_verdict(rt, alloc, core);
+            check_withdrawal(rt, alloc, core);
+        }
+        Scene::Late => {
+            check_change(rt, alloc, core);
+            check_plan(rt, alloc, core, 1, dearer(rt, alloc), "published 24");
+            check_late(rt, alloc, core);
+        }
+        Scene::Shares => check_shares(rt, alloc, core),
+    }
+}
+
+/// A run with this budget goes so.
+fn run(rt: &impl Abort, alloc: Global, budget: u32, scene: Scene) {
+    let mut core = begun(rt, alloc, budget);
+    play(rt, alloc, &mut core, scene);
+    drop(core);
 }
 
 #[test]
 fn a_train_starts_while_the_root_is_out(rt: HostRuntime) {
-    let mut core = begun(&rt, rt.alloc(), 1);
-    check_change(&rt, rt.alloc(), &mut core);
-    check_verdict(&rt, rt.alloc(), &mut core);
-    check_end(&rt, rt.alloc(), &mut core);
+    run(&rt, rt.alloc(), 1, Scene::End);
 }
 
 #[test]
 fn a_start_is_taken_back_behind_a_verdict(rt: HostRuntime) {
-    let mut core = begun(&rt, rt.alloc(), 1);
-    check_change(&rt, rt.alloc(), &mut core);
-    check_verdict(&rt, rt.alloc(), &mut core);
-    check_withdrawal(&rt, rt.alloc(), &mut core);
+    run(&rt, rt.alloc(), 1, Scene::Withdrawal);
 }
 
 #[test]
 fn a_start_is_taken_back_while_a_leaf_is_out(rt: HostRuntime) {
-    let mut core = begun(&rt, rt.alloc(), 1);
-    check_change(&rt, rt.alloc(), &mut core);
-    check_plan(
-        &rt,
-        rt.alloc(),
-        &mut core,
-        1,
-        dearer(&rt, rt.alloc()),
-        "published 24",
-    );
-    check_late(&rt, rt.alloc(), &mut core);
+    run(&rt, rt.alloc(), 1, Scene::Late);
 }
 
 #[test]
 fn a_budget_is_shared_out(rt: HostRuntime) {
-    let mut core = begun(&rt, rt.alloc(), 3);
-    check_shares(&rt, rt.alloc(), &mut core);
+    run(&rt, rt.alloc(), 3, Scene::Shares);
 }

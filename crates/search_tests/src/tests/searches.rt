@@ -1,12 +1,12 @@
 // Searches of a fork, and of two trains on one block, on one thread.
+use super::parts::{Worked, problem_of};
 use disp_model::{Entry, Op, Problem, Rule, Settings, Verdict};
 use dispatch_core::Core;
 use search_workers::search_alone;
 use std::alloc::Global;
 use std::panic::Expect;
 use std::process::Abort;
-use train_insertion::target;
-use worked_problems::{forked, two_trains_until};
+use train_insertion::{Target, target};
 
 /// An entry of a search as a text.
 fn shown(rt: &impl Abort, alloc: Global, entry: &Entry) -> String {
@@ -46,6 +46,7 @@ fn searched(rt: &impl Abort, alloc: Global, problem: &Problem, rule: Rule, budge
 fn check(rt: &impl Abort, alloc: Global, problem: &Problem, rule: Rule, budget: u32, wanted: &str) {
     let core = searched(rt, alloc, problem, rule, budget);
     let text = shown_all(rt, alloc, core.history());
+    drop(core);
     assert_eq!(rt; text.as_str(), wanted);
 }
 
@@ -59,29 +60,45 @@ const SEARCHES: &[(Rule, u32, &str)] = &[
     (Rule::Free, 1, FOUND),
 ];
 
+/// So it is for each row.
+fn check_rows(rt: &impl Abort, alloc: Global, problem: &Problem, rows: &[(Rule, u32, &str)]) {
+    for (rule, budget, wanted) in rows {
+        check(rt, alloc, problem, *rule, *budget, wanted);
+    }
+}
+
 #[test]
 fn the_fork_is_searched(rt: HostRuntime) {
-    let problem = forked(rt.alloc()).expect(&rt, "a fork");
-    for (rule, budget, wanted) in SEARCHES {
-        check(&rt, rt.alloc(), &problem, *rule, *budget, wanted);
-    }
+    let problem = problem_of(&rt, rt.alloc(), Worked::Fork);
+    check_rows(&rt, rt.alloc(), &problem, SEARCHES);
+    drop(problem);
+}
+
+/// When a train starts its first operation in the target.
+fn start(target: &Target, train: u32) -> Option<u64> {
+    target.start_of(Op { train, op: 0 })
 }
 
 /// Whether some train has no run in the target.
 fn leaves_one_out(rt: &impl Abort, alloc: Global, problem: &Problem) -> bool {
-    let mut order = Vec::new(alloc);
-    let target = target(alloc, problem, &[], 100, &mut order).expect(rt, "a target");
-    let first = target.start_of(Op { train: 0, op: 0 });
-    let second = target.start_of(Op { train: 1, op: 0 });
-    first.is_none() || second.is_none()
+    let target = target(alloc, problem, &[], 100, &mut Vec::new(alloc)).expect(rt, "a target");
+    start(&target, 0).is_none() || start(&target, 1).is_none()
 }
 
-/// The last entry of a search with ample budget, where the target leaves a train out.
-fn check_last(rt: &impl Abort, alloc: Global, problem: &Problem, rule: Rule, wanted: &str) {
-    assert!(rt; leaves_one_out(rt, alloc, problem));
+/// The last entry of a search with ample budget.
+fn last(rt: &impl Abort, alloc: Global, problem: &Problem, rule: Rule) -> String {
     let core = searched(rt, alloc, problem, rule, 9);
-    let last = core.history().last().expect(rt, "an entry");
-    let text = shown(rt, alloc, last);
+    let text = shown(rt, alloc, core.history().last().expect(rt, "an entry"));
+    drop(core);
+    text
+}
+
+/// So ends a search with ample budget, where the target leaves a train out.
+fn check_last(rt: &impl Abort, alloc: Global, worked: Worked, rule: Rule, wanted: &str) {
+    let problem = problem_of(rt, alloc, worked);
+    assert!(rt; leaves_one_out(rt, alloc, &problem));
+    let text = last(rt, alloc, &problem, rule);
+    drop(problem);
     assert_eq!(rt; text.as_str(), wanted);
 }
 
@@ -89,8 +106,6 @@ fn check_last(rt: &impl Abort, alloc: Global, problem: &Problem, rule: Rule, wan
 // finds no time then, and yet there is a plan without such a gap; until 3 there is none at all.
 #[test]
 fn a_target_that_does_not_fit_changes_no_verdict(rt: HostRuntime) {
-    let tight = two_trains_until(rt.alloc(), 4).expect(&rt, "two trains");
-    let none = two_trains_until(rt.alloc(), 3).expect(&rt, "two trains");
-    check_last(&rt, rt.alloc(), &tight, Rule::Free, "optimal 18\n");
-    check_last(&rt, rt.alloc(), &none, Rule::Fixed, "infeasible\n");
+    check_last(&rt, rt.alloc(), Worked::Until4, Rule::Free, "optimal 18\n");
+    check_last(&rt, rt.alloc(), Worked::Until3, Rule::Fixed, "infeasible\n");
 }

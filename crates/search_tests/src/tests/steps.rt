@@ -143,4 +143,5 @@ fn the_empty_plan_is_optimal(rt: HostRuntime) {
     check_work(&rt, alloc, &mut core);
     check_plan(&rt, alloc, &mut core);
     check_change(&rt, alloc, &mut core);
+    drop(core);
 }
