@@ -14,7 +14,7 @@ use Rattle.event_graph.specs.declared.parts.Parts.{Parts}
 use Rattle.event_graph.specs.States.{GraphState, IsStateAt, restored_state, MayRestore}
 use Rattle.event_graph.specs.Late.{AreUppersOf}
 use Rattle.event_graph.specs.Kept.{state_of, Decides}
-use Rattle.event_graph.specs.Known.{AreKnown}
+use Rattle.event_graph.specs.Known.{KeepsOwnRoutes}
 use Rattle.event_graph.specs.Graphs.{ArePast, IsGraph}
 
 got_front : {X : Type 0} → (xs : List X) (i j : ℕ) (x : X) → j < i → slice_get xs j ≡ Some x → slice_get (take i xs) j ≡ Some x
@@ -46,7 +46,7 @@ past_more problem fixings decisions trail d change (suc k) state le past = recor
 }
 
 pub graph_extends : (problem : Problem) (fixings : List Fixing) (ops closed : List Op) (decisions : List Decision) (parts new : Parts) (trail : List Change) (d : Decision) (change : Change) → IsGraph problem fixings ops closed decisions parts trail
-    → Decides (with_decision (node_at problem fixings decisions) d) change (state_of parts) (state_of new) → new.paths.lowers ≡ parts.paths.lowers → new.paths.uppers ≡ parts.paths.uppers → new.orders.size ≡ parts.orders.size → AreKnown problem new.known
+    → Decides (with_decision (node_at problem fixings decisions) d) change (state_of parts) (state_of new) → new.paths.lowers ≡ parts.paths.lowers → new.paths.uppers ≡ parts.paths.uppers → new.orders.size ≡ parts.orders.size → KeepsOwnRoutes problem new.known
     → IsGraph problem fixings ops closed (decisions ++ d ∷ []) new (trail ++ change ∷ [])
 graph_extends problem fixings ops closed decisions parts new trail d change is decides lowers uppers size known = record {
   uppers_are = subst (AreUppersOf problem fixings) (sym uppers) is.uppers_are;
@@ -120,7 +120,7 @@ pub may_undo : (problem : Problem) (fixings : List Fixing) (ops closed : List Op
 may_undo problem fixings ops closed decisions parts trail left change is popped = (last_is problem fixings ops closed decisions parts left change (subst (IsGraph problem fixings ops closed decisions parts) popped is)).may
 
 pub graph_undone : (problem : Problem) (fixings : List Fixing) (ops closed : List Op) (decisions kept : List Decision) (parts new : Parts) (trail left : List Change) (change : Change) → IsGraph problem fixings ops closed decisions parts trail → trail ≡ left ++ change ∷ []
-    → kept ≡ take (length decisions - 1) decisions → state_of new ≡ restored_state change (state_of parts) → new.paths.lowers ≡ parts.paths.lowers → new.paths.uppers ≡ parts.paths.uppers → new.orders.size ≡ parts.orders.size → AreKnown problem new.known → IsGraph problem fixings ops closed kept new left
+    → kept ≡ take (length decisions - 1) decisions → state_of new ≡ restored_state change (state_of parts) → new.paths.lowers ≡ parts.paths.lowers → new.paths.uppers ≡ parts.paths.uppers → new.orders.size ≡ parts.orders.size → KeepsOwnRoutes problem new.known → IsGraph problem fixings ops closed kept new left
 graph_undone problem fixings ops closed decisions kept parts new trail left change is popped shorter state lowers uppers size known =
     let last = last_is problem fixings ops closed decisions parts left change (subst (IsGraph problem fixings ops closed decisions parts) popped is) in
     let same : kept ≡ take (length left) decisions = shorter ∙ ap (λ (n : ℕ). take n decisions) (omega (arith, last.long)) in

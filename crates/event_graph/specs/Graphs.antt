@@ -10,7 +10,7 @@ use Rattle.event_graph.specs.declared.parts.Parts.{Parts}
 use Rattle.event_graph.specs.States.{GraphState, IsStateAt, restored_state, MayRestore}
 use Rattle.event_graph.specs.Late.{AreUppersOf, AreClosedOf}
 use Rattle.event_graph.specs.Kept.{state_of, MayDecide}
-use Rattle.event_graph.specs.Known.{AreKnown}
+use Rattle.event_graph.specs.Known.{KeepsOwnRoutes}
 
 -- without its last decision
 abbrev pub without_last_decision : Node → Node
@@ -39,4 +39,4 @@ pub record IsGraph (problem : Problem) (fixings : List Fixing) (ops closed : Lis
   pub may : MayDecide (node_at problem fixings decisions) ops parts
   pub long : length trail ≡ length decisions
   pub past : ArePast problem fixings decisions trail (length decisions) (state_of parts)
-  pub known : AreKnown problem parts.known
+  pub known : KeepsOwnRoutes problem parts.known

@@ -11,12 +11,12 @@ use Rattle.event_graph.specs.declared.known.KnownRoutes.{KnownRoutes}
 use Rattle.event_graph.specs.States.{GraphState}
 
 -- they are those that the train's own fixings and decisions allow
-abbrev pub IsKnown : Problem → Known → Type 0
-IsKnown problem known = AreRoutesOf (node_at problem known.own.fixings known.own.decisions)
+abbrev pub AreOwnRoutes : Problem → Known → Type 0
+AreOwnRoutes problem known = AreRoutesOf (node_at problem known.own.fixings known.own.decisions)
     known.train known.routes
 
-abbrev pub AreKnown : Problem → KnownRoutes → Type 0
-AreKnown problem known = All (λ slot. IfSome slot (IsKnown problem)) known.slots.items
+abbrev pub KeepsOwnRoutes : Problem → KnownRoutes → Type 0
+KeepsOwnRoutes problem known = All (λ slot. IfSome slot (AreOwnRoutes problem)) known.slots.items
 
 -- they were made for a train with one decision more
 pub record IsFor (t : ℕ) (own : Own) (d : Decision) (known : Known) : Type 0 where

@@ -4,7 +4,7 @@ ghost use Rattle.disp_model.specs.declared.decision.Decision.{Decision as Decisi
 ghost use Rattle.disp_model.specs.Node.{node_at, with_decision};
 ghost use Rattle.event_arcs.specs.Owned.{train_of_decision};
 ghost use Rattle.event_graph.specs.Kept.{state_of, MayDecide, AnswersAt};
-ghost use Rattle.event_graph.specs.Known.{AreKnown};
+ghost use Rattle.event_graph.specs.Known.{KeepsOwnRoutes};
 
 use crate::changes::Change;
 use crate::decide_order::decide_order;
@@ -26,11 +26,11 @@ fn decide_routes(
     requires about { train_of_decision decision ≡ Some train }
     requires may { (fixings : List Fixing) × (decisions : List DecisionOf)
         × MayDecide (node_at problem.now fixings decisions) ops.now parts.old }
-    requires known { AreKnown problem.now parts.old.known }
+    requires known { KeepsOwnRoutes problem.now parts.old.known }
     ensures lowers { parts.new.paths.lowers ≡ parts.old.paths.lowers }
     ensures uppers { parts.new.paths.uppers ≡ parts.old.paths.uppers }
     ensures size { parts.new.orders.size ≡ parts.old.orders.size }
-    ensures known { AreKnown problem.now parts.new.known }
+    ensures known { KeepsOwnRoutes problem.now parts.new.known }
     ensures decided { (fixings : List Fixing) (decisions : List DecisionOf)
         → MayDecide (node_at problem.now fixings decisions) ops.now parts.old
         → AnswersAt (with_decision (node_at problem.now fixings decisions) decision)
@@ -52,11 +52,11 @@ pub(crate) fn decide(
 ) -> Result<Change, ExtendNo>
     requires may { (fixings : List Fixing) × (decisions : List DecisionOf)
         × MayDecide (node_at problem.now fixings decisions) ops.now parts.old }
-    requires known { AreKnown problem.now parts.old.known }
+    requires known { KeepsOwnRoutes problem.now parts.old.known }
     ensures lowers { parts.new.paths.lowers ≡ parts.old.paths.lowers }
     ensures uppers { parts.new.paths.uppers ≡ parts.old.paths.uppers }
     ensures size { parts.new.orders.size ≡ parts.old.orders.size }
-    ensures known { AreKnown problem.now parts.new.known }
+    ensures known { KeepsOwnRoutes problem.now parts.new.known }
     ensures decided { (fixings : List Fixing) (decisions : List DecisionOf)
         → MayDecide (node_at problem.now fixings decisions) ops.now parts.old
         → AnswersAt (with_decision (node_at problem.now fixings decisions) decision)

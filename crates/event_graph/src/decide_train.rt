@@ -6,7 +6,7 @@ ghost use Rattle.disp_model.specs.Routes.{HasRoute};
 ghost use Rattle.route_sets.specs.Sets.{AreRoutesOf};
 ghost use Rattle.event_arcs.specs.Owned.{train_of_decision};
 ghost use Rattle.event_graph.specs.Kept.{state_of, MayDecide, MayAddTrain, AddsArcs, AnswersAt};
-ghost use Rattle.event_graph.specs.Known.{IsKnown, AreKnown, IsFor};
+ghost use Rattle.event_graph.specs.Known.{AreOwnRoutes, KeepsOwnRoutes, IsFor};
 
 use crate::changes::Change;
 use crate::faults::ExtendNo;
@@ -46,9 +46,9 @@ fn routes_with(
     requires there { train < length problem.now.trains }
     requires routes { (node : Node) × (node.problem ≡ problem.now)
         × AreRoutesOf node train routes.now × HasRoute node train }
-    requires known { AreKnown problem.now known.old }
-    ensures left { AreKnown problem.now known.new }
-    ensures known { IfOk result (IsKnown problem.now) }
+    requires known { KeepsOwnRoutes problem.now known.old }
+    ensures left { KeepsOwnRoutes problem.now known.new }
+    ensures known { IfOk result (AreOwnRoutes problem.now) }
     ensures made { IfOk result (IsFor train own.now decision) }
 {
     if let Some(found) = known.take(train, own, decision) {
@@ -106,11 +106,11 @@ pub(crate) fn decide_train(
     requires about { train_of_decision decision ≡ Some train }
     requires may { (fixings : List Fixing) × (decisions : List DecisionOf)
         × MayDecide (node_at problem.now fixings decisions) ops.now parts.old }
-    requires known { AreKnown problem.now parts.old.known }
+    requires known { KeepsOwnRoutes problem.now parts.old.known }
     ensures lowers { parts.new.paths.lowers ≡ parts.old.paths.lowers }
     ensures uppers { parts.new.paths.uppers ≡ parts.old.paths.uppers }
     ensures size { parts.new.orders.size ≡ parts.old.orders.size }
-    ensures known { AreKnown problem.now parts.new.known }
+    ensures known { KeepsOwnRoutes problem.now parts.new.known }
     ensures decided { (fixings : List Fixing) (decisions : List DecisionOf)
         → MayDecide (node_at problem.now fixings decisions) ops.now parts.old
         → AnswersAt (with_decision (node_at problem.now fixings decisions) decision)

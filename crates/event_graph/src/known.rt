@@ -1,6 +1,6 @@
 ghost use Rattle.std.specs.Prelude.{◌≡◌, ◌<◌, ◌∷◌, ◌++◌, [], All, IfOk, IfSome, IsTrue, length};
 ghost use Rattle.disp_model.specs.declared.problem.Problem.{Problem as ProblemOf};
-ghost use Rattle.event_graph.specs.Known.{IsKnown, AreKnown, IsFor, IsPlaceFor};
+ghost use Rattle.event_graph.specs.Known.{AreOwnRoutes, KeepsOwnRoutes, IsFor, IsPlaceFor};
 
 use disp_model::{Decision, Fixing, Memory};
 use event_arcs::Own;
@@ -24,9 +24,9 @@ pub(crate) struct Known {
 #[derive(Drop)]
 pub(crate) struct KnownRoutes {
     /// As many places for each train, one train's behind the other's.
-    pub slots: Vec<Option<Known>>,
+    slots: Vec<Option<Known>>,
     /// The place of a train that is taken next where none is free.
-    pub next: usize,
+    next: usize,
 }
 
 /// Whether two lists of decisions are the same.
@@ -105,7 +105,7 @@ fn place_of(slots: &[Option<Known>], train: usize, own: &Own, decision: Decision
 impl KnownRoutes {
     /// Nothing is known, and there is room for so many trains.
     pub(crate) fn new(alloc: Global, trains: usize) -> Result<KnownRoutes, Memory>
-        ensures { IfOk result (λ known. (problem : ProblemOf) → AreKnown problem known) }
+        ensures { IfOk result (λ known. (problem : ProblemOf) → KeepsOwnRoutes problem known) }
     {
         let count = trains.saturating_mul(MOST);
         let mut slots = Vec::with_capacity(alloc, count)?;
@@ -117,10 +117,10 @@ impl KnownRoutes {
 
     /// Hands out what is known of a train with one decision more.
     pub(crate) fn take(&mut self, train: usize, own: &Own, decision: Decision) -> Option<Known>
-        ensures left { (problem : ProblemOf) → AreKnown problem self.old
-            → AreKnown problem self.new }
-        ensures known { (problem : ProblemOf) → AreKnown problem self.old
-            → IfSome result (IsKnown problem) }
+        ensures left { (problem : ProblemOf) → KeepsOwnRoutes problem self.old
+            → KeepsOwnRoutes problem self.new }
+        ensures known { (problem : ProblemOf) → KeepsOwnRoutes problem self.old
+            → IfSome result (AreOwnRoutes problem) }
         ensures made { IfSome result (IsFor train own.now decision) }
     {
         let place = place_of(&self.slots, train, own, decision)?;
@@ -140,8 +140,8 @@ impl KnownRoutes {
 
     /// Keeps routes, where no place is free in place of others of the train.
     pub(crate) fn keep(&mut self, known: Known)
-        ensures { (problem : ProblemOf) → AreKnown problem self.old → IsKnown problem known
-            → AreKnown problem self.new }
+        ensures { (problem : ProblemOf) → KeepsOwnRoutes problem self.old → AreOwnRoutes problem known
+            → KeepsOwnRoutes problem self.new }
     {
         let place = self.place_for(known.train);
         self.next = self.next.wrapping_add(1);

@@ -2,7 +2,7 @@ ghost use Rattle.std.specs.Prelude.{◌≡◌};
 ghost use Rattle.disp_model.specs.declared.problem.Problem.{Problem as ProblemOf};
 ghost use Rattle.event_graph.specs.States.{restored_state, MayRestore};
 ghost use Rattle.event_graph.specs.Kept.{state_of};
-ghost use Rattle.event_graph.specs.Known.{AreKnown, AreByOwn};
+ghost use Rattle.event_graph.specs.Known.{KeepsOwnRoutes, AreByOwn};
 
 use crate::changes::Change;
 use crate::known::{Known, KnownRoutes};
@@ -31,8 +31,8 @@ pub(crate) fn restore(parts: &mut Parts, change: Change)
     ensures uppers { parts.new.paths.uppers ≡ parts.old.paths.uppers }
     ensures size { parts.new.orders.size ≡ parts.old.orders.size }
     ensures state { state_of parts.new ≡ restored_state change (state_of parts.old) }
-    ensures known { (problem : ProblemOf) → AreKnown problem parts.old.known
-        → AreByOwn problem (state_of parts.old) → AreKnown problem parts.new.known }
+    ensures known { (problem : ProblemOf) → KeepsOwnRoutes problem parts.old.known
+        → AreByOwn problem (state_of parts.old) → KeepsOwnRoutes problem parts.new.known }
 {
     match change {
         Change::Nothing => {}

@@ -6,7 +6,7 @@ ghost use Rattle.event_graph.specs.Joined.{IsOfEdition, IsCycleOr};
 ghost use Rattle.event_windows.specs.Operations.{AreOperationsOf};
 ghost use Rattle.event_graph.specs.Late.{AreUppersOf};
 ghost use Rattle.event_graph.specs.Kept.{MayDecide, IsRefusedAt};
-ghost use Rattle.event_graph.specs.Known.{AreKnown};
+ghost use Rattle.event_graph.specs.Known.{KeepsOwnRoutes};
 ghost use Rattle.event_graph.specs.Roots.{ArePathsOf};
 
 use crate::faults::ExtendNo;
@@ -59,7 +59,7 @@ pub(crate) fn parts_of(
     ensures ok { IfOk result (MayDecide (node_at problem.now fixings.now []) ops.now) }
     ensures uppers { IfOk result
         (λ parts. AreUppersOf problem.now fixings.now parts.paths.uppers) }
-    ensures known { IfOk result (λ parts. AreKnown problem.now parts.known) }
+    ensures known { IfOk result (λ parts. KeepsOwnRoutes problem.now parts.known) }
     ensures err { IfErr result (IsRefusedAt (node_at problem.now fixings.now [])) }
 {
     let owns = owns_of(alloc, problem.trains.len(), fixings, &[])?;
