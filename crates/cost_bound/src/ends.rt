@@ -26,38 +26,16 @@ fn keep(ends: &mut List<Op>, op: Op, kept: bool) -> Result<(), Memory>
     Ok(())
 }
 
-/// How many ends a walk over these numbers has.
-fn count_ends(graph: &Graph, first: u32, rest: &[u32]) -> usize
-    requires first { first < operation_count graph.now.problem.trains }
-    requires rest { All (λ n. n < operation_count graph.now.problem.trains) rest.now }
-{
-    let mut count: usize = 1;
-    let mut before = None;
-    let mut op = graph.operation(first);
-    for number in rest {
-        let next = graph.operation(*number);
-        if is_end(before, op, Some(next)) {
-            count = count.saturating_add(1);
-        }
-        before = Some(op);
-        op = next;
-    }
-    count
-}
+/// How many ends there is room for at first: as many as most walks have.
+const ROOM: usize = 16;
 
-/// The ends of a walk over these numbers, with room for so many.
-fn ends_behind(
-    alloc: Global,
-    graph: &Graph,
-    first: u32,
-    rest: &[u32],
-    count: usize,
-) -> Result<List<Op>, Memory>
+/// The ends of a walk over these numbers.
+fn ends_behind(alloc: Global, graph: &Graph, first: u32, rest: &[u32]) -> Result<List<Op>, Memory>
     requires first { first < operation_count graph.now.problem.trains }
     requires rest { All (λ n. n < operation_count graph.now.problem.trains) rest.now }
     ensures { IfOk result (AreEndsOver graph.now.problem (first ∷ rest.now)) }
 {
-    let mut ends = List::from_vec(Vec::with_capacity(alloc, count)?);
+    let mut ends = List::from_vec(Vec::with_capacity(alloc, ROOM)?);
     let mut before = None;
     let mut op = graph.operation(first);
     for number in rest {
@@ -71,16 +49,13 @@ fn ends_behind(
 }
 
 /// The operations of a walk over these numbers at which it enters a train or leaves one, in their
-/// order. It takes no more memory than they need, since a search keeps many walks.
+/// order.
 pub(crate) fn ends_over(alloc: Global, graph: &Graph, numbers: &[u32]) -> Result<List<Op>, Memory>
     requires { All (λ n. n < operation_count graph.now.problem.trains) numbers.now }
     ensures { IfOk result (AreEndsOver graph.now.problem numbers.now) }
 {
     match numbers {
         [] => Ok(List::new(alloc)),
-        [first, rest @ ..] => {
-            let count = count_ends(graph, *first, rest);
-            ends_behind(alloc, graph, *first, rest, count)
-        }
+        [first, rest @ ..] => ends_behind(alloc, graph, *first, rest),
     }
 }

@@ -13,6 +13,7 @@ use crate::down::{Halves, go_down};
 use crate::given::Dive;
 use crate::grown::{append_back, nothing, push_leaf};
 use crate::guide::Guide;
+use crate::prefer::Way;
 use crate::rewinding::rewind_knowing;
 use crate::stage::{End, Stage, stage_of};
 use disp_model::{List, Memory, Problem};
@@ -82,6 +83,7 @@ fn dive_down(
         before: nothing(alloc),
         behind: nothing(alloc),
     };
+    let way = Way::of(allowance, best);
     for _ in 0..allowance {
         let strategy = guide.strategy;
         match stage_of(
@@ -97,6 +99,7 @@ fn dive_down(
                     &mut halves,
                     choice,
                     guide,
+                    way,
                 )? {
                     return whole(halves, End::Closed);
                 }
@@ -120,8 +123,8 @@ fn dive_down(
 }
 
 /// Branches at the node of a graph, follows one child and branches there, and so on, at most so
-/// often. The child that the target takes is followed, or else the one that costs least; the others
-/// become leaves. It ends earlier at a node that is dead, or whose bound is not below the best
+/// often. The child that the target takes is followed, or else the one that costs least, or another
+/// where a dive of more than a few branches sees that one to be closed; the others become leaves. It ends earlier at a node that is dead, or whose bound is not below the best
 /// cost, or where nothing is picked. Choices are picked, and bounds reckoned, by the rule of the
 /// reckoning. The graph is as before, what is known of shares holds for its node, and what the
 /// guide keeps is of the problem.

@@ -9,7 +9,7 @@ ghost use Rattle.share_bound.specs.Known.{HoldFor};
 use crate::grown::{Grown, append, append_back, push_branch, push_leaf};
 use crate::guide::Guide;
 use crate::leaves::leaves_of;
-use crate::prefer::preferred;
+use crate::prefer::{Way, followed};
 use branch_rules::children;
 use disp_model::{Choice, Decision, Memory, Problem};
 use event_graph::{ExtendNo, Graph};
@@ -47,9 +47,8 @@ fn follow(graph: &mut Graph, known: &mut KnownShares, decision: Decision) -> Res
     }
 }
 
-/// Branches at the node of a graph, and goes down to the child that is preferred. The others become
-/// leaves. Says whether a place is left to be filled, which is that child's: none is where the
-/// child is dead.
+/// Branches at the node of a graph, and goes down to one child. The others become leaves. Says
+/// whether a place is left to be filled, which is that child's: none is where the child is dead.
 pub(crate) fn go_down(
     alloc: Global,
     problem: &Problem,
@@ -59,6 +58,7 @@ pub(crate) fn go_down(
     halves: &mut Halves,
     choice: Choice,
     guide: &Guide,
+    way: Way,
 ) -> Result<bool, Memory>
     requires node { graph.old.problem ≡ problem.now }
     requires reckons { ReckonsFor problem.now reckoning.now }
@@ -71,19 +71,26 @@ pub(crate) fn go_down(
     let children = children(alloc, problem, choice)?;
     push_branch(&mut halves.before, choice, children.len() as u32)?;
     let cheaper = guide.adviser.cheaper_first();
-    let place = preferred(problem, graph, &guide.target, cheaper, children.as_slice());
+    let place = followed(
+        problem,
+        graph,
+        &guide.target,
+        cheaper,
+        children.as_slice(),
+        way,
+    );
     let (first, rest) = children.as_slice().split_at(place);
     let left = leaves_of(alloc, problem, reckoning, graph, known, first)?;
     append(&mut halves.before, left)?;
-    let Some((followed, last)) = rest.split_first() else {
+    let Some((taken, last)) = rest.split_first() else {
         return Ok(false);
     };
     let right = leaves_of(alloc, problem, reckoning, graph, known, last)?;
-    if follow(graph, known, *followed)? {
+    if follow(graph, known, *taken)? {
         append_back(&mut halves.behind, right)?;
         return Ok(true);
     }
-    let leaf = child_leaf(alloc, problem, reckoning, graph, known, *followed)?;
+    let leaf = child_leaf(alloc, problem, reckoning, graph, known, *taken)?;
     push_leaf(&mut halves.before, leaf)?;
     append(&mut halves.before, right)?;
     Ok(false)

@@ -5,6 +5,31 @@ use disp_model::{Decision, Op, Problem};
 use event_graph::Graph;
 use train_insertion::Target;
 
+/// A dive of no more branches than this is to raise the bound.
+const FEW: u32 = 31;
+
+/// To which child of a node a dive goes.
+#[derive(Clone, Copy)]
+pub(crate) enum Way {
+    /// To the one that is preferred.
+    Preferred,
+    /// To the one that is preferred, or to another where that one is closed by this best cost.
+    Open(Option<u64>),
+}
+
+impl Way {
+    /// How a dive of so many branches goes below this best cost. One that is to find a plan goes to
+    /// open children, since another dive would soon begin there. One that is to raise the bound
+    /// rather ends, so that the next one begins at a leaf of the least bound.
+    pub(crate) fn of(allowance: u32, best: Option<u64>) -> Way {
+        if allowance > FEW {
+            Way::Open(best)
+        } else {
+            Way::Preferred
+        }
+    }
+}
+
 /// What the child costs to which a decision leads, where it is not dead. The graph is as before.
 fn child_cost(problem: &Problem, graph: &mut Graph, decision: Decision) -> Option<u64>
     requires { graph.old.problem ≡ problem.now }
@@ -116,4 +141,66 @@ pub fn preferred(
         return place;
     }
     cheapest(problem, graph, children)
+}
+
+/// Whether the child to which a decision leads is seen to be open: it is not dead, and its forced
+/// components cost less than the best. The graph is as before.
+fn is_open(problem: &Problem, graph: &mut Graph, decision: Decision, best: Option<u64>) -> bool
+    requires { graph.old.problem ≡ problem.now }
+    ensures { graph.new ≡ graph.old }
+{
+    match child_cost(problem, graph, decision) {
+        Some(cost) => best.is_none_or(|best| cost < best),
+        None => false,
+    }
+}
+
+/// The place of a child, or of the first other one that is open where it is closed and such a one
+/// is there. The graph is as before.
+fn open_one(
+    problem: &Problem,
+    graph: &mut Graph,
+    children: &[Decision],
+    place: usize,
+    best: Option<u64>,
+) -> usize
+    requires problem { graph.old.problem ≡ problem.now }
+    requires within { place ≤ length children.now }
+    ensures same { graph.new ≡ graph.old }
+    ensures within { result ≤ length children.now }
+    ensures there { place < length children.now → result < length children.now }
+{
+    let Some(decision) = children.get(place) else {
+        return place;
+    };
+    if is_open(problem, graph, *decision, best) {
+        return place;
+    }
+    for (other, decision) in children.iter().enumerate() {
+        if other != place && is_open(problem, graph, *decision, best) {
+            return other;
+        }
+    }
+    place
+}
+
+/// The place of the child to which a dive goes. The graph is as before.
+pub(crate) fn followed(
+    problem: &Problem,
+    graph: &mut Graph,
+    target: &Target,
+    cheaper: Option<Op>,
+    children: &[Decision],
+    way: Way,
+) -> usize
+    requires { graph.old.problem ≡ problem.now }
+    ensures same { graph.new ≡ graph.old }
+    ensures within { result ≤ length children.now }
+    ensures there { 0 < length children.now → result < length children.now }
+{
+    let place = preferred(problem, graph, target, cheaper, children);
+    match way {
+        Way::Preferred => place,
+        Way::Open(best) => open_one(problem, graph, children, place, best),
+    }
 }

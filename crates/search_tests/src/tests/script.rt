@@ -1,5 +1,5 @@
-// Two trains on one block, whose root is out when a train has started: what the core replies to two
-// searchers and a feed, event by event.
+// Steps of a core on two trains on one block, as two searchers and a feed take them, with what it
+// replies.
 ghost use Rattle.std.specs.Prelude.{◌≡◌, ◌≤◌, [], All};
 ghost use Rattle.disp_model.specs.History.{edition_of, newest};
 ghost use Rattle.disp_model.specs.Node.{node_at};
@@ -8,10 +8,8 @@ ghost use Rattle.dispatch_core.specs.Replies.{Steps};
 ghost use Rattle.event_graph.specs.Joined.{IsOfEdition};
 ghost use Rattle.search_tests.specs.Scripts.{IsGrownAt, IsRun};
 
-use super::parts::{Worked, graph_of, means_of, problem_of};
-use disp_model::{
-    Change, Copied, Event, Fixing, List, Mark, Plan, Problem, Reply, Rule, Settings, Verdict,
-};
+use super::parts::{graph_of, means_of};
+use disp_model::{Change, Fixing, List, Mark, Plan, Problem, Reply, Rule, Verdict};
 use dispatch_core::{Core, CoreEvent, CoreReply, StepNo};
 use event_graph::Graph;
 use open_nodes::{Fragment, Work};
@@ -23,7 +21,7 @@ use std::panic::Expect;
 use std::process::Abort;
 
 /// A reply as a text, as far as it comes here.
-fn shown(told: &CoreReply) -> &'static str {
+pub(super) fn shown(told: &CoreReply) -> &'static str {
     match told {
         CoreReply::Asked(Reply::Accepted(1)) => "accepted 1",
         CoreReply::Asked(Reply::Accepted(2)) => "accepted 2",
@@ -50,7 +48,7 @@ fn shown(told: &CoreReply) -> &'static str {
 }
 
 /// Takes a step.
-fn step(rt: &impl Abort, alloc: Global, core: &mut Core, event: CoreEvent) -> CoreReply
+pub(super) fn step(rt: &impl Abort, alloc: Global, core: &mut Core, event: CoreEvent) -> CoreReply
     requires run { IsRun core.old }
     requires may { MayStep core.old event }
     ensures steps { Steps core.old event result core.new }
@@ -63,7 +61,7 @@ fn step(rt: &impl Abort, alloc: Global, core: &mut Core, event: CoreEvent) -> Co
 }
 
 /// Takes a step whose reply is this.
-fn check(rt: &impl Abort, alloc: Global, core: &mut Core, event: CoreEvent, wanted: &str)
+pub(super) fn check(rt: &impl Abort, alloc: Global, core: &mut Core, event: CoreEvent, wanted: &str)
     requires run { IsRun core.old }
     requires may { MayStep core.old event }
     ensures run { IsRun core.new }
@@ -73,7 +71,7 @@ fn check(rt: &impl Abort, alloc: Global, core: &mut Core, event: CoreEvent, want
 }
 
 /// Takes a leaf for a searcher.
-fn taken(
+pub(super) fn taken(
     rt: &impl Abort,
     alloc: Global,
     core: &mut Core,
@@ -97,7 +95,7 @@ fn taken(
 
 /// Searcher 0 takes a leaf of an edition for one branch: its number, its allowance, its place in
 /// the history and the best cost are these.
-fn taken_so(
+pub(super) fn taken_so(
     rt: &impl Abort,
     alloc: Global,
     core: &mut Core,
@@ -181,7 +179,7 @@ fn grown(
 }
 
 /// What a searcher makes of the leaf of a work of the newest edition.
-fn grown_newest(rt: &impl Abort, alloc: Global, core: &Core, work: Work) -> Fragment
+pub(super) fn grown_newest(rt: &impl Abort, alloc: Global, core: &Core, work: Work) -> Fragment
     ensures edition { result.work.edition ≡ newest core.now.history }
     ensures grown { IsGrownAt core.now.problem (edition_of core.now.history) result.work
         result.subtree result.bounds }
@@ -192,7 +190,7 @@ fn grown_newest(rt: &impl Abort, alloc: Global, core: &Core, work: Work) -> Frag
 }
 
 /// What grows where nothing is fixed is handed in, whatever has been fixed since.
-fn check_first(rt: &impl Abort, alloc: Global, core: &mut Core, work: Work, wanted: &str)
+pub(super) fn check_first(rt: &impl Abort, alloc: Global, core: &mut Core, work: Work, wanted: &str)
     requires run { IsRun core.old }
     ensures run { IsRun core.new }
 {
@@ -206,7 +204,13 @@ fn check_first(rt: &impl Abort, alloc: Global, core: &mut Core, work: Work, want
 }
 
 /// What grows under the newest edition is handed in.
-fn check_newest(rt: &impl Abort, alloc: Global, core: &mut Core, work: Work, wanted: &str)
+pub(super) fn check_newest(
+    rt: &impl Abort,
+    alloc: Global,
+    core: &mut Core,
+    work: Work,
+    wanted: &str,
+)
     requires run { IsRun core.old }
     ensures run { IsRun core.new }
 {
@@ -218,43 +222,8 @@ fn check_newest(rt: &impl Abort, alloc: Global, core: &mut Core, work: Work, wan
     check(rt, alloc, core, event, wanted);
 }
 
-/// The start of an operation.
-fn event(time: u64, train: u32, operation: u32) -> Event
-    ensures { result.time ≡ time }
-{
-    Event {
-        time,
-        train,
-        operation,
-    }
-}
-
-/// The plan where train 1 goes first, which costs 18.
-fn cheaper(rt: &impl Abort, alloc: Global) -> Plan
-    ensures { All (λ e. e.time ≤ 24) result }
-{
-    let first = event(0, 1, 0);
-    let second = event(4, 1, 1);
-    let third = event(4, 0, 0);
-    let last = event(14, 0, 1);
-    let events = vec![in alloc; first, second, third, last];
-    List::from_vec(events.expect(rt, "events"))
-}
-
-/// The plan where train 0 goes first, which costs 24.
-fn dearer(rt: &impl Abort, alloc: Global) -> Plan
-    ensures { All (λ e. e.time ≤ 24) result }
-{
-    let first = event(0, 0, 0);
-    let second = event(10, 0, 1);
-    let third = event(10, 1, 0);
-    let last = event(14, 1, 1);
-    let events = vec![in alloc; first, second, third, last];
-    List::from_vec(events.expect(rt, "events"))
-}
-
 /// A plan is published, with this reply.
-fn check_plan(
+pub(super) fn check_plan(
     rt: &impl Abort,
     alloc: Global,
     core: &mut Core,
@@ -276,7 +245,13 @@ fn check_plan(
 }
 
 /// Searcher 1 wants a leaf of an edition, and gets this reply.
-fn check_take(rt: &impl Abort, alloc: Global, core: &mut Core, edition: u32, wanted: &str)
+pub(super) fn check_take(
+    rt: &impl Abort,
+    alloc: Global,
+    core: &mut Core,
+    edition: u32,
+    wanted: &str,
+)
     requires run { IsRun core.old }
     ensures run { IsRun core.new }
 {
@@ -289,7 +264,7 @@ fn check_take(rt: &impl Abort, alloc: Global, core: &mut Core, edition: u32, wan
 }
 
 /// Line by line a feed asks for a change.
-fn check_ask(
+pub(super) fn check_ask(
     rt: &impl Abort,
     alloc: Global,
     core: &mut Core,
@@ -308,112 +283,8 @@ fn check_ask(
     check(rt, alloc, core, ask, wanted);
 }
 
-/// That train 0 has started on the block.
-fn started() -> Change {
-    Change::Fix(Fixing::Started {
-        at_train: 0,
-        at_op: 0,
-        time: 0,
-    })
-}
-
-/// The root goes out, a train starts meanwhile, and what grew of the root is still good.
-fn check_change(rt: &impl Abort, alloc: Global, core: &mut Core)
-    requires run { IsRun core.old }
-    ensures run { IsRun core.new }
-{
-    let root = taken_so(rt, alloc, core, 0, (0, 1, 0, None));
-    check_take(rt, alloc, core, 0, "one out");
-    check_ask(rt, alloc, core, 1, started(), "accepted 1");
-    check_first(rt, alloc, core, root, "grown 1");
-    check_plan(rt, alloc, core, 0, cheaper(rt, alloc), "newer is 1");
-    check_plan(rt, alloc, core, 1, cheaper(rt, alloc), "fixing 1 is unmet");
-    check(
-        rt,
-        alloc,
-        core,
-        CoreEvent::Settle { edition: 1 },
-        "leaf 1 open for 24",
-    );
-    check(rt, alloc, core, CoreEvent::Stop { edition: 1 }, "0 spent");
-}
-
-/// The other plan is published, and the last leaf that might be better is dead.
-fn check_verdict(rt: &impl Abort, alloc: Global, core: &mut Core)
-    requires run { IsRun core.old }
-    ensures run { IsRun core.new }
-{
-    check_plan(rt, alloc, core, 1, dearer(rt, alloc), "published 24");
-    check_plan(rt, alloc, core, 1, dearer(rt, alloc), "not better than 24");
-    check(
-        rt,
-        alloc,
-        core,
-        CoreEvent::Settle { edition: 1 },
-        "leaf 2 open for 18",
-    );
-    let leaf = taken_so(rt, alloc, core, 1, (2, 1, 3, Some(24)));
-    check_newest(rt, alloc, core, leaf, "grown 0");
-    check(
-        rt,
-        alloc,
-        core,
-        CoreEvent::Settle { edition: 1 },
-        "optimal 24",
-    );
-    assert_eq!(rt; core.history().len(), 5);
-}
-
-/// The edition is closed, and a later one is not there; the feed ends, and nothing more comes.
-fn check_end(rt: &impl Abort, alloc: Global, core: &mut Core)
-    requires run { IsRun core.old }
-    ensures run { IsRun core.new }
-{
-    check_take(rt, alloc, core, 1, "closed at 24");
-    check_take(rt, alloc, core, 2, "ahead of 1");
-    check(rt, alloc, core, CoreEvent::Next, "one feed open");
-    check(rt, alloc, core, CoreEvent::FeedEnd { feed: 0 }, "noted");
-    check(rt, alloc, core, CoreEvent::Next, "over");
-}
-
-/// The start is taken back, and the leaf that was dead by it may be better again.
-fn check_withdrawal(rt: &impl Abort, alloc: Global, core: &mut Core)
-    requires run { IsRun core.old }
-    ensures run { IsRun core.new }
-{
-    check_ask(
-        rt,
-        alloc,
-        core,
-        2,
-        Change::Withdraw { number: 1 },
-        "accepted 2",
-    );
-    check(
-        rt,
-        alloc,
-        core,
-        CoreEvent::Settle { edition: 2 },
-        "leaf 2 open for 0",
-    );
-    check_plan(rt, alloc, core, 2, dearer(rt, alloc), "not better than 24");
-}
-
-/// A work with the same fields.
-fn same(rt: &impl Abort, work: &Work) -> Work {
-    Work {
-        node: work.node,
-        bound: work.bound,
-        edition: work.edition,
-        decisions: work.decisions.copy().expect(rt, "decisions"),
-        best: work.best,
-        seen: work.seen,
-        allowance: work.allowance,
-    }
-}
-
 /// A work comes back unexamined.
-fn check_back(rt: &impl Abort, alloc: Global, core: &mut Core, work: Work, wanted: &str)
+pub(super) fn check_back(rt: &impl Abort, alloc: Global, core: &mut Core, work: Work, wanted: &str)
     requires run { IsRun core.old }
     ensures run { IsRun core.new }
 {
@@ -422,143 +293,4 @@ fn check_back(rt: &impl Abort, alloc: Global, core: &mut Core, work: Work, wante
         examined: false,
     };
     check(rt, alloc, core, back, wanted);
-}
-
-/// What is free of a budget of 3 goes out with the root, which comes back once.
-fn check_root(rt: &impl Abort, alloc: Global, core: &mut Core)
-    requires run { IsRun core.old }
-    ensures run { IsRun core.new }
-{
-    let root = taken(rt, alloc, core, 0, 0, 32);
-    assert!(rt; root.allowance == 3);
-    let again = same(rt, &root);
-    check_back(rt, alloc, core, root, "noted");
-    check_back(rt, alloc, core, again, "0 is gone");
-}
-
-/// What may be grown at a leaf that a searcher takes.
-fn allowance(rt: &impl Abort, alloc: Global, core: &mut Core, searcher: u32) -> u32
-    requires run { IsRun core.old }
-    ensures run { IsRun core.new }
-{
-    taken(rt, alloc, core, searcher, 0, 2).allowance
-}
-
-/// What is free is shared out between two leaves.
-fn check_shares(rt: &impl Abort, alloc: Global, core: &mut Core)
-    requires run { IsRun core.old }
-    ensures run { IsRun core.new }
-{
-    check_root(rt, alloc, core);
-    let root = taken(rt, alloc, core, 0, 0, 32);
-    check_first(rt, alloc, core, root, "grown 1");
-    let first = allowance(rt, alloc, core, 0);
-    let second = allowance(rt, alloc, core, 1);
-    assert_eq!(rt; (first, second), (2, 0));
-}
-
-/// A leaf whose node is dead by a start is handed in when that was taken back: it shows nothing.
-fn check_late(rt: &impl Abort, alloc: Global, core: &mut Core)
-    requires run { IsRun core.old }
-    ensures run { IsRun core.new }
-{
-    let leaf = taken(rt, alloc, core, 0, 1, 1);
-    let fragment = grown_newest(rt, alloc, core, leaf);
-    let ask = CoreEvent::Ask {
-        feed: 0,
-        line: 2,
-        change: Change::Withdraw { number: 1 },
-    };
-    let told = step(rt, alloc, core, ask);
-    assert_eq!(rt; shown(&told), "accepted 2");
-    let event = CoreEvent::Grow {
-        searcher: 0,
-        fragment,
-    };
-    check(rt, alloc, core, event, "grown 0");
-    check(
-        rt,
-        alloc,
-        core,
-        CoreEvent::Settle { edition: 2 },
-        "leaf 2 open for 0",
-    );
-}
-
-/// A run of two trains on one block, with one feed and two searchers.
-fn begun(rt: &impl Abort, alloc: Global, budget: u32) -> Core
-    ensures { IsRun result }
-{
-    let problem = problem_of(rt, alloc, Worked::Trains);
-    let settings = Settings {
-        budget,
-        rule: Rule::Fixed,
-    };
-    let core = Core::new(alloc, &problem, settings, 1, 2).expect(rt, "a core");
-    drop(problem);
-    core
-}
-
-/// How a run goes on behind a start, or from its begin.
-#[derive(Clone, Copy)]
-enum Scene {
-    /// To a verdict, and to its end.
-    End,
-    /// To a verdict, behind which the start is taken back.
-    Withdrawal,
-    /// The start is taken back while a leaf is out.
-    Late,
-    /// A budget is shared out.
-    Shares,
-}
-
-/// The run goes so.
-fn play(rt: &impl Abort, alloc: Global, core: &mut Core, scene: Scene)
-    requires { IsRun core.old }
-{
-    match scene {
-        Scene::End => {
-            check_change(rt, alloc, core);
-            check_verdict(rt, alloc, core);
-            check_end(rt, alloc, core);
-        }
-        Scene::Withdrawal => {
-            check_change(rt, alloc, core);
-            check_verdict(rt, alloc, core);
-            check_withdrawal(rt, alloc, core);
-        }
-        Scene::Late => {
-            check_change(rt, alloc, core);
-            check_plan(rt, alloc, core, 1, dearer(rt, alloc), "published 24");
-            check_late(rt, alloc, core);
-        }
-        Scene::Shares => check_shares(rt, alloc, core),
-    }
-}
-
-/// A run with this budget goes so.
-fn run(rt: &impl Abort, alloc: Global, budget: u32, scene: Scene) {
-    let mut core = begun(rt, alloc, budget);
-    play(rt, alloc, &mut core, scene);
-    drop(core);
-}
-
-#[test]
-fn a_train_starts_while_the_root_is_out(rt: HostRuntime) {
-    run(&rt, rt.alloc(), 1, Scene::End);
-}
-
-#[test]
-fn a_start_is_taken_back_behind_a_verdict(rt: HostRuntime) {
-    run(&rt, rt.alloc(), 1, Scene::Withdrawal);
-}
-
-#[test]
-fn a_start_is_taken_back_while_a_leaf_is_out(rt: HostRuntime) {
-    run(&rt, rt.alloc(), 1, Scene::Late);
-}
-
-#[test]
-fn a_budget_is_shared_out(rt: HostRuntime) {
-    run(&rt, rt.alloc(), 3, Scene::Shares);
 }

@@ -2,7 +2,7 @@ use Rattle.std.proofs.Common.{refl}
 use Rattle.disp_model.specs.declared.fixing.Change.TheVariants.{Withdraw}
 use Rattle.disp_model.specs.History.{edition_of}
 use Rattle.search_tests.proofs.Running.{stale}
-use Rattle.search_tests.proofs.tests.script.check_late.Goals as goal
+use Rattle.search_tests.proofs.tests.scenes.check_late.Goals as goal
 
 pub check-requires-clause-may : goal.check-requires-clause-may
 check-requires-clause-may g c =
