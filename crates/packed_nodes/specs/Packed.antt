@@ -1,5 +1,5 @@
 -- What bytes say. Each reader gives what it read and the bytes behind it.
-use Rattle.std.specs.Prelude.{ℕ, zero, suc, ◌+◌, ◌*◌, ◌==◌, List, [], ◌∷◌, Option, Some, None, if◌then◌else◌}
+use Rattle.std.specs.Prelude.{ℕ, zero, suc, ◌+◌, ◌-◌, ◌*◌, ◌/◌, ◌%◌, ◌==◌, List, [], ◌∷◌, ◌++◌, length, take, slice_get, Option, Some, None, if◌then◌else◌}
 use Rattle.disp_model.specs.declared.train.Op.{Op}
 use Rattle.disp_model.specs.declared.tree.ComponentWalk.{ComponentWalk}
 use Rattle.disp_model.specs.declared.tree.TrainWalks.{TrainWalks}
@@ -33,27 +33,61 @@ packed_items_at item (suc count) bytes = do
   others ← packed_items_at item count first.1
   Some (first.0 ∷ others.0, others.1)
 
--- operations, behind how many there are
-unfoldable pub packed_walk_at : List ℕ → Option (List Op × List ℕ)
-packed_walk_at bytes = do
-  count ← packed_number_at bytes
-  packed_items_at packed_op_at count.0 count.1
+-- these operations, and so many more
+unfoldable pub packed_ops_behind : List Op → ℕ → List ℕ → Option (List Op × List ℕ)
+packed_ops_behind shared count bytes = do
+  others ← packed_items_at packed_op_at count bytes
+  Some (shared ++ others.0, others.1)
 
-unfoldable pub component_walk_at : List ℕ → Option (ComponentWalk × List ℕ)
-component_walk_at bytes = do
+-- A walk begins with operations at the front of the walk before it: its number is 16 times how many
+-- other operations it lists, and how many it shares, 15 at most.
+unfoldable pub packed_walk_at : List Op → List ℕ → Option (List Op × List ℕ)
+packed_walk_at front bytes = do
+  head ← packed_number_at bytes
+  packed_ops_behind (take (head.0 % 16) front) (head.0 / 16) head.1
+
+-- so many of one kind, each with a walk: the first is read behind this walk, and each other behind
+-- the walk of the one before it
+unfoldable pub packed_items_behind : {A : Type 0} → (A → List Op)
+    → (List Op → List ℕ → Option (A × List ℕ)) → List Op → ℕ → List ℕ → Option (List A × List ℕ)
+packed_items_behind walk item front zero bytes = Some ([], bytes)
+packed_items_behind walk item front (suc count) bytes = do
+  first ← item front bytes
+  others ← packed_items_behind walk item (walk first.0) count first.1
+  Some (first.0 ∷ others.0, others.1)
+
+-- the walk of one of them, if there is one
+abbrev pub walk_if_any : {A : Type 0} → (A → List Op) → Option A → List Op
+walk_if_any walk None = []
+walk_if_any walk (Some x) = walk x
+
+-- the walk behind which the next is read when these were read
+abbrev pub last_walk : {A : Type 0} → (A → List Op) → List A → List Op
+last_walk walk xs = walk_if_any walk (slice_get xs (length xs - 1))
+
+-- what is listed of a component has this walk
+abbrev pub walk_listed : ComponentWalk → List Op
+walk_listed listed = listed.walk
+
+-- what is listed of a train are walks
+abbrev pub walk_itself : List Op → List Op
+walk_itself walk = walk
+
+unfoldable pub component_walk_at : List Op → List ℕ → Option (ComponentWalk × List ℕ)
+component_walk_at front bytes = do
   component ← packed_number_at bytes
-  walk ← packed_walk_at component.1
+  walk ← packed_walk_at front component.1
   Some (record { component = component.0; walk = walk.0 }, walk.1)
 
 unfoldable pub component_walks_at : List ℕ → Option (List ComponentWalk × List ℕ)
 component_walks_at bytes = do
   count ← packed_number_at bytes
-  packed_items_at component_walk_at count.0 count.1
+  packed_items_behind walk_listed component_walk_at [] count.0 count.1
 
 unfoldable pub walks_at : List ℕ → Option (List (List Op) × List ℕ)
 walks_at bytes = do
   count ← packed_number_at bytes
-  packed_items_at packed_walk_at count.0 count.1
+  packed_items_behind walk_itself packed_walk_at [] count.0 count.1
 
 unfoldable pub packed_train_at : List ℕ → Option (TrainWalks × List ℕ)
 packed_train_at bytes = do
@@ -68,12 +102,12 @@ trains_at bytes = do
 
 unfoldable pub packed_cycle_at : List ℕ → Option (Leaf × List ℕ)
 packed_cycle_at bytes = do
-  ops ← packed_walk_at bytes
+  ops ← packed_walk_at [] bytes
   Some (leaf.Cycle ops.0, ops.1)
 
 unfoldable pub packed_late_at : List ℕ → Option (Leaf × List ℕ)
 packed_late_at bytes = do
-  walk ← packed_walk_at bytes
+  walk ← packed_walk_at [] bytes
   Some (leaf.Late walk.0, walk.1)
 
 unfoldable pub packed_costs_at : List ℕ → Option (Leaf × List ℕ)

@@ -1,7 +1,7 @@
-ghost use Rattle.std.specs.Prelude.{◌≡◌, IfSome, Some, length};
-ghost use Rattle.packed_nodes.specs.Packed.{packed_number_at, packed_op_at, packed_items_at, packed_walk_at, component_walk_at, component_walks_at, walks_at, packed_train_at, trains_at, packed_leaf_at};
+ghost use Rattle.std.specs.Prelude.{◌≡◌, ◌/◌, ◌%◌, [], ◌++◌, IfSome, Some, length, take};
+ghost use Rattle.packed_nodes.specs.Packed.{packed_number_at, packed_op_at, packed_items_at, packed_walk_at, packed_items_behind, walk_listed, walk_itself, component_walk_at, component_walks_at, walks_at, packed_train_at, trains_at, packed_leaf_at};
 
-use crate::read::{COSTS, CYCLE, LATE, SHARES, number_at};
+use crate::read::{COSTS, CYCLE, LATE, SHARED, SHARES, number_at, shared_ops};
 use disp_model::{ComponentWalk, Leaf, List, Op, TrainWalks};
 
 /// The bytes behind a number, where they begin with it.
@@ -45,32 +45,72 @@ fn behind_ops<'a>(bytes: &'a [u8], ops: &[Op]) -> Option<&'a [u8]>
     Some(rest)
 }
 
-/// The bytes behind operations and how many there are.
-#[tactic(auto, unfolding(crate::specs::Packed::packed_walk_at))]
-fn behind_walk<'a>(bytes: &'a [u8], walk: &[Op]) -> Option<&'a [u8]>
-    ensures { IfSome result (λ rest. packed_walk_at bytes.now ≡ Some (walk.now, rest.now)) }
+/// The number at the front of a walk, and the bytes behind it.
+fn head_at(bytes: &[u8]) -> Option<(u32, &[u8])>
+    ensures { IfSome result (λ x. packed_number_at bytes.now ≡ Some (x.0, x.1.now)) }
 {
-    let rest = behind_count(bytes, walk.len())?;
-    behind_ops(rest, walk)
+    match number_at(bytes) {
+        Ok((head, rest)) => Some((head, rest)),
+        Err(_) => None,
+    }
+}
+
+/// What stands behind these operations, where the walk begins with them.
+fn behind_shared<'w>(shared: &[Op], walk: &'w [Op]) -> Option<&'w [Op]>
+    ensures { IfSome result (λ others. shared.now ++ others.now ≡ walk.now) }
+{
+    match walk.strip_prefix(shared) {
+        Some(others) => Some(others),
+        None => None,
+    }
+}
+
+/// The operations that a walk lists itself, where it has this number.
+fn others_of<'w>(head: u32, front: &[Op], walk: &'w [Op]) -> Option<&'w [Op]>
+    ensures is { IfSome result (λ others. take (head % 16) front.now ++ others.now ≡ walk.now) }
+    ensures count { IfSome result (λ others. length others.now ≡ head / 16) }
+{
+    let others = behind_shared(shared_ops(head, front), walk)?;
+    if others.len() != (head / SHARED) as usize {
+        return None;
+    }
+    Some(others)
+}
+
+/// The bytes behind a walk, which may begin with operations at the front of the walk before it.
+fn behind_walk<'a>(front: &[Op], bytes: &'a [u8], walk: &[Op]) -> Option<&'a [u8]>
+    ensures { IfSome result (λ rest. packed_walk_at front.now bytes.now
+        ≡ Some (walk.now, rest.now)) }
+{
+    let (head, rest) = head_at(bytes)?;
+    let others = others_of(head, front, walk)?;
+    behind_ops(rest, others)
 }
 
 /// The bytes behind a walk to a component.
 #[tactic(auto, unfolding(crate::specs::Packed::component_walk_at))]
-fn behind_component_walk<'a>(bytes: &'a [u8], walk: &ComponentWalk) -> Option<&'a [u8]>
-    ensures { IfSome result (λ rest. component_walk_at bytes.now ≡ Some (walk.now, rest.now)) }
+fn behind_component_walk<'a>(
+    front: &[Op],
+    bytes: &'a [u8],
+    walk: &ComponentWalk,
+) -> Option<&'a [u8]>
+    ensures { IfSome result (λ rest. component_walk_at front.now bytes.now
+        ≡ Some (walk.now, rest.now)) }
 {
     let rest = behind_number(bytes, walk.component)?;
-    behind_walk(rest, walk.walk.as_slice())
+    behind_walk(front, rest, walk.walk.as_slice())
 }
 
 /// The bytes behind walks to components.
 fn behind_each_component_walk<'a>(bytes: &'a [u8], walks: &[ComponentWalk]) -> Option<&'a [u8]>
-    ensures { IfSome result (λ rest. packed_items_at component_walk_at (length walks.now) bytes.now
-        ≡ Some (walks.now, rest.now)) }
+    ensures { IfSome result (λ rest. packed_items_behind walk_listed component_walk_at []
+        (length walks.now) bytes.now ≡ Some (walks.now, rest.now)) }
 {
     let mut rest = bytes;
+    let mut front: &[Op] = &[];
     for walk in walks {
-        rest = behind_component_walk(rest, walk)?;
+        rest = behind_component_walk(front, rest, walk)?;
+        front = walk.walk.as_slice();
     }
     Some(rest)
 }
@@ -86,12 +126,15 @@ fn behind_component_walks<'a>(bytes: &'a [u8], walks: &[ComponentWalk]) -> Optio
 
 /// The bytes behind the walks of a train.
 fn behind_each_walk<'a>(bytes: &'a [u8], walks: &[List<Op>]) -> Option<&'a [u8]>
-    ensures { IfSome result (λ rest. packed_items_at packed_walk_at (length walks.now) bytes.now
-        ≡ Some (walks.now, rest.now)) }
+    ensures { IfSome result (λ rest. packed_items_behind walk_itself packed_walk_at []
+        (length walks.now) bytes.now ≡ Some (walks.now, rest.now)) }
 {
     let mut rest = bytes;
+    let mut front: &[Op] = &[];
     for walk in walks {
-        rest = behind_walk(rest, walk.as_slice())?;
+        let ops = walk.as_slice();
+        rest = behind_walk(front, rest, ops)?;
+        front = ops;
     }
     Some(rest)
 }
@@ -142,8 +185,8 @@ pub(crate) fn behind_leaf<'a>(bytes: &'a [u8], leaf: &Leaf) -> Option<&'a [u8]>
 {
     match leaf {
         Leaf::NoRoute => None,
-        Leaf::Cycle(ops) => behind_walk(behind_number(bytes, CYCLE)?, ops.as_slice()),
-        Leaf::Late(walk) => behind_walk(behind_number(bytes, LATE)?, walk.as_slice()),
+        Leaf::Cycle(ops) => behind_walk(&[], behind_number(bytes, CYCLE)?, ops.as_slice()),
+        Leaf::Late(walk) => behind_walk(&[], behind_number(bytes, LATE)?, walk.as_slice()),
         Leaf::Costs(walks) => {
             behind_component_walks(behind_number(bytes, COSTS)?, walks.as_slice())
         }

@@ -2,7 +2,8 @@
 //!
 //! `PackedNode` is seen as the node that it was made of, and gives that node again, or what it is
 //! without what it lists (`Outline`), which takes no memory. A leaf with walks is kept as bytes
-//! where its numbers are small. What bytes say is stated in `specs/`; what was written is compared
+//! where its numbers are small; of the operations at the front of the walk before it, a walk says
+//! only how many it begins with. What bytes say is stated in `specs/`; what was written is compared
 //! with the leaf before it is kept, so nothing is claimed of the writer.
 #![tactic(auto)]
 

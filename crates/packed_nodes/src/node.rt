@@ -83,7 +83,8 @@ fn said(alloc: Global, bytes: &[u8]) -> Result<Leaf, Memory>
 
 impl PackedNode {
     /// Keeps a node. Takes time and memory linear in what it lists, some two bytes an operation
-    /// where numbers are small. Where memory runs out the node is kept as it is.
+    /// where numbers are small, but for operations that a walk shares with the front of the walk
+    /// before it, up to 15, which take none. Where memory runs out the node is kept as it is.
     pub fn pack(alloc: Global, node: TreeNode) -> PackedNode
         ensures { result ≡ node }
     {

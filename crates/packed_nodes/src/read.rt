@@ -1,5 +1,6 @@
+ghost use Rattle.std.specs.Prelude.{◌≡◌, ◌/◌, ◌%◌, [], take};
 ghost use Rattle.packed_nodes.specs.Reading.{GivesBytesRead};
-ghost use Rattle.packed_nodes.specs.Packed.{long_at, packed_number_at, packed_op_at, packed_items_at, packed_walk_at, component_walk_at, component_walks_at, walks_at, packed_train_at, trains_at, packed_cycle_at, packed_late_at, packed_costs_at, packed_shares_at, leaf_by, packed_leaf_at};
+ghost use Rattle.packed_nodes.specs.Packed.{long_at, packed_number_at, packed_op_at, packed_items_at, packed_ops_behind, packed_walk_at, packed_items_behind, last_walk, walk_listed, walk_itself, component_walk_at, component_walks_at, walks_at, packed_train_at, trains_at, packed_cycle_at, packed_late_at, packed_costs_at, packed_shares_at, leaf_by, packed_leaf_at};
 
 use crate::unread::Unread;
 use disp_model::{ComponentWalk, Leaf, List, Op, TrainWalks};
@@ -7,6 +8,9 @@ use std::alloc::Global;
 
 /// The byte behind which a number has two.
 pub(crate) const LONG: u8 = 255;
+
+/// A walk shares fewer operations than this with the one before it.
+pub(crate) const SHARED: u32 = 16;
 
 /// The number of a leaf that lists a cycle.
 pub(crate) const CYCLE: u32 = 1;
@@ -58,12 +62,24 @@ fn op_at(bytes: &[u8]) -> Result<(Op, &[u8]), Unread>
     Ok((Op { train, op }, rest))
 }
 
-/// So many operations.
-fn ops_at(alloc: Global, count: u32, bytes: &[u8]) -> Result<(Vec<Op>, &[u8]), Unread>
-    ensures { GivesBytesRead (λ x. (x.0.items, x.1.now)) result
-        (packed_items_at packed_op_at count bytes.now) }
+/// The operations that a walk shares with the one before it.
+#[tactic(auto, using(std::proofs::lemmas::List::take_all))]
+pub(crate) fn shared_ops(head: u32, front: &[Op]) -> &[Op]
+    ensures { result.now ≡ take (head % 16) front.now }
 {
-    let mut ops = Vec::new(alloc);
+    let shared = (head % SHARED) as usize;
+    if shared < front.len() {
+        return &front[..shared];
+    }
+    front
+}
+
+/// These operations, and so many more.
+fn ops_behind(shared: Vec<Op>, count: u32, bytes: &[u8]) -> Result<(Vec<Op>, &[u8]), Unread>
+    ensures { GivesBytesRead (λ x. (x.0.items, x.1.now)) result
+        (packed_ops_behind shared.items count bytes.now) }
+{
+    let mut ops = shared;
     let mut rest = bytes;
     for _ in 0..count {
         let (op, after) = op_at(rest)?;
@@ -73,24 +89,39 @@ fn ops_at(alloc: Global, count: u32, bytes: &[u8]) -> Result<(Vec<Op>, &[u8]), U
     Ok((ops, rest))
 }
 
-/// Operations, behind how many there are.
+/// A walk, which may begin with operations at the front of the walk before it.
 #[tactic(auto, unfolding(crate::specs::Packed::packed_walk_at))]
-fn walk_at(alloc: Global, bytes: &[u8]) -> Result<(List<Op>, &[u8]), Unread>
-    ensures { GivesBytesRead (λ x. (x.0, x.1.now)) result (packed_walk_at bytes.now) }
+fn walk_at<'a>(alloc: Global, front: &[Op], bytes: &'a [u8]) -> Result<(List<Op>, &'a [u8]), Unread>
+    ensures { GivesBytesRead (λ x. (x.0, x.1.now)) result (packed_walk_at front.now bytes.now) }
 {
-    let (count, rest) = number_at(bytes)?;
-    let (ops, rest) = ops_at(alloc, count, rest)?;
+    let (head, rest) = number_at(bytes)?;
+    let shared = Vec::from_slice(alloc, shared_ops(head, front))?;
+    let (ops, rest) = ops_behind(shared, head / SHARED, rest)?;
     Ok((List::from_vec(ops), rest))
 }
 
 /// A walk to a component.
 #[tactic(auto, unfolding(crate::specs::Packed::component_walk_at))]
-fn component_walk_at(alloc: Global, bytes: &[u8]) -> Result<(ComponentWalk, &[u8]), Unread>
-    ensures { GivesBytesRead (λ x. (x.0, x.1.now)) result (component_walk_at bytes.now) }
+fn component_walk_at<'a>(
+    alloc: Global,
+    front: &[Op],
+    bytes: &'a [u8],
+) -> Result<(ComponentWalk, &'a [u8]), Unread>
+    ensures { GivesBytesRead (λ x. (x.0, x.1.now)) result (component_walk_at front.now bytes.now) }
 {
     let (component, rest) = number_at(bytes)?;
-    let (walk, rest) = walk_at(alloc, rest)?;
+    let (walk, rest) = walk_at(alloc, front, rest)?;
     Ok((ComponentWalk { component, walk }, rest))
+}
+
+/// The walk of the last of these; none where there are none.
+fn last_component_walk(walks: &[ComponentWalk]) -> &[Op]
+    ensures { result.now ≡ last_walk walk_listed walks.now }
+{
+    match walks.last() {
+        Some(listed) => listed.walk.as_slice(),
+        None => &[],
+    }
 }
 
 /// So many walks to components.
@@ -100,12 +131,12 @@ fn component_walks_in(
     bytes: &[u8],
 ) -> Result<(Vec<ComponentWalk>, &[u8]), Unread>
     ensures { GivesBytesRead (λ x. (x.0.items, x.1.now)) result
-        (packed_items_at component_walk_at count bytes.now) }
+        (packed_items_behind walk_listed component_walk_at [] count bytes.now) }
 {
     let mut walks = Vec::new(alloc);
     let mut rest = bytes;
     for _ in 0..count {
-        let (walk, after) = component_walk_at(alloc, rest)?;
+        let (walk, after) = component_walk_at(alloc, last_component_walk(&walks), rest)?;
         walks.push(walk)?;
         rest = after;
     }
@@ -122,15 +153,25 @@ fn component_walks_at(alloc: Global, bytes: &[u8]) -> Result<(List<ComponentWalk
     Ok((List::from_vec(walks), rest))
 }
 
+/// The last of these walks; none where there are none.
+fn last_train_walk(walks: &[List<Op>]) -> &[Op]
+    ensures { result.now ≡ last_walk walk_itself walks.now }
+{
+    match walks.last() {
+        Some(walk) => walk.as_slice(),
+        None => &[],
+    }
+}
+
 /// So many walks of a train's.
 fn walks_in(alloc: Global, count: u32, bytes: &[u8]) -> Result<(Vec<List<Op>>, &[u8]), Unread>
     ensures { GivesBytesRead (λ x. (x.0.items, x.1.now)) result
-        (packed_items_at packed_walk_at count bytes.now) }
+        (packed_items_behind walk_itself packed_walk_at [] count bytes.now) }
 {
     let mut walks = Vec::new(alloc);
     let mut rest = bytes;
     for _ in 0..count {
-        let (walk, after) = walk_at(alloc, rest)?;
+        let (walk, after) = walk_at(alloc, last_train_walk(&walks), rest)?;
         walks.push(walk)?;
         rest = after;
     }
@@ -187,7 +228,7 @@ fn trains_at(alloc: Global, bytes: &[u8]) -> Result<(List<TrainWalks>, &[u8]), U
 fn cycle_at(alloc: Global, bytes: &[u8]) -> Result<(Leaf, &[u8]), Unread>
     ensures { GivesBytesRead (λ x. (x.0, x.1.now)) result (packed_cycle_at bytes.now) }
 {
-    let (ops, rest) = walk_at(alloc, bytes)?;
+    let (ops, rest) = walk_at(alloc, &[], bytes)?;
     Ok((Leaf::Cycle(ops), rest))
 }
 
@@ -196,7 +237,7 @@ fn cycle_at(alloc: Global, bytes: &[u8]) -> Result<(Leaf, &[u8]), Unread>
 fn late_at(alloc: Global, bytes: &[u8]) -> Result<(Leaf, &[u8]), Unread>
     ensures { GivesBytesRead (λ x. (x.0, x.1.now)) result (packed_late_at bytes.now) }
 {
-    let (walk, rest) = walk_at(alloc, bytes)?;
+    let (walk, rest) = walk_at(alloc, &[], bytes)?;
     Ok((Leaf::Late(walk), rest))
 }
 

@@ -1,4 +1,4 @@
-use crate::read::{COSTS, CYCLE, LATE, LONG, SHARES};
+use crate::read::{COSTS, CYCLE, LATE, LONG, SHARED, SHARES};
 use disp_model::{ComponentWalk, Leaf, Op, TrainWalks};
 use std::alloc::Global;
 
@@ -23,10 +23,36 @@ fn push_count(bytes: &mut Vec<u8>, count: usize) -> Option<()> {
     push_number(bytes, u32::try_from(count).ok()?)
 }
 
-/// Adds operations, behind how many there are.
-fn push_walk(bytes: &mut Vec<u8>, walk: &[Op]) -> Option<()> {
-    push_count(bytes, walk.len())?;
-    for op in walk {
+/// Whether both walks have the same operation at a place.
+fn is_same_at(front: &[Op], walk: &[Op], place: usize) -> bool {
+    match (front.get(place), walk.get(place)) {
+        (Some(before), Some(op)) => before == op,
+        _ => false,
+    }
+}
+
+/// How many operations both walks begin with; fewer than `SHARED` are counted.
+fn shared_count(front: &[Op], walk: &[Op]) -> u32 {
+    for place in 0..SHARED - 1 {
+        if !is_same_at(front, walk, place as usize) {
+            return place;
+        }
+    }
+    SHARED - 1
+}
+
+/// Adds the number at the front of a walk: how many operations it lists itself, and shares.
+fn push_head(bytes: &mut Vec<u8>, others: usize, shared: u32) -> Option<()> {
+    let others = u32::try_from(others).ok()?;
+    push_number(bytes, others.checked_mul(SHARED)?.checked_add(shared)?)
+}
+
+/// Adds a walk, which may begin with operations at the front of the walk before it.
+fn push_walk(bytes: &mut Vec<u8>, front: &[Op], walk: &[Op]) -> Option<()> {
+    let shared = shared_count(front, walk);
+    let others = walk.get(shared as usize..)?;
+    push_head(bytes, others.len(), shared)?;
+    for op in others {
         push_number(bytes, op.train)?;
         push_number(bytes, op.op)?;
     }
@@ -36,9 +62,11 @@ fn push_walk(bytes: &mut Vec<u8>, walk: &[Op]) -> Option<()> {
 /// Adds walks to components, behind how many there are.
 fn push_component_walks(bytes: &mut Vec<u8>, walks: &[ComponentWalk]) -> Option<()> {
     push_count(bytes, walks.len())?;
+    let mut front: &[Op] = &[];
     for walk in walks {
         push_number(bytes, walk.component)?;
-        push_walk(bytes, walk.walk.as_slice())?;
+        push_walk(bytes, front, walk.walk.as_slice())?;
+        front = walk.walk.as_slice();
     }
     Some(())
 }
@@ -47,8 +75,10 @@ fn push_component_walks(bytes: &mut Vec<u8>, walks: &[ComponentWalk]) -> Option<
 fn push_train(bytes: &mut Vec<u8>, listed: &TrainWalks) -> Option<()> {
     push_number(bytes, listed.train)?;
     push_count(bytes, listed.walks.len())?;
+    let mut front: &[Op] = &[];
     for walk in listed.walks.as_slice() {
-        push_walk(bytes, walk.as_slice())?;
+        push_walk(bytes, front, walk.as_slice())?;
+        front = walk.as_slice();
     }
     Some(())
 }
@@ -68,11 +98,11 @@ fn push_leaf(bytes: &mut Vec<u8>, leaf: &Leaf) -> Option<()> {
         Leaf::NoRoute => None,
         Leaf::Cycle(ops) => {
             push_number(bytes, CYCLE)?;
-            push_walk(bytes, ops.as_slice())
+            push_walk(bytes, &[], ops.as_slice())
         }
         Leaf::Late(walk) => {
             push_number(bytes, LATE)?;
-            push_walk(bytes, walk.as_slice())
+            push_walk(bytes, &[], walk.as_slice())
         }
         Leaf::Costs(walks) => {
             push_number(bytes, COSTS)?;

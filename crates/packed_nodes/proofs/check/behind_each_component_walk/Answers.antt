@@ -1,14 +1,15 @@
 use Rattle.std.proofs.Common.{sym}
-use Rattle.packed_nodes.specs.Packed.{component_walk_at}
-use Rattle.packed_nodes.proofs.Looping.{goes_on_in, is_done_in}
+use Rattle.packed_nodes.specs.Packed.{component_walk_at, walk_listed}
+use Rattle.packed_nodes.proofs.Looping.{walk_goes_on_in, walk_is_done_in}
 use Rattle.packed_nodes.proofs.check.behind_each_component_walk.Goals as goal
 
 pub loop-walk-preserved : goal.loop-walk-preserved
 loop-walk-preserved c =
-    goes_on_in component_walk_at c.args.walks.now c.loop-walk.walk-index c.walk-item.result
-    c.walk-item.result c.loop-walk.rest.now c.in_ok-rest.rest.now _
-    c.loop-walk-test.true (sym c.walk-item.is) c.in_ok-rest.ensures c.loop-walk.invariant
+    rw c.as_slice-front.ensures (walk_goes_on_in walk_listed component_walk_at
+    c.loop-walk.front.now c.args.walks.now c.loop-walk.walk-index c.walk-item.result
+    c.walk-item.result c.loop-walk.rest.now c.in_ok-rest.rest.now _ c.loop-walk-test.true
+    (sym c.walk-item.is) c.in_ok-rest.ensures c.loop-walk.invariant)
 
 pub returns : goal.returns
-returns c = is_done_in component_walk_at c.args.walks.now c.loop-walk.walk-index
-    c.loop-walk.rest.now _ c.loop-walk-test.false c.loop-walk.invariant
+returns c = walk_is_done_in walk_listed component_walk_at c.loop-walk.front.now c.args.walks.now
+    c.loop-walk.walk-index c.loop-walk.rest.now _ c.loop-walk-test.false c.loop-walk.invariant
