@@ -1,4 +1,4 @@
-ghost use Rattle.std.specs.Prelude.{◌≡◌, ◌+◌, ◌-◌, ◌<◌, ◌++◌, [], IfOk, IfErr, OnOk, OnErr, length, slice_get, slice_set, Some};
+ghost use Rattle.std.specs.Prelude.{◌≡◌, ◌+◌, ◌-◌, ◌<◌, ◌≤◌, ◌++◌, [], IfOk, IfErr, OnOk, OnErr, length, slice_get, slice_set, Some};
 ghost use Rattle.disp_model.specs.Trees.{children_of};
 ghost use Rattle.open_nodes.specs.Grafts.{leaf_as, children_at, new_place, next_given, first_or_zero, behind_first, branched, fills_as, fills, IsGraft, IsGrafted, grafted, ungrown, placed};
 
@@ -30,7 +30,7 @@ fn behind_first<'a>(bounds: &'a [u64]) -> &'a [u64]
 
 /// What follows a child: the place of this number where there is another child, else what was
 /// behind the branch.
-fn next_given(another: Option<Decision>, number: usize, behind: Option<usize>) -> Option<usize>
+fn next_given(another: Option<Decision>, number: u32, behind: Option<u32>) -> Option<u32>
     ensures { result ≡ next_given another number behind }
 {
     match another {
@@ -40,7 +40,7 @@ fn next_given(another: Option<Decision>, number: usize, behind: Option<usize>) -
 }
 
 /// The place of a new leaf.
-fn new_place(parent: usize, decision: Decision, next: Option<usize>) -> Place
+fn new_place(parent: u32, decision: Decision, next: Option<u32>) -> Place
     ensures { result ≡ new_place parent decision next }
 {
     Place {
@@ -60,9 +60,9 @@ fn children_at(
     alloc: Global,
     problem: &Problem,
     choice: Choice,
-    parent: usize,
-    first: usize,
-    behind: Option<usize>,
+    parent: u32,
+    first: u32,
+    behind: Option<u32>,
 ) -> Result<Vec<Place>, Memory>
     ensures { IfOk result (λ places. places.items
         ≡ children_at parent behind first (children_of problem.now choice)) }
@@ -83,13 +83,16 @@ fn children_at(
     Err(Memory)
 }
 
+/// The greatest number that fits into the bits that a place has for it.
+const GREATEST: usize = 4294967295;
+
 /// A new place that is to be filled: the greatest number that there was before the fragment, the
 /// place's own, how many nodes are kept before the one that fills it, and what it is so far.
 #[derive(Clone, Copy)]
 struct Vacancy {
     last: usize,
-    number: usize,
-    shows: usize,
+    number: u32,
+    shows: u32,
     place: Place,
 }
 
@@ -100,7 +103,7 @@ fn branch_out(
     vacancy: Vacancy,
     choice: Choice,
     grown: &mut Vec<Place>,
-) -> Result<usize, Memory>
+) -> Result<u32, Memory>
     requires { vacancy.number - vacancy.last < length grown.old.items }
     ensures { IfOk result (λ first. (first ≡ vacancy.last + length grown.old.items)
         × (grown.new.items ≡ branched problem.now vacancy.last vacancy.shows vacancy.number
@@ -115,9 +118,13 @@ fn branch_out(
     let Some(first) = last.checked_add(grown.len()) else {
         return Err(Memory);
     };
+    if first > GREATEST {
+        return Err(Memory);
+    }
+    let first = first as u32;
     let mut children = children_at(alloc, problem, choice, number, first, place.next)?;
     grown.append(&mut children)?;
-    grown[number.saturating_sub(last)] = Place {
+    grown[(number as usize).saturating_sub(last)] = Place {
         next: Some(first),
         shows,
         kind: Kind::Branch,
@@ -130,7 +137,7 @@ fn branch_out(
 }
 
 /// A place as it becomes a leaf of a kind that is in.
-fn leaf_as(place: Place, shows: usize, kind: Kind, bound: u64) -> Place
+fn leaf_as(place: Place, shows: u32, kind: Kind, bound: u64) -> Place
     ensures { result ≡ leaf_as place shows kind bound }
 {
     Place {
@@ -146,7 +153,7 @@ fn leaf_as(place: Place, shows: usize, kind: Kind, bound: u64) -> Place
 /// The next place that is filled, and the bounds that are left.
 #[derive(Clone, Copy)]
 struct Step<'a> {
-    at: Option<usize>,
+    at: Option<u32>,
     left: &'a [u64],
 }
 
@@ -160,7 +167,7 @@ fn fill_leaf<'a>(vacancy: Vacancy, kind: Kind, left: &'a [u64], grown: &mut Vec<
     ensures left { result.left.now ≡ behind_first left.now }
 {
     let leaf = leaf_as(vacancy.place, vacancy.shows, kind, first_or_zero(left));
-    grown[vacancy.number.saturating_sub(vacancy.last)] = leaf;
+    grown[(vacancy.number as usize).saturating_sub(vacancy.last)] = leaf;
     Step {
         at: vacancy.place.next,
         left: behind_first(left),
@@ -221,7 +228,7 @@ fn fill<'a>(
     alloc: Global,
     problem: &Problem,
     last: usize,
-    shows: usize,
+    shows: u32,
     step: Step<'a>,
     node: &PackedNode,
     made: &mut Grafted,
@@ -237,7 +244,7 @@ fn fill<'a>(
     let Some(number) = step.at else {
         return Ok(step);
     };
-    let Some(place) = place_at(&made.grown, number.saturating_sub(last)) else {
+    let Some(place) = place_at(&made.grown, (number as usize).saturating_sub(last)) else {
         return Ok(step);
     };
     let vacancy = Vacancy {
@@ -250,7 +257,8 @@ fn fill<'a>(
 }
 
 /// Grows the nodes of a fragment from a leaf of a number, in preorder. `last` is the greatest
-/// number there is, and `shows` how many nodes are kept.
+/// number there is, and `shows` how many nodes are kept. Where a number would not fit into the bits
+/// that a place has for it, there is no memory.
 pub fn graft(
     alloc: Global,
     problem: &Problem,
@@ -265,18 +273,43 @@ pub fn graft(
     ensures { IfOk result (λ made. IsGrafted (grafted problem.now last shows subtree.now
         (ungrown place number bounds.now)) made.grown.items made.splits) }
 {
+    if number > GREATEST {
+        return Err(Memory);
+    }
+    if shows + subtree.len() > GREATEST {
+        return Err(Memory);
+    }
+    grown_from(alloc, problem, last, shows, number, place, subtree, bounds)
+}
+
+/// Grows them where all numbers of places and of kept nodes fit into those bits so far.
+fn grown_from(
+    alloc: Global,
+    problem: &Problem,
+    last: usize,
+    shows: usize,
+    number: usize,
+    place: Place,
+    subtree: &[PackedNode],
+    bounds: &[u64],
+) -> Result<Grafted, Memory>
+    requires number { number ≤ 4294967295 }
+    requires shows { shows + length subtree.now ≤ 4294967295 }
+    ensures { IfOk result (λ made. IsGrafted (grafted problem.now last shows subtree.now
+        (ungrown place number bounds.now)) made.grown.items made.splits) }
+{
     let mut made = Grafted {
         grown: Vec::new(alloc),
         splits: List::new(alloc),
     };
     made.grown.push(Place { out: None, ..place })?;
     let mut step = Step {
-        at: Some(number),
+        at: Some(number as u32),
         left: bounds,
     };
     for (k, node) in subtree.iter().enumerate() {
         let shown = shows + k;
-        step = fill(alloc, problem, last, shown, step, node, &mut made)?;
+        step = fill(alloc, problem, last, shown as u32, step, node, &mut made)?;
     }
     Ok(made)
 }

@@ -5,7 +5,9 @@
 //! the best cost, or there is no best. `take` gives a wanted leaf out, where many branches are
 //! wanted the last one grown, where few are wanted one of the least bound; `give_back` takes it in
 //! again, and `grow` puts a fragment in its place. A leaf keeps its parent and one decision, so
-//! decisions are listed only for the work that is taken.
+//! decisions are listed only for the work that is taken. Numbers of places and of kept nodes are
+//! stored in 32 bits, so a tree has fewer than 2^32 of either: beyond that `grow` answers `Memory`,
+//! as it does where memory runs out.
 #![tactic(auto)]
 
 mod blocks;

@@ -277,7 +277,8 @@ impl Nodes {
     ///
     /// # Errors
     ///
-    /// The fragment and `Memory` where memory runs out; then nothing has changed.
+    /// The fragment and `Memory` where memory runs out, and where there would be 2^32 places or
+    /// kept nodes, or more; then nothing has changed.
     pub fn grow(
         &mut self,
         alloc: Global,

@@ -33,7 +33,7 @@ fn gathered(
             return Ok(up);
         };
         up.push(above.decision)?;
-        at = above_at(places, above.parent);
+        at = above_at(places, above.parent as usize);
     }
     Ok(up)
 }
@@ -75,7 +75,7 @@ pub fn are_decisions(places: &[Place], number: usize, decisions: &[Decision]) ->
             return false;
         };
         if has_at(decisions, k, above.decision) {
-            at = above_at(places, above.parent);
+            at = above_at(places, above.parent as usize);
         } else {
             return false;
         }

@@ -13,7 +13,7 @@ pub struct Errand {
 /// The parent of a place, by its number, and the decision that leads from it.
 #[derive(Clone, Copy, Debug, PartialEq, Eq)]
 pub struct Above {
-    pub parent: usize,
+    pub parent: u32,
     pub decision: Decision,
 }
 
@@ -31,8 +31,8 @@ pub enum Kind {
 #[derive(Clone, Copy, Debug, PartialEq, Eq)]
 pub struct Place {
     pub above: Option<Above>,
-    pub next: Option<usize>,
-    pub shows: usize,
+    pub next: Option<u32>,
+    pub shows: u32,
     pub kind: Kind,
     pub bound: u64,
     pub out: Option<Errand>,

@@ -12,16 +12,17 @@ use std::collections::{BinaryHeap, VecDeque};
 /// Who wants no more branches than this for a leaf works on the bound, who wants more on a plan.
 const FEW: u32 = 31;
 
-/// Leaves that may be taken. It is advice: a leaf may be missing, or be no more such a leaf.
+/// Leaves that may be taken, by their numbers. It is advice: a leaf may be missing, as is one whose
+/// number does not fit into the bits that are kept of it, or be no more such a leaf.
 #[derive(Drop)]
 pub(crate) struct Ready {
     /// For each searcher, in depth, the leaves that came of its works: the last one is taken first.
     /// Those that grew where few branches were wanted stand in front of the others.
-    deep: Vec<VecDeque<usize>>,
+    deep: Vec<VecDeque<u32>>,
     /// By their kept bounds: of the least ones the last one grown is taken first.
-    cheap: BinaryHeap<(Reverse<u64>, usize)>,
+    cheap: BinaryHeap<(Reverse<u64>, u32)>,
     /// The leaves that are out, each with the searcher that took it.
-    takers: Vec<(usize, u32)>,
+    takers: Vec<(u32, u32)>,
 }
 
 /// Whether a leaf was given out for few branches.
@@ -34,7 +35,7 @@ fn was_for_few(out: Option<Errand>) -> bool {
 
 /// The last leaf of a stack that may be taken.
 fn pop_last(
-    stack: &mut VecDeque<usize>,
+    stack: &mut VecDeque<u32>,
     places: &[Place],
     edition: u32,
     best: Option<u64>,
@@ -44,7 +45,7 @@ fn pop_last(
         × IsTakeable edition best free p) }
 {
     for _ in 0..stack.len() {
-        let number = stack.pop_back()?;
+        let number = stack.pop_back()? as usize;
         if let Some(place) = places.get(number) {
             if is_takeable(place, edition, best, free) {
                 return Some(number);
@@ -86,7 +87,9 @@ impl Ready {
             × IsTakeable edition best free p) }
     {
         let number = self.find(places, edition, best, free, want, taker)?;
-        self.takers.push((number, taker)).is_ok();
+        if let Ok(leaf) = u32::try_from(number) {
+            self.takers.push((leaf, taker)).is_ok();
+        }
         Some(number)
     }
 
@@ -153,7 +156,8 @@ impl Ready {
             × IsTakeable edition best free p) }
     {
         for _ in 0..self.cheap.len() {
-            let (_, number) = self.cheap.pop()?;
+            let (_, leaf) = self.cheap.pop()?;
+            let number = leaf as usize;
             if let Some(place) = places.get(number) {
                 if is_takeable(place, edition, best, free) {
                     return Some(number);
@@ -167,7 +171,7 @@ impl Ready {
     fn untake(&mut self, number: usize) -> usize {
         for place in 0..self.takers.len() {
             if let Some((taken, taker)) = self.takers.get(place).copied() {
-                if taken == number {
+                if taken as usize == number {
                     self.takers.swap_remove(place);
                     return taker as usize;
                 }
@@ -179,13 +183,16 @@ impl Ready {
     /// Keeps a leaf that is in again, where there is room.
     pub(crate) fn keep_back(&mut self, number: usize, place: Place) {
         let taker = self.untake(number);
+        let Ok(leaf) = u32::try_from(number) else {
+            return;
+        };
         if let Some(stack) = self.deep.get_mut(taker) {
             if stack.len() < stack.capacity() {
-                stack.push_back(number).is_ok();
+                stack.push_back(leaf).is_ok();
             }
         }
         if self.cheap.len() < self.cheap.capacity() {
-            self.cheap.push((Reverse(place.bound), number)).is_ok();
+            self.cheap.push((Reverse(place.bound), leaf)).is_ok();
         }
     }
 
@@ -214,13 +221,16 @@ impl Ready {
         if place.kind != Kind::Open {
             return;
         }
+        let Ok(leaf) = u32::try_from(number) else {
+            return;
+        };
         if let Some(stack) = self.deep.get_mut(taker) {
             if for_few {
-                stack.push_front(number).is_ok();
+                stack.push_front(leaf).is_ok();
             } else {
-                stack.push_back(number).is_ok();
+                stack.push_back(leaf).is_ok();
             }
         }
-        self.cheap.push((Reverse(place.bound), number)).is_ok();
+        self.cheap.push((Reverse(place.bound), leaf)).is_ok();
     }
 }

@@ -24,7 +24,7 @@ fn shown_at<'a>(places: &[Place], kept: &'a [PackedNode], number: usize) -> Opti
         (λ node. shown_at places.now kept.now number ≡ Some node.now) }
 {
     let place = places.get(number)?;
-    kept.get(place.shows)
+    kept.get(place.shows as usize)
 }
 
 /// What is kept for the leaf of a number, none where it is no leaf's.
@@ -46,7 +46,7 @@ pub fn leaf_at(
 }
 
 /// The number of the place behind one in preorder.
-fn next_at(places: &[Place], number: usize) -> Option<usize>
+fn next_at(places: &[Place], number: usize) -> Option<u32>
     ensures { result ≡ next_at places.now number }
 {
     places.get(number)?.next
@@ -83,8 +83,8 @@ pub fn all_shown(
         let Some(number) = at else {
             return Ok(tree);
         };
-        show(alloc, &mut tree, places, kept, number)?;
-        at = next_at(places, number);
+        show(alloc, &mut tree, places, kept, number as usize)?;
+        at = next_at(places, number as usize);
     }
     Ok(tree)
 }

@@ -36,11 +36,11 @@ pub fn first_sought(
         let Some(number) = at else {
             return None;
         };
-        let Some(place) = places.get(number) else {
+        let Some(place) = places.get(number as usize) else {
             return None;
         };
         if is_sought(place, best, edition) {
-            return Some((number, place.bound));
+            return Some((number as usize, place.bound));
         }
         at = place.next;
     }
