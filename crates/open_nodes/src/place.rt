@@ -4,9 +4,9 @@ use disp_model::Decision;
 #[derive(Clone, Copy, Debug, PartialEq, Eq)]
 pub struct Errand {
     pub bound: u64,
-    pub edition: u32,
     pub best: Option<u64>,
     pub seen: u64,
+    pub edition: u32,
     pub allowance: u32,
 }
 
