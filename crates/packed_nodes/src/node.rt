@@ -5,19 +5,20 @@ ghost use Rattle.packed_nodes.specs.Outlines.{outline_of};
 ghost use Rattle.packed_nodes.specs.Packed.{packed_leaf_at};
 
 use crate::check::behind_leaf;
-use crate::outline::{Outline, dead, open, outline_of};
+use crate::outline::{Outline, dead, open, outline_of_leaf};
 use crate::read::leaf_at;
 use crate::unread::Unread;
 use crate::write::written;
-use disp_model::{Copied, Leaf, Memory, TreeNode};
+use disp_model::{Choice, Copied, Leaf, Memory, TreeNode};
 use std::alloc::Global;
 use std::marker::Model;
 
-/// How a node is kept: as it is, or as the bytes of a leaf, beside which it is told whether the
-/// leaf is known dead.
+/// How a node is kept: a leaf as it is, or as its bytes, beside which it is told whether it is known
+/// dead.
 #[derive(Drop)]
 enum Stored {
-    Plain(TreeNode),
+    Branch { choice: Choice, children: u32 },
+    Plain(Box<Leaf>),
     Dead(Vec<u8>),
     Open(Vec<u8>),
 }
@@ -61,12 +62,12 @@ fn stored_as(leaf: &Leaf, bytes: Vec<u8>) -> Stored
 }
 
 /// How a leaf is kept.
-fn kept_leaf(alloc: Global, leaf: Leaf) -> Stored
-    ensures { node_in result ≡ LeafNode leaf }
+fn kept_leaf(alloc: Global, leaf: Leaf) -> Result<Stored, Memory>
+    ensures { IfOk result (λ stored. node_in stored ≡ LeafNode leaf) }
 {
     match packed(alloc, &leaf) {
-        Some(bytes) => stored_as(&leaf, bytes),
-        None => Stored::Plain(TreeNode::Leaf(leaf)),
+        Some(bytes) => Ok(stored_as(&leaf, bytes)),
+        None => Ok(Stored::Plain(Box::new(alloc, leaf)?)),
     }
 }
 
@@ -84,18 +85,19 @@ fn said(alloc: Global, bytes: &[u8]) -> Result<Leaf, Memory>
 impl PackedNode {
     /// Keeps a node. Takes time and memory linear in what it lists, some two bytes an operation
     /// where numbers are small, but for operations that a walk shares with the front of the walk
-    /// before it, up to 15, which take none. Where memory runs out the node is kept as it is.
-    pub fn pack(alloc: Global, node: TreeNode) -> PackedNode
-        ensures { result ≡ node }
+    /// before it, up to 15, which take none.
+    ///
+    /// # Errors
+    ///
+    /// `Memory` where memory runs out.
+    pub fn pack(alloc: Global, node: TreeNode) -> Result<PackedNode, Memory>
+        ensures { IfOk result (λ packed. packed ≡ node) }
     {
-        match node {
-            TreeNode::Leaf(leaf) => PackedNode {
-                stored: kept_leaf(alloc, leaf),
-            },
-            TreeNode::Branch { choice, children } => PackedNode {
-                stored: Stored::Plain(TreeNode::Branch { choice, children }),
-            },
-        }
+        let stored = match node {
+            TreeNode::Leaf(leaf) => kept_leaf(alloc, leaf)?,
+            TreeNode::Branch { choice, children } => Stored::Branch { choice, children },
+        };
+        Ok(PackedNode { stored })
     }
 
     /// What the node is, without what it lists.
@@ -103,7 +105,8 @@ impl PackedNode {
         ensures { result ≡ outline_of self.now }
     {
         match &self.stored {
-            Stored::Plain(node) => outline_of(node),
+            Stored::Branch { choice, .. } => Outline::Branch(*choice),
+            Stored::Plain(leaf) => outline_of_leaf(leaf),
             Stored::Dead(_) => Outline::Dead,
             Stored::Open(_) => Outline::Open,
         }
@@ -118,7 +121,11 @@ impl PackedNode {
         ensures { IfOk result (λ node. node ≡ self.now) }
     {
         match &self.stored {
-            Stored::Plain(node) => node.copy(),
+            Stored::Branch { choice, children } => Ok(TreeNode::Branch {
+                choice: *choice,
+                children: *children,
+            }),
+            Stored::Plain(leaf) => Ok(TreeNode::Leaf(leaf.copy()?)),
             Stored::Dead(bytes) => Ok(TreeNode::Leaf(dead(said(alloc, bytes)?))),
             Stored::Open(bytes) => Ok(TreeNode::Leaf(open(alloc, said(alloc, bytes)?))),
         }

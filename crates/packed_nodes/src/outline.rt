@@ -3,7 +3,7 @@ ghost use Rattle.disp_model.specs.declared.tree.TreeNode.TheVariants.{Leaf as Le
 ghost use Rattle.packed_nodes.specs.Kept.{dead_leaf, open_leaf};
 ghost use Rattle.packed_nodes.specs.Outlines.{outline_of};
 
-use disp_model::{Choice, Leaf, List, TreeNode};
+use disp_model::{Choice, Leaf, List};
 use std::alloc::Global;
 
 /// What a node is, without what it lists.
@@ -24,16 +24,6 @@ pub(crate) fn outline_of_leaf(leaf: &Leaf) -> Outline
     match leaf {
         Leaf::NoRoute | Leaf::Cycle(_) | Leaf::Late(_) => Outline::Dead,
         Leaf::Costs(_) | Leaf::Shares { .. } => Outline::Open,
-    }
-}
-
-/// What a node is.
-pub(crate) fn outline_of(node: &TreeNode) -> Outline
-    ensures { result ≡ outline_of node.now }
-{
-    match node {
-        TreeNode::Branch { choice, .. } => Outline::Branch(*choice),
-        TreeNode::Leaf(leaf) => outline_of_leaf(leaf),
     }
 }
 
