@@ -71,7 +71,7 @@ fn leave_leaf(
     let bound = bounds[left.bounds.len()];
     let (leaf, bound) = leaf_left(alloc, problem, fixings, above.as_slice(), leaf, bound)?;
     left.nodes
-        .push(PackedNode::pack(alloc, TreeNode::Leaf(leaf)))?;
+        .push(PackedNode::pack(alloc, TreeNode::Leaf(leaf))?)?;
     left.bounds.push(bound)?;
     Ok(())
 }
@@ -101,7 +101,7 @@ fn leave(
             let branch = TreeNode::Branch { choice, children };
             let below = decisions_below(alloc, problem, &branch)?;
             push_below(pending, &above, below.as_slice())?;
-            left.nodes.push(PackedNode::pack(alloc, branch))?;
+            left.nodes.push(PackedNode::pack(alloc, branch)?)?;
             Ok(())
         }
         TreeNode::Leaf(leaf) => {

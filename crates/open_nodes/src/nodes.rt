@@ -64,7 +64,7 @@ impl Nodes {
         })?;
         let first = TreeNode::Leaf(Leaf::Costs(List::new(alloc)));
         let mut kept = Vec::new(alloc);
-        kept.push(PackedNode::pack(alloc, first))?;
+        kept.push(PackedNode::pack(alloc, first)?)?;
         let blocks = Blocks::new(alloc, &places, 0)?;
         Ok(Nodes {
             places,

@@ -38,8 +38,9 @@ pub enum Growth {
 pub fn leaf_alone(alloc: Global, leaf: Leaf) -> Result<Growth, Memory>
     ensures { IfOk result (λ growth. growth ≡ Subtree (LeafNode leaf ∷ []) (0 ∷ []) None) }
 {
+    let node = PackedNode::pack(alloc, TreeNode::Leaf(leaf))?;
     Ok(Growth::Subtree {
-        nodes: List::from_vec(vec![in alloc; PackedNode::pack(alloc, TreeNode::Leaf(leaf))]?),
+        nodes: List::from_vec(vec![in alloc; node]?),
         bounds: List::from_vec(vec![in alloc; 0]?),
         plan: None,
     })

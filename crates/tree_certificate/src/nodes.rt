@@ -245,7 +245,7 @@ pub(crate) fn nodes_at(
         }
         let (node, after) = node_read(alloc, third, rest)?;
         open = open - 1 + u128::from(places_opened(&node));
-        nodes.push(PackedNode::pack(alloc, node))?;
+        nodes.push(PackedNode::pack(alloc, node)?)?;
         rest = after;
     }
     if open == 0 {

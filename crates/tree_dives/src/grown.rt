@@ -1,4 +1,4 @@
-ghost use Rattle.std.specs.Prelude.{◌≡◌, ◌++◌, ◌∷◌, [], OnOk, reverse};
+ghost use Rattle.std.specs.Prelude.{◌≡◌, ◌++◌, ◌∷◌, [], IfOk, OnOk, reverse};
 ghost use Rattle.disp_model.specs.declared.tree.TreeNode.TheVariants.{Branch, Leaf as LeafNode};
 ghost use Rattle.tree_dives.specs.Leaves.{leaf_held, bound_in};
 
@@ -27,8 +27,8 @@ pub(crate) fn nothing(alloc: Global) -> Grown
 }
 
 /// A node as it is kept among others.
-fn packed(grown: &Grown, node: TreeNode) -> PackedNode
-    ensures { result ≡ node }
+fn packed(grown: &Grown, node: TreeNode) -> Result<PackedNode, Memory>
+    ensures { IfOk result (λ packed. packed ≡ node) }
 {
     PackedNode::pack(*grown.nodes.allocator(), node)
 }
@@ -39,7 +39,7 @@ pub(crate) fn push_branch(grown: &mut Grown, choice: Choice, children: u32) -> R
         (grown.new.nodes.items ≡ grown.old.nodes.items ++ Branch choice children ∷ []) }
     ensures bounds { OnOk result (grown.new.bounds.items ≡ grown.old.bounds.items) }
 {
-    let branch = packed(grown, TreeNode::Branch { choice, children });
+    let branch = packed(grown, TreeNode::Branch { choice, children })?;
     grown.nodes.push(branch)?;
     Ok(())
 }
@@ -55,7 +55,7 @@ pub(crate) fn push_leaf(grown: &mut Grown, shown: NodeLeaf) -> Result<(), Memory
         NodeLeaf::Dead(leaf) => (leaf, 0),
         NodeLeaf::Open { leaf, bound } => (leaf, bound),
     };
-    let leaf = packed(grown, TreeNode::Leaf(leaf));
+    let leaf = packed(grown, TreeNode::Leaf(leaf))?;
     grown.nodes.push(leaf)?;
     grown.bounds.push(bound)?;
     Ok(())

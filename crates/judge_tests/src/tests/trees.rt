@@ -95,7 +95,8 @@ fn checked(
     let mut tree = Vec::new(alloc);
     for node in nodes {
         let node = node.copy().expect(rt, "a node");
-        tree.push(PackedNode::pack(alloc, node)).expect(rt, "room");
+        let packed = PackedNode::pack(alloc, node).expect(rt, "a packed node");
+        tree.push(packed).expect(rt, "room");
     }
     check(alloc, problem, &[], verdict, &tree).expect(rt, "an answer")
 }

@@ -76,10 +76,11 @@ fn one_leaf_is_taken_and_given_back(rt: HostRuntime) {
 }
 
 /// A leaf that shows no walks.
-fn no_walks(alloc: Global) -> PackedNode
+fn no_walks(rt: &impl Abort, alloc: Global) -> PackedNode
     ensures { result ≡ LeafNode (Costs []) }
 {
-    PackedNode::pack(alloc, TreeNode::Leaf(Leaf::Costs(List::new(alloc))))
+    let leaf = TreeNode::Leaf(Leaf::Costs(List::new(alloc)));
+    PackedNode::pack(alloc, leaf).expect(rt, "a leaf")
 }
 
 /// A branch of an order, with two leaves of the bounds 24 and 18.
@@ -91,8 +92,8 @@ fn ordered(rt: &impl Abort, alloc: Global, work: Work) -> Fragment
         choice,
         children: 2,
     };
-    let branch = PackedNode::pack(alloc, branch);
-    let tree = vec![in alloc; branch, no_walks(alloc), no_walks(alloc)];
+    let branch = PackedNode::pack(alloc, branch).expect(rt, "a branch");
+    let tree = vec![in alloc; branch, no_walks(rt, alloc), no_walks(rt, alloc)];
     let bounds = vec![in alloc; 24, 18];
     Fragment {
         work,

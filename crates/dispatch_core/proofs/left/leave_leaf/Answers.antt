@@ -20,6 +20,6 @@ returns c =
       less = c.in_ok-leaf.bound;
       left = subst (λ (above : List Decision). IsLeafLeft (node_at c.args.problem.now c.args.fixings.now above) c.args.leaf bound c.in_ok-leaf.leaf c.in_ok-leaf.bound)
           c.as_slice.ensures c.in_ok-leaf.ensures;
-      nodes_are = rw (c.in_ok-push.ensures.items, c.pack.ensures) refl;
+      nodes_are = rw (c.in_ok-push.ensures.items, c.in_ok-pack.ensures) refl;
       least_are = c.in_ok-push-2.ensures.items;
     }

@@ -14,7 +14,7 @@ returns-in_err-node c =
 
 pub loop-preserved : goal.loop-preserved
 loop-preserved c = (
-  rw (c.in_ok-push.ensures.items, c.pack.ensures)
+  rw (c.in_ok-push.ensures.items, c.in_ok-pack.ensures)
       (nodes_go_on c.args.third (length c.args.bytes.now) c.loop.counter c.loop.open _ c.loop.nodes.items c.loop.rest.now c.in_ok-node.node c.in_ok-node.after.now _ c.loop-test.true c.if-open-eq0.false
       (omega (arith, c.from.ensures, c.places_opened.ensures, c.if-open-eq0.false)) c.in_ok-node.ensures c.loop.invariant.0),
   omega (arith, c.loop.invariant.1, c.places_opened.type_inv, c.from.ensures),
