@@ -6,7 +6,7 @@ use Rattle.tree_certificate.specs.declared.fault.Fault.{Fault}
 use Rattle.tree_certificate.specs.declared.fault.Fault.TheVariants.{Truncated}
 use Rattle.tree_certificate.specs.declared.fault.ReadError.{ReadError}
 use Rattle.tree_certificate.specs.declared.fault.ReadError.TheVariants as errors
-use Rattle.tree_certificate.specs.Reading.{◌>>=◌, FailsRead}
+use Rattle.tree_certificate.specs.Reading.{FailsRead}
 use Rattle.tree_certificate.specs.NodesRead.{node_read, nodes_at, places_opened}
 use Rattle.tree_certificate.proofs.Looping.{with_front, regroup}
 

@@ -1,5 +1,5 @@
 -- The lines that were written are read again.
-use Rattle.std.proofs.Common.{◌≡◌, ℕ, zero, suc, ◌<◌, ◌≤◌, ◌^◌, List, [], ◌∷◌, ◌++◌, length, All, Result, Ok, Err, refl, sym, ap, ◌∙◌, append_assoc, arith}
+use Rattle.std.proofs.Common.{◌≡◌, ℕ, ◌<◌, ◌≤◌, ◌^◌, List, [], ◌∷◌, ◌++◌, length, All, Result, Ok, refl, ap, ◌∙◌, append_assoc, arith}
 use Rattle.std.specs.Prelude.{codes}
 use Rattle.std.specs.List.{flat_map}
 use Rattle.std.specs.Fmt.{decimal}
@@ -10,9 +10,8 @@ use Rattle.disp_model.specs.declared.tree.TrainWalks.{TrainWalks}
 use Rattle.disp_model.specs.declared.limits.TheConstants.{GREATEST_NUMBER, MOST_COMPONENTS}
 use Rattle.disp_model.specs.Trees.{FitsOp, FitsWalk, FitsTrain}
 use Rattle.tree_certificate.specs.declared.fault.Fault.{Fault}
-use Rattle.tree_certificate.specs.TreeTexts.{op_text, ops_text, walk_text, to_text, listed_text}
-use Rattle.tree_certificate.specs.Reading.{◌>>=◌}
-use Rattle.tree_certificate.specs.FieldsRead.{HasNone, before, from, field_number, ops_at, line_ended, word_at}
+use Rattle.tree_certificate.specs.TreeTexts.{ops_text, walk_text, to_text, listed_text}
+use Rattle.tree_certificate.specs.FieldsRead.{HasNone, line_ended}
 use Rattle.tree_certificate.specs.LinesRead.{line_at, items_at, last_count, walk_at, to_at, train_read}
 use Rattle.tree_certificate.proofs.Cutting.{around}
 use Rattle.tree_certificate.proofs.FieldsAgain.{none_by, none_in_number, none_in_ops, field_again, last_again, all_ops_again, sep_ops}

@@ -1,5 +1,5 @@
 -- The lines that are read are those that were written.
-use Rattle.std.proofs.Common.{◌≡◌, ℕ, zero, suc, ◌<◌, ◌≤◌, ◌^◌, Bool, true, false, cond, eqb-true, List, [], ◌∷◌, ◌++◌, length, All, Result, Ok, Err, refl, sym, ap, subst, ◌∙◌, append_assoc, arith}
+use Rattle.std.proofs.Common.{◌≡◌, ℕ, zero, suc, ◌≤◌, Bool, true, false, cond, eqb-true, List, [], ◌∷◌, ◌++◌, length, All, Result, Ok, refl, sym, ap, subst, ◌∙◌, append_assoc, arith}
 use Rattle.std.specs.Prelude.{codes, ◌==◌}
 use Rattle.std.specs.List.{flat_map}
 use Rattle.std.specs.Fmt.{decimal}
@@ -11,11 +11,10 @@ use Rattle.disp_model.specs.declared.tree.TrainWalks.{TrainWalks}
 use Rattle.disp_model.specs.declared.limits.TheConstants.{GREATEST_NUMBER, MOST_COMPONENTS}
 use Rattle.disp_model.specs.Trees.{FitsOp, FitsWalk, FitsTrain}
 use Rattle.tree_certificate.specs.declared.fault.Fault.{Fault}
-use Rattle.tree_certificate.specs.TreeTexts.{op_text, ops_text, walk_text, to_text, listed_text}
-use Rattle.tree_certificate.specs.Reading.{◌>>=◌}
+use Rattle.tree_certificate.specs.TreeTexts.{ops_text, walk_text, to_text, listed_text}
 use Rattle.tree_certificate.specs.FieldsRead.{before, from, field_number, ops_at, line_ended, word_at}
 use Rattle.tree_certificate.specs.LinesRead.{line_with, line_at, items_at, last_count, walk_at, to_at, train_read}
-use Rattle.tree_certificate.proofs.FieldsTaken.{bind_ok, done, ok_is, parts, joined_again, field_taken, end_taken, ops_taken, word_taken}
+use Rattle.tree_certificate.proofs.FieldsTaken.{bind_ok, ok_is, parts, joined_again, field_taken, end_taken, ops_taken, word_taken}
 use Rattle.tree_certificate.proofs.LinesAgain.{three, four, seven}
 
 -- what stands from the first such byte on begins with it

@@ -1,7 +1,7 @@
 -- The nodes that were written are read again.
-use Rattle.std.proofs.Common.{◌≡◌, ◌⊎◌, inl, inr, ℕ, zero, suc, ◌+◌, ◌<◌, ◌≤◌, ◌^◌, Bool, true, false, List, [], ◌∷◌, ◌++◌, length, All, Result, Ok, Err, refl, sym, ap, subst, ◌∙◌, append_assoc, arith, length-append}
-use Rattle.std.specs.Prelude.{codes, ◌||◌}
-use Rattle.std.specs.List.{flat_map, list_any}
+use Rattle.std.proofs.Common.{◌≡◌, ◌⊎◌, inl, inr, ℕ, zero, suc, ◌+◌, ◌≤◌, Bool, true, false, List, [], ◌∷◌, ◌++◌, length, All, Ok, refl, sym, ap, subst, ◌∙◌, append_assoc, arith}
+use Rattle.std.specs.Prelude.{codes}
+use Rattle.std.specs.List.{flat_map}
 use Rattle.std.specs.Fmt.{decimal}
 use Rattle.std.proofs.lemmas.List.{append-nil}
 use Rattle.std.proofs.lemmas.List.Elements.{All-head, All-tail, All-append}
@@ -14,11 +14,9 @@ use Rattle.disp_model.specs.declared.tree.TreeNode.{TreeNode}
 use Rattle.disp_model.specs.declared.tree.TreeNode.TheVariants.{Branch, Leaf}
 use Rattle.disp_model.specs.declared.limits.TheConstants.{MOST_COMPONENTS}
 use Rattle.disp_model.specs.Trees.{FitsOp, FitsWalk, FitsTrain, FitsNode}
-use Rattle.tree_certificate.specs.declared.fault.Fault.{Fault}
-use Rattle.tree_certificate.specs.TreeTexts.{op_text, ops_text, walk_text, listed_text, node_text, is_third, needs_third}
-use Rattle.tree_certificate.specs.Reading.{◌>>=◌}
+use Rattle.tree_certificate.specs.TreeTexts.{op_text, ops_text, walk_text, listed_text, node_text, is_third}
 use Rattle.tree_certificate.specs.FieldsRead.{HasNone, op_at, line_ended}
-use Rattle.tree_certificate.specs.LinesRead.{line_at, items_at, last_count, walk_at, train_read}
+use Rattle.tree_certificate.specs.LinesRead.{walk_at, train_read}
 use Rattle.tree_certificate.specs.NodesRead.{node_word_at, not_none, route_at, order_at, run_at, no_route_at, cycle_at, late_at, costs_at, shares_at, node_by, node_read, places_opened, nodes_at}
 use Rattle.tree_certificate.specs.Versions.{CompletesTree}
 use Rattle.tree_certificate.proofs.FieldsAgain.{none_by, none_in_number, none_in_op, none_in_ops, field_again, last_again, op_again, all_ops_again}

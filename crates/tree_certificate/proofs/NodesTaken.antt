@@ -1,30 +1,25 @@
 -- The nodes that are read are those that were written.
-use Rattle.std.proofs.Common.{◌≡◌, ◌⊎◌, inl, inr, ℕ, zero, suc, ◌+◌, ◌<◌, ◌≤◌, ◌^◌, Bool, true, false, List, [], ◌∷◌, ◌++◌, length, All, Option, Some, None, Result, Ok, Err, refl, sym, ap, subst, ◌∙◌, append_assoc, arith}
+use Rattle.std.proofs.Common.{◌≡◌, inl, inr, ℕ, zero, suc, ◌+◌, ◌≤◌, Bool, true, false, List, [], ◌∷◌, ◌++◌, length, All, Some, Result, Ok, refl, sym, ap, subst, ◌∙◌, append_assoc, arith}
 use Rattle.std.specs.Prelude.{codes, ⊤}
 use Rattle.std.specs.List.{flat_map}
 use Rattle.std.specs.Fmt.{decimal}
 use Rattle.std.proofs.lemmas.List.{append-nil}
 use Rattle.std.proofs.lemmas.List.Elements.{All-nil, All-cons}
-use Rattle.disp_model.specs.declared.train.Op.{Op}
 use Rattle.disp_model.specs.declared.decision.Choice.TheVariants.{Route, Order, Run}
-use Rattle.disp_model.specs.declared.tree.ComponentWalk.{ComponentWalk}
-use Rattle.disp_model.specs.declared.tree.TrainWalks.{TrainWalks}
 use Rattle.disp_model.specs.declared.tree.Leaf.TheVariants.{NoRoute, Cycle, Late, Costs, Shares}
 use Rattle.disp_model.specs.declared.tree.TreeNode.{TreeNode}
 use Rattle.disp_model.specs.declared.tree.TreeNode.TheVariants.{Branch, Leaf}
 use Rattle.disp_model.specs.declared.limits.TheConstants.{MOST_COMPONENTS}
-use Rattle.disp_model.specs.Trees.{FitsOp, FitsWalk, FitsTrain, FitsNode}
+use Rattle.disp_model.specs.Trees.{FitsWalk, FitsTrain, FitsNode}
 use Rattle.tree_certificate.specs.declared.fault.Fault.{Fault}
-use Rattle.tree_certificate.specs.declared.fault.Fault.TheVariants.{Bad}
 use Rattle.tree_certificate.specs.declared.word.Word.{Word}
 use Rattle.tree_certificate.specs.declared.word.Word.TheVariants as word
-use Rattle.tree_certificate.specs.TreeTexts.{op_text, ops_text, walk_text, listed_text, node_text, is_third}
-use Rattle.tree_certificate.specs.Reading.{◌>>=◌}
-use Rattle.tree_certificate.specs.FieldsRead.{behind, field_number, op_at, ops_at, line_ended, or_word}
+use Rattle.tree_certificate.specs.TreeTexts.{op_text, ops_text, walk_text, listed_text, node_text}
+use Rattle.tree_certificate.specs.FieldsRead.{behind, field_number, op_at, ops_at, line_ended}
 use Rattle.tree_certificate.specs.LinesRead.{line_at, items_at, last_count, walk_at, train_read}
 use Rattle.tree_certificate.specs.NodesRead.{node_word_at, not_none, only_third, route_at, order_at, run_at, no_route_at, cycle_at, late_at, costs_at, shares_at, and_rest, node_by, node_read, places_opened, nodes_at}
 use Rattle.tree_certificate.specs.Versions.{CompletesTree}
-use Rattle.tree_certificate.proofs.FieldsTaken.{bind_ok, done, ok_is, parts, field_taken, op_taken, ops_taken, end_taken, behind_taken, or_word_taken}
+use Rattle.tree_certificate.proofs.FieldsTaken.{bind_ok, ok_is, field_taken, op_taken, ops_taken, end_taken, behind_taken, or_word_taken}
 use Rattle.tree_certificate.proofs.LinesAgain.{three, four, five, six, eight}
 use Rattle.tree_certificate.proofs.LinesTaken.{line_taken, items_taken, count_taken, walk_taken, train_taken}
 use Rattle.tree_certificate.proofs.NodesAgain.{HasLine}

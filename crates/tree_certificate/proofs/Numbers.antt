@@ -1,14 +1,12 @@
 -- The number of a field: what the reader of numbers answers, and what a number's text is read as.
-use Rattle.std.proofs.Common.{◌≡◌, ℕ, zero, suc, ◌+◌, ◌<◌, ◌≤◌, ◌^◌, Bool, true, false, cond, ltb, leb, List, [], ◌∷◌, length, get_or, refl, sym, ap, subst, ◌∙◌, arith, ltb-true, ltb-false, lt-ltb, le-ltb, le-leb, eqb-true, ne_eqb, leb-true, eqb}
-use Rattle.std.specs.Prelude.{◌↔◌, Result, Ok, Err, IfOk, IsErrOf, ◌&&◌, ◌||◌, not, ◌==◌, nat_lt, nat_le}
+use Rattle.std.proofs.Common.{◌≡◌, ℕ, ◌<◌, ◌≤◌, Bool, true, false, List, [], ◌∷◌, length, get_or, refl, sym, ap, arith, ltb-true, lt-ltb, le-leb, eqb-true}
+use Rattle.std.specs.Prelude.{Ok, Err, IsErrOf, ◌&&◌, ◌||◌, not, ◌==◌, nat_lt}
 use Rattle.std.specs.List.{list_all}
 use Rattle.std.specs.Char.{digit_value}
-use Rattle.std.proofs.lemmas.Bool.{lt-leb, not-true, leb-false}
+use Rattle.std.proofs.lemmas.Bool.{lt-leb}
 use Rattle.std.proofs.lemmas.List.Elements.{All-nil, All-cons, All-tail}
 use Rattle.plain_values.specs.declared.number.NumberNo.{NumberNo}
-use Rattle.plain_values.specs.declared.number.NumberNo.TheVariants.{NotNumber, TooLarge}
 use Rattle.plain_values.specs.Decimal.{AreDigits, IsDecimal, IsNumber, IsAbove, value_of}
-use Rattle.tree_certificate.specs.declared.fault.Fault.{Fault}
 use Rattle.tree_certificate.specs.declared.fault.Fault.TheVariants.{Bad, Large}
 use Rattle.tree_certificate.specs.FieldsRead.{is_decimal, whole_field}
 

@@ -1,7 +1,7 @@
 -- What was written is read again as the same.
-use Rattle.std.proofs.Common.{◌≡◌, inl, inr, ℕ, zero, suc, ◌+◌, ◌<◌, ◌≤◌, ◌^◌, Bool, true, false, List, [], ◌∷◌, ◌++◌, length, All, Option, Some, None, Result, Ok, Err, refl, sym, ap, subst, ◌∙◌, append_assoc, arith, length-append}
+use Rattle.std.proofs.Common.{◌≡◌, inl, inr, ℕ, ◌≤◌, Bool, true, false, List, [], ◌∷◌, ◌++◌, length, All, Option, Some, None, Result, Ok, Err, refl, sym, ap, ◌∙◌, append_assoc, arith, length-append}
 use Rattle.std.specs.Prelude.{codes, ◌||◌, MatchResult}
-use Rattle.std.specs.List.{flat_map, list_any}
+use Rattle.std.specs.List.{flat_map}
 use Rattle.std.specs.Fmt.{decimal}
 use Rattle.std.proofs.lemmas.List.Elements.{All-nil, All-cons, All-append}
 use Rattle.disp_model.specs.declared.decision.Choice.TheVariants.{Route, Order, Run}
@@ -12,18 +12,14 @@ use Rattle.disp_model.specs.declared.tree.Verdict.{Verdict}
 use Rattle.disp_model.specs.declared.tree.Verdict.TheVariants.{Optimal, Infeasible}
 use Rattle.disp_model.specs.declared.limits.TheConstants.{GREATEST_COST}
 use Rattle.disp_model.specs.Trees.{FitsNode, FitsVerdict}
-use Rattle.tree_certificate.specs.declared.fault.Fault.{Fault}
 use Rattle.tree_certificate.specs.declared.fault.TreeNo.{TreeNo}
 use Rattle.tree_certificate.specs.declared.fault.TreeNo.TheVariants as no
 use Rattle.tree_certificate.specs.declared.word.Version.{Version}
 use Rattle.tree_certificate.specs.declared.word.Version.TheVariants.{First, Second, Third}
 use Rattle.tree_certificate.specs.TreeTexts.{node_text, verdict_line, is_third, needs_third, later_text, body_text, tree_text}
-use Rattle.tree_certificate.specs.Reading.{◌>>=◌}
 use Rattle.tree_certificate.specs.FieldsRead.{HasNone, line_ended}
-use Rattle.tree_certificate.specs.LinesRead.{line_at}
-use Rattle.tree_certificate.specs.NodesRead.{nodes_at}
 use Rattle.tree_certificate.specs.TreesRead.{TreeRead, version_word_at, version_at, edition_line_at, edition_at, optimal_at, infeasible_at, verdict_at, end_at, is_third_version, tree_at, read_of, AnswersTree}
-use Rattle.tree_certificate.specs.Versions.{version_line, edition_head, version_text, FitsEdition, VersionHasLines, CompletesTree, IsText, later_version}
+use Rattle.tree_certificate.specs.Versions.{version_line, edition_head, FitsEdition, VersionHasLines, CompletesTree, IsText, later_version}
 use Rattle.tree_certificate.proofs.FieldsAgain.{none_by, none_in_number, last_again}
 use Rattle.tree_certificate.proofs.FieldsTaken.{ok_is}
 use Rattle.tree_certificate.proofs.LinesAgain.{NotEnd, line_again, three}

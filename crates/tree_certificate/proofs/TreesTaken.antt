@@ -1,7 +1,7 @@
 -- What is read is a text of what it is read as.
-use Rattle.std.proofs.Common.{◌≡◌, ◌⊎◌, inl, inr, ℕ, zero, suc, ◌<◌, ◌≤◌, ◌^◌, Bool, true, false, List, [], ◌∷◌, ◌++◌, length, All, Option, Some, None, Result, Ok, Err, refl, sym, ap, subst, ◌∙◌, append_assoc, arith}
+use Rattle.std.proofs.Common.{◌≡◌, inl, inr, ℕ, Bool, true, false, List, [], ◌∷◌, ◌++◌, length, All, Option, Some, None, Result, Ok, Err, refl, sym, ap, subst, ◌∙◌, arith}
 use Rattle.std.specs.Prelude.{codes, ⊤, ◌||◌, IfOk, MatchResult}
-use Rattle.std.specs.List.{flat_map, list_any}
+use Rattle.std.specs.List.{flat_map}
 use Rattle.std.specs.Fmt.{decimal}
 use Rattle.std.proofs.lemmas.List.{append-nil}
 use Rattle.std.proofs.lemmas.List.Elements.{All-head, All-tail}
@@ -9,19 +9,17 @@ use Rattle.disp_model.specs.declared.tree.TreeNode.{TreeNode}
 use Rattle.disp_model.specs.declared.tree.Verdict.{Verdict}
 use Rattle.disp_model.specs.declared.tree.Verdict.TheVariants.{Optimal, Infeasible}
 use Rattle.disp_model.specs.declared.limits.TheConstants.{GREATEST_COST}
-use Rattle.disp_model.specs.Trees.{FitsNode, FitsVerdict}
-use Rattle.tree_certificate.specs.declared.fault.Fault.{Fault}
+use Rattle.disp_model.specs.Trees.{FitsVerdict}
 use Rattle.tree_certificate.specs.declared.fault.TreeNo.{TreeNo}
 use Rattle.tree_certificate.specs.declared.word.Version.{Version}
 use Rattle.tree_certificate.specs.declared.word.Version.TheVariants.{First, Second, Third}
-use Rattle.tree_certificate.specs.TreeTexts.{node_text, verdict_line, body_text, is_third, needs_third}
-use Rattle.tree_certificate.specs.Reading.{◌>>=◌}
-use Rattle.tree_certificate.specs.FieldsRead.{behind, field_number, line_ended, word_at, or_word}
+use Rattle.tree_certificate.specs.TreeTexts.{node_text, verdict_line, is_third, needs_third}
+use Rattle.tree_certificate.specs.FieldsRead.{behind, field_number, line_ended, word_at}
 use Rattle.tree_certificate.specs.LinesRead.{line_at}
 use Rattle.tree_certificate.specs.NodesRead.{nodes_at}
 use Rattle.tree_certificate.specs.TreesRead.{TreeRead, version_word_at, version_at, edition_line_at, edition_at, optimal_at, infeasible_at, verdict_by, verdict_at, nothing_behind, end_at, is_third_version, tree_at, read_of, AnswersTree}
-use Rattle.tree_certificate.specs.Versions.{version_line, edition_head, version_text, FitsEdition, VersionHasLines, CompletesTree, IsText}
-use Rattle.tree_certificate.proofs.FieldsTaken.{bind_ok, done, ok_is, parts, field_taken, end_taken, behind_taken, word_taken, or_word_taken}
+use Rattle.tree_certificate.specs.Versions.{version_line, edition_head, version_text, FitsEdition, VersionHasLines, IsText}
+use Rattle.tree_certificate.proofs.FieldsTaken.{bind_ok, ok_is, field_taken, end_taken, behind_taken, word_taken, or_word_taken}
 use Rattle.tree_certificate.proofs.LinesAgain.{three}
 use Rattle.tree_certificate.proofs.LinesTaken.{line_taken}
 use Rattle.tree_certificate.proofs.NodesAgain.{HasLine}

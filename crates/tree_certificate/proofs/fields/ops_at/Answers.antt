@@ -1,6 +1,5 @@
 use Rattle.std.proofs.lemmas.Result.{err_from_is_err_and}
 use Rattle.std.proofs.Common.{length}
-use Rattle.tree_certificate.specs.FieldsRead.{ops_at}
 use Rattle.tree_certificate.proofs.Looping.{ops_done, ops_go_on, ops_end, ops_last, ops_surplus, empty_is, not_empty}
 use Rattle.tree_certificate.proofs.fields.ops_at.Goals as goal
 

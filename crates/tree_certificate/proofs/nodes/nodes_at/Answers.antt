@@ -1,6 +1,5 @@
-use Rattle.std.proofs.Common.{◌≡◌, ◌+◌, length, arith}
+use Rattle.std.proofs.Common.{length, arith}
 use Rattle.std.proofs.lemmas.Result.{err_from_is_err_and}
-use Rattle.tree_certificate.specs.NodesRead.{places_opened}
 use Rattle.tree_certificate.proofs.Filling.{nodes_done, nodes_go_on, nodes_end, nodes_cut}
 use Rattle.tree_certificate.proofs.nodes.nodes_at.Goals as goal
 
