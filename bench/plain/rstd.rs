@@ -8,6 +8,7 @@ macro_rules! vec {
 }
 
 pub mod prelude {
+    pub use super::boxed::Box;
     pub use super::string::String;
     pub use super::vec::Vec;
     pub use super::drops::Drop;
@@ -29,6 +30,19 @@ pub mod alloc {
         fn from(_: AllocFailed<T>) -> AllocError {
             AllocError
         }
+    }
+}
+
+pub mod boxed {
+    use super::alloc::{AllocError, Global};
+    #[derive(Debug)]
+    pub struct Box<T>(std::boxed::Box<T>);
+    impl<T> Box<T> {
+        pub fn new(_: Global, item: T) -> Result<Box<T>, AllocError> { Ok(Box(std::boxed::Box::new(item))) }
+    }
+    impl<T> std::ops::Deref for Box<T> {
+        type Target = T;
+        fn deref(&self) -> &T { &self.0 }
     }
 }
 

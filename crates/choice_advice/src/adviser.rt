@@ -7,9 +7,9 @@ use crate::found::{Found, by_any, by_time, by_toll};
 use crate::holders::Holders;
 use crate::layers::has_layers;
 use crate::links::Links;
-use crate::spots::{Rows, Spots};
+use crate::spots::{NEVER, Rows, Spots};
 use crate::view::View;
-use disp_model::{Memory, Op, Problem};
+use disp_model::{Decision, Memory, Op, Problem};
 use event_graph::Graph;
 use incremental_paths::Paths;
 use problem_facts::listings_of;
@@ -49,6 +49,41 @@ pub enum Advice {
     Run(Op),
 }
 
+/// What is known of the two orders of a choice that was named last. Each is named by the operation
+/// that goes first.
+#[derive(Clone, Copy, Debug)]
+pub struct Orders {
+    cheaper: Op,
+    dearer: Op,
+    /// Whether each leaves a plan that is wanted, as far as was seen.
+    is_cheaper_open: bool,
+    is_dearer_open: bool,
+}
+
+impl Orders {
+    /// Whether a decision takes the order that costs less with all that it pushes.
+    pub fn is_cheaper(&self, decision: Decision) -> bool {
+        match decision {
+            Decision::First { a, b } => a == self.cheaper && b == self.dearer,
+            _ => false,
+        }
+    }
+
+    /// Whether a decision that takes one of the orders is seen to leave a plan that is wanted, or to
+    /// leave none; nothing where it takes neither.
+    pub fn is_open(&self, decision: Decision) -> Option<bool> {
+        match decision {
+            Decision::First { a, b } if a == self.cheaper && b == self.dearer => {
+                Some(self.is_cheaper_open)
+            }
+            Decision::First { a, b } if a == self.dearer && b == self.cheaper => {
+                Some(self.is_dearer_open)
+            }
+            _ => None,
+        }
+    }
+}
+
 /// What an adviser keeps of a problem, and of the node at which it was asked last.
 #[derive(Drop)]
 pub struct Adviser {
@@ -64,12 +99,13 @@ pub struct Adviser {
 }
 
 impl Adviser {
-    /// An adviser on the choices of a problem.
+    /// An adviser on the choices of a problem. By tolls it weighs so many clashes at a node by all
+    /// that their orders push, at most: the more, the smaller is the tree and the longer each look.
     ///
     /// # Errors
     ///
     /// `Memory` where memory runs out.
-    pub fn new(alloc: Global, problem: &Problem) -> Result<Adviser, Memory> {
+    pub fn new(alloc: Global, problem: &Problem, most_pushed: usize) -> Result<Adviser, Memory> {
         let facts = Facts::of(alloc, problem)?;
         let count = facts.count();
         let trains = problem.trains.len();
@@ -85,7 +121,7 @@ impl Adviser {
             spots: Spots::new(alloc, count, trains)?,
             holders: Holders::of(alloc, problem)?,
             layered,
-            found: Found::new(alloc, count, trains, problem.names.len())?,
+            found: Found::new(alloc, count, trains, problem.names.len(), most_pushed)?,
         })
     }
 
@@ -189,14 +225,19 @@ impl Adviser {
         self.look_at_holders()
     }
 
-    /// The operation that goes first in the cheaper one of the two orders that were named last,
-    /// where it was looked at what both push.
-    pub fn cheaper_first(&self) -> Option<Op> {
-        let number = self.found.cheaper?;
-        Some(self.facts.op(number))
+    /// What is known of the two orders that were named last, where it was looked at what both push.
+    pub fn orders(&self) -> Option<Orders> {
+        let tolls = self.found.tolls?;
+        Some(Orders {
+            cheaper: self.facts.op(tolls.cheaper),
+            dearer: self.facts.op(tolls.dearer),
+            is_cheaper_open: tolls.least < NEVER,
+            is_dearer_open: tolls.most < NEVER,
+        })
     }
 
-    /// The choice to take at the node of a graph, where the adviser knows one.
+    /// The choice to take at the node of a graph, where the adviser knows one. An order that raises
+    /// the cost by `room` or more counts as one that leaves no plan.
     ///
     /// # Errors
     ///
@@ -206,11 +247,12 @@ impl Adviser {
         problem: &Problem,
         graph: &Graph,
         strategy: Strategy,
+        room: u64,
     ) -> Result<Option<Advice>, Memory>
         requires { graph.now.problem ≡ problem.now }
     {
         self.look(problem, graph)?;
-        self.found.cheaper = None;
+        self.found.tolls = None;
         let view = View {
             problem,
             graph,
@@ -218,6 +260,7 @@ impl Adviser {
             spots: &self.spots,
             holders: &self.holders,
             links: &self.links,
+            room,
         };
         match strategy {
             Strategy::Toll => by_toll(view, &mut self.found, &self.layered),

@@ -8,15 +8,25 @@ const CHEAPER: u64 = 4;
 /// What the dearer order of a clash counts at most.
 const MOST_DEARER: u64 = 1 << 50;
 
+/// What the two orders of a clash cost with all that they push, never where one leaves no plan that
+/// is wanted. Each is named by the operation that goes first.
+#[derive(Clone, Copy)]
+pub(crate) struct Tolls {
+    /// That of the order that costs less; of the lower number where both cost the same.
+    pub cheaper: u32,
+    pub least: u64,
+    pub dearer: u32,
+    pub most: u64,
+}
+
 /// Two forced operations that meet, and how much their order decides.
 #[derive(Clone, Copy)]
 pub(crate) struct Clash {
     /// What its orders cost, as `weight` adds it up; never where one of them closes a cycle.
     pub weight: u64,
     pub meeting: Meeting,
-    /// The operation that goes first in the order that costs less with all that it pushes, where
-    /// that is known; that of the lower number where both cost the same.
-    pub cheaper: Option<u32>,
+    /// What its orders cost with all that they push, where that is known.
+    pub tolls: Option<Tolls>,
 }
 
 /// What two orders weigh that cost so much.
@@ -25,6 +35,27 @@ pub(crate) fn weight(one: u64, other: u64) -> u64 {
     one.min(other)
         .saturating_mul(CHEAPER)
         .saturating_add(dearer)
+}
+
+impl Tolls {
+    /// By what it costs to have the one of two that meet go first, and the other.
+    pub(crate) fn of(meeting: &Meeting, one: u64, other: u64) -> Tolls {
+        if one < other || (one == other && meeting.first() == meeting.one) {
+            Tolls {
+                cheaper: meeting.one,
+                least: one,
+                dearer: meeting.other,
+                most: other,
+            }
+        } else {
+            Tolls {
+                cheaper: meeting.other,
+                least: other,
+                dearer: meeting.one,
+                most: one,
+            }
+        }
+    }
 }
 
 impl Clash {
@@ -57,18 +88,15 @@ pub(crate) fn first_of(known: Option<Clash>, clash: Clash) -> Option<Clash> {
     }
 }
 
-/// Moves the last clash to the front of those that come behind it.
-pub(crate) fn sink(clashes: &mut [Clash]) {
-    for at in (1..clashes.len()).rev() {
-        let before = at.saturating_sub(1);
-        let (Some(one), Some(other)) = (clashes.get(before), clashes.get(at)) else {
-            return;
-        };
-        if !other.is_before(one) {
-            return;
+/// The place of the clash that comes last of some; 0 where there are none.
+pub(crate) fn last_of(clashes: &[Clash]) -> usize {
+    let mut found = 0;
+    for (place, clash) in clashes.iter().enumerate() {
+        if clashes.get(found).is_some_and(|last| last.is_before(clash)) {
+            found = place;
         }
-        clashes.swap(before, at);
     }
+    found
 }
 
 /// What the orders of two that meet weigh at most by their own trains.

@@ -1,5 +1,5 @@
 use crate::asking::Asking;
-use crate::clash::{Clash, dead_weight, first_of, own_weight, sink, weight};
+use crate::clash::{Clash, Tolls, dead_weight, first_of, last_of, own_weight, weight};
 use crate::meetings::{Meeting, Meetings, Met};
 use crate::pusher::Pusher;
 use crate::seeker::Seeker;
@@ -10,9 +10,6 @@ use std::alloc::Global;
 
 /// For how many clashes at most it is asked at a node whether an order of theirs closes a cycle.
 const MOST_ASKED: u32 = 64;
-
-/// Of how many clashes at most it is asked at a node what their orders push.
-const MOST_PUSHED: usize = 8;
 
 /// By what one clash comes before another.
 #[derive(Clone, Copy, PartialEq, Eq)]
@@ -27,24 +24,16 @@ fn is_asked(view: View, seeker: &mut Seeker, one: u32, other: u32) -> bool {
     view.leads(seeker, behind, other)
 }
 
-/// The operation that goes first in the cheaper order of two that meet, by what it costs to have
-/// the one go first, and the other.
-fn cheaper_of(meeting: &Meeting, there: u64, back: u64) -> u32 {
-    if there == back {
-        meeting.first()
-    } else if there < back {
-        meeting.one
-    } else {
-        meeting.other
-    }
-}
-
 /// Looks for the clash that comes first: room for one look after another.
 #[derive(Drop)]
 pub(crate) struct Clashes {
-    /// Those that come first of what was looked at, in their order.
+    /// Those that come first of what was looked at.
     first: Vec<Clash>,
+    /// The place of the last of these, where no more are kept.
+    last: usize,
     pusher: Pusher,
+    /// Of how many clashes at most it is asked at a node what their orders push.
+    most_pushed: usize,
     by: By,
     /// Whether those count that only touch.
     touching: bool,
@@ -55,11 +44,13 @@ pub(crate) struct Clashes {
 }
 
 impl Clashes {
-    /// A look over so many operations.
-    pub(crate) fn new(alloc: Global, count: usize) -> Result<Clashes, Memory> {
+    /// A look over so many operations, at what the orders of so many clashes push at most.
+    pub(crate) fn new(alloc: Global, count: usize, most_pushed: usize) -> Result<Clashes, Memory> {
         Ok(Clashes {
             first: Vec::new(alloc),
+            last: 0,
             pusher: Pusher::new(alloc, count)?,
+            most_pushed,
             by: By::Toll,
             touching: false,
             closes: false,
@@ -81,22 +72,25 @@ impl Clashes {
     /// How many of those that come first are kept.
     fn most_kept(&self) -> usize {
         match self.by {
-            By::Toll => MOST_PUSHED,
+            By::Toll => self.most_pushed,
             By::Time => 1,
         }
     }
 
     /// Keeps a clash, if it is among those that come first.
     fn keep(&mut self, clash: Clash) -> Result<(), Memory> {
-        if self.first.len() >= self.most_kept() {
-            match self.first.last() {
-                Some(last) if clash.is_before(last) => {}
+        let most = self.most_kept();
+        if self.first.len() < most {
+            self.first.push(clash)?;
+        } else {
+            match self.first.get_mut(self.last) {
+                Some(last) if clash.is_before(last) => *last = clash,
                 _ => return Ok(()),
             }
-            self.first.pop();
         }
-        self.first.push(clash)?;
-        sink(&mut self.first);
+        if self.first.len() >= most {
+            self.last = last_of(&self.first);
+        }
         Ok(())
     }
 
@@ -105,8 +99,8 @@ impl Clashes {
         if self.by == By::Time {
             return Some(dead_weight(view, met));
         }
-        let known = match self.first.last() {
-            Some(last) if self.first.len() >= MOST_PUSHED => last.weight,
+        let known = match self.first.get(self.last) {
+            Some(last) if self.first.len() >= self.most_pushed => last.weight,
             _ => 0,
         };
         own_weight(view, met, known)
@@ -128,7 +122,7 @@ impl Clashes {
         self.keep(Clash {
             weight: NEVER,
             meeting,
-            cheaper: None,
+            tolls: None,
         })
     }
 
@@ -141,7 +135,7 @@ impl Clashes {
             Some(weight) => self.keep(Clash {
                 weight,
                 meeting: met.meeting,
-                cheaper: None,
+                tolls: None,
             }),
             None => Ok(()),
         }
@@ -179,7 +173,7 @@ impl Clashes {
         Clash {
             weight: weight(there, back),
             meeting,
-            cheaper: Some(cheaper_of(&meeting, there, back)),
+            tolls: Some(Tolls::of(&meeting, there, back)),
         }
     }
 

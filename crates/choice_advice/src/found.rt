@@ -1,7 +1,7 @@
 ghost use Rattle.std.specs.Prelude.{◌≡◌};
 
 use crate::adviser::Advice;
-use crate::clash::Clash;
+use crate::clash::{Clash, Tolls};
 use crate::clashes::{By, Clashes};
 use crate::facts::Facts;
 use crate::forks::{Fork, Forks};
@@ -24,27 +24,29 @@ pub(crate) struct Found {
     crossings: Crossings,
     ways: Ways,
     seeker: Seeker,
-    /// Of the clash that came first, the operation that goes first in the cheaper order, where that
-    /// is known.
-    pub cheaper: Option<u32>,
+    /// What the orders of the clash that came first cost with all that they push, where that is
+    /// known.
+    pub tolls: Option<Tolls>,
 }
 
 impl Found {
-    /// Nothing found yet of so many operations of so many trains and so many resources.
+    /// Nothing found yet of so many operations of so many trains and so many resources, to look at
+    /// what the orders of so many clashes push at most.
     pub(crate) fn new(
         alloc: Global,
         count: usize,
         trains: usize,
         resources: usize,
+        most_pushed: usize,
     ) -> Result<Found, Memory> {
         Ok(Found {
             meetings: Meetings::new(alloc, resources)?,
-            clashes: Clashes::new(alloc, count)?,
+            clashes: Clashes::new(alloc, count, most_pushed)?,
             forks: Forks::new(alloc, count, trains)?,
             crossings: Crossings::new(alloc, count, trains)?,
             ways: Ways::new(alloc, count)?,
             seeker: Seeker::new(alloc, count)?,
-            cheaper: None,
+            tolls: None,
         })
     }
 
@@ -84,7 +86,7 @@ impl Found {
     fn first_clash(&mut self, view: View, by: By, touching: bool) -> Result<Option<Clash>, Memory> {
         let (seeker, meetings) = (&mut self.seeker, &mut self.meetings);
         let clash = self.clashes.find(view, seeker, meetings, by, touching)?;
-        self.cheaper = clash.and_then(|clash| clash.cheaper);
+        self.tolls = clash.and_then(|clash| clash.tolls);
         Ok(clash)
     }
 

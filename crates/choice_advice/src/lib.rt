@@ -26,4 +26,4 @@ mod tolls;
 mod view;
 mod ways;
 
-pub use adviser::{Advice, Adviser, Strategy};
+pub use adviser::{Advice, Adviser, Orders, Strategy};

@@ -79,8 +79,9 @@ impl Pusher {
         }
     }
 
-    /// How much more all trains cost where an operation starts only at a time; never where one of
-    /// them may not start so late, or where that pushes an operation that is to come before.
+    /// How much more all trains cost where an operation starts only at a time; never where that
+    /// leaves no plan that is wanted, where one of them may not start so late, or where that pushes
+    /// an operation that is to come before.
     pub(crate) fn toll(&mut self, view: View, number: u32, time: u64, before: u32) -> u64 {
         let paths = view.graph.paths();
         self.look = self.look.saturating_add(1);
@@ -100,6 +101,9 @@ impl Pusher {
                 return NEVER;
             };
             toll = toll.saturating_add(rise);
+            if toll >= view.room {
+                return NEVER;
+            }
             self.push_on(view.links, paths, number, time);
         }
         toll

@@ -15,6 +15,8 @@ pub(crate) struct View<'a> {
     pub spots: &'a Spots,
     pub holders: &'a Holders,
     pub links: &'a Links,
+    /// An order that costs so much more, or more, leaves no plan that is wanted.
+    pub room: u64,
 }
 
 impl<'a> View<'a> {

@@ -21,8 +21,8 @@ fn picked(
     let None = graph.late() else {
         return Err(Fail::from("late"));
     };
-    let mut adviser = Adviser::new(alloc, problem)?;
-    match pick_free(alloc, problem, graph, &mut adviser, strategy)? {
+    let mut adviser = Adviser::new(alloc, problem, 64)?;
+    match pick_free(alloc, problem, graph, &mut adviser, strategy, u64::MAX)? {
         Pick::Choice(choice) => Ok(Some(choice)),
         Pick::Plan(_) => Ok(None),
     }

@@ -110,12 +110,13 @@ fn thought_out(
     graph: &Graph,
     adviser: &mut Adviser,
     strategy: Strategy,
+    room: u64,
 ) -> Result<Option<Choice>, Memory>
     requires { graph.now.problem ≡ problem.now }
     ensures { IfOk result
         (λ found. IfSome found (λ choice. IsPicked graph.now Free (Some choice))) }
 {
-    let Some(advice) = adviser.advise(problem, graph, strategy)? else {
+    let Some(advice) = adviser.advise(problem, graph, strategy, room)? else {
         return Ok(None);
     };
     Ok(tested(problem, graph, advice))
@@ -127,6 +128,7 @@ fn advised(
     graph: &Graph,
     adviser: &mut Adviser,
     strategy: Strategy,
+    room: u64,
 ) -> Result<Option<Choice>, Memory>
     requires { graph.now.problem ≡ problem.now }
     ensures { IfOk result
@@ -137,7 +139,7 @@ fn advised(
             return Ok(Some(choice));
         }
     }
-    thought_out(problem, graph, adviser, strategy)
+    thought_out(problem, graph, adviser, strategy, room)
 }
 
 /// What the fixed rule finds: that serves the free rule too.
@@ -151,7 +153,8 @@ fn fallen_back(alloc: Global, problem: &Problem, graph: &Graph) -> Result<Pick, 
 
 /// What the free rule finds at the node of a graph, which is not dead: an open choice, or the plan
 /// of earliest starts where that is valid. Which open choice it is follows the strategy of an
-/// adviser for this problem, as far as that knows one.
+/// adviser for this problem, as far as that knows one, to which an order counts as one that leaves
+/// no plan where it raises the cost by `room` or more.
 ///
 /// # Errors
 ///
@@ -162,12 +165,13 @@ pub fn pick_free(
     graph: &Graph,
     adviser: &mut Adviser,
     strategy: Strategy,
+    room: u64,
 ) -> Result<Pick, Memory>
     requires problem { graph.now.problem ≡ problem.now }
     requires alive { IsDead graph.now → ⊥ }
     ensures { IfOk result (IsPickBy Free graph.now) }
 {
-    match advised(problem, graph, adviser, strategy)? {
+    match advised(problem, graph, adviser, strategy, room)? {
         Some(choice) => Ok(Pick::Choice(choice)),
         None => fallen_back(alloc, problem, graph),
     }

@@ -15,13 +15,13 @@ use train_insertion::{Draw, Target};
 use tree_dives::rewind;
 
 /// How many trains are taken out of a plan at first: these or one more, by a draw,
-const FEWEST_OUT: usize = 2;
+const FEWEST_OUT: usize = 1;
 
 /// and how many at most.
 const MOST_OUT: usize = 5;
 
 /// One more is taken out after so many rounds in which nothing was found.
-const ROUNDS_FOR_MORE: usize = 48;
+const ROUNDS_FOR_MORE: usize = 24;
 
 /// After so many of these it ends.
 const ROUNDS_IN_VAIN: usize = 192;

@@ -6,9 +6,9 @@ ghost use Rattle.near_plans.specs.Plans.{IsBeside, IsFoundBeside};
 
 use branch_rules::{Pick, children};
 use cost_bound::cost;
-use disp_model::{Choice, Decision, Memory, Op, Plan, Problem};
+use disp_model::{Choice, Decision, Memory, Plan, Problem};
 use event_graph::{ExtendNo, Graph};
-use free_choices::{Adviser, Strategy, pick_free};
+use free_choices::{Adviser, Orders, Strategy, pick_free};
 use std::alloc::Global;
 use train_insertion::Target;
 use tree_dives::{preferred, rewind};
@@ -102,53 +102,67 @@ fn picked(
     let None = graph.late() else {
         return Ok(None);
     };
-    if cost(aim.problem, graph) >= below {
+    let cost = cost(aim.problem, graph);
+    if cost >= below {
         return Ok(None);
     }
-    let pick = pick_free(alloc, aim.problem, graph, adviser, aim.strategy)?;
+    let room = below - cost;
+    let pick = pick_free(alloc, aim.problem, graph, adviser, aim.strategy, room)?;
     Ok(Some(pick))
+}
+
+/// Has a decision wait, unless an adviser has seen that it leaves no plan that is wanted.
+fn put(
+    waiting: &mut Vec<Waiting>,
+    orders: Option<Orders>,
+    depth: usize,
+    decision: Decision,
+) -> Result<(), Memory> {
+    if let Some(orders) = orders {
+        if orders.is_open(decision) == Some(false) {
+            return Ok(());
+        }
+    }
+    waiting.push(Waiting { depth, decision })?;
+    Ok(())
 }
 
 /// Has all but one of some decisions wait, and then that one.
 fn put_all(
     waiting: &mut Vec<Waiting>,
+    orders: Option<Orders>,
     depth: usize,
     decisions: &[Decision],
     last: usize,
 ) -> Result<(), Memory> {
     for (place, decision) in decisions.iter().enumerate() {
         if place != last {
-            waiting.push(Waiting {
-                depth,
-                decision: *decision,
-            })?;
+            put(waiting, orders, depth, *decision)?;
         }
     }
-    if let Some(decision) = decisions.get(last) {
-        waiting.push(Waiting {
-            depth,
-            decision: *decision,
-        })?;
+    match decisions.get(last) {
+        Some(decision) => put(waiting, orders, depth, *decision),
+        None => Ok(()),
     }
-    Ok(())
 }
 
-/// Has the children of a choice wait, with the one that is preferred in front. The graph is as
-/// before.
+/// Has the children of a choice wait that are not seen to be closed, with the one that is preferred
+/// in front. The graph is as before.
 fn put_children(
     alloc: Global,
     aim: Aim,
     graph: &mut Graph,
     choice: Choice,
-    cheaper: Option<Op>,
+    orders: Option<Orders>,
     waiting: &mut Vec<Waiting>,
 ) -> Result<(), Memory>
     requires { graph.old.problem ≡ aim.problem.now }
     ensures { graph.new ≡ graph.old }
 {
     let children = children(alloc, aim.problem, choice)?;
-    let first = preferred(aim.problem, graph, aim.target, cheaper, children.as_slice());
-    put_all(waiting, graph.decisions().len(), children.as_slice(), first)
+    let first = preferred(aim.problem, graph, aim.target, orders, children.as_slice());
+    let depth = graph.decisions().len();
+    put_all(waiting, orders, depth, children.as_slice(), first)
 }
 
 impl Outlook {
@@ -188,8 +202,8 @@ impl Outlook {
                 Ok(())
             }
             Some(Pick::Choice(choice)) => {
-                let cheaper = adviser.cheaper_first();
-                put_children(alloc, aim, graph, choice, cheaper, &mut self.waiting)
+                let orders = adviser.orders();
+                put_children(alloc, aim, graph, choice, orders, &mut self.waiting)
             }
         }
     }

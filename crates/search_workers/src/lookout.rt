@@ -3,9 +3,9 @@ use disp_model::Problem;
 
 /// At how many nodes one searcher of a problem looks at a time, at most.
 const NODES: Amount = Amount {
-    for_train: 600,
+    for_train: 900,
     fewest: 4096,
-    most: 40_000,
+    most: 60_000,
 };
 
 /// The same where changes may come.

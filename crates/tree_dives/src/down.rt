@@ -70,12 +70,12 @@ pub(crate) fn go_down(
 {
     let children = children(alloc, problem, choice)?;
     push_branch(&mut halves.before, choice, children.len() as u32)?;
-    let cheaper = guide.adviser.cheaper_first();
+    let orders = guide.adviser.orders();
     let place = followed(
         problem,
         graph,
         &guide.target,
-        cheaper,
+        orders,
         children.as_slice(),
         way,
     );

@@ -17,6 +17,9 @@ const TIME_DIVES: u32 = 64;
 /// After so many by time where that comes first.
 const TIME_DIVES_FIRST: u32 = 4096;
 
+/// So many clashes at most are weighed at a node by all that their orders push.
+const MOST_PUSHED: usize = 64;
+
 /// Advice for dives, on which nothing rests: which child is followed, and under the free rule which
 /// choice is taken. With it, what the fixed rule keeps from pick to pick of when operations ran.
 #[derive(Drop)]
@@ -36,7 +39,7 @@ impl Guide {
     {
         Ok(Guide {
             target,
-            adviser: Adviser::new(alloc, problem)?,
+            adviser: Adviser::new(alloc, problem, MOST_PUSHED)?,
             strategy: Strategy::Toll,
             spans: KnownSpans::new(alloc, problem)?,
             left: TOLL_DIVES,

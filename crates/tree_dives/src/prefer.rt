@@ -1,8 +1,9 @@
 ghost use Rattle.std.specs.Prelude.{◌≡◌, ◌<◌, ◌≤◌, length, IfSome};
 
 use cost_bound::cost;
-use disp_model::{Decision, Op, Problem};
+use disp_model::{Decision, Problem};
 use event_graph::Graph;
+use free_choices::Orders;
 use train_insertion::Target;
 
 /// A dive of no more branches than this is to raise the bound.
@@ -60,14 +61,6 @@ fn is_aimed_at(target: &Target, decision: Decision) -> bool {
     }
 }
 
-/// Whether an operation goes first in an order.
-fn puts_first(decision: Decision, op: Op) -> bool {
-    match decision {
-        Decision::First { a, .. } => a == op,
-        _ => false,
-    }
-}
-
 /// The place of the first child that a target takes.
 fn aimed(target: &Target, children: &[Decision]) -> Option<usize>
     ensures { IfSome result (λ place. place < length children.now) }
@@ -80,13 +73,13 @@ fn aimed(target: &Target, children: &[Decision]) -> Option<usize>
     None
 }
 
-/// The place of the child in which an operation goes first.
-fn first_with(op: Option<Op>, children: &[Decision]) -> Option<usize>
+/// The place of the child that takes the cheaper one of two orders.
+fn cheaper(orders: Option<Orders>, children: &[Decision]) -> Option<usize>
     ensures { IfSome result (λ place. place < length children.now) }
 {
-    let op = op?;
+    let orders = orders?;
     for (place, decision) in children.iter().enumerate() {
-        if puts_first(*decision, op) {
+        if orders.is_cheaper(*decision) {
             return Some(place);
         }
     }
@@ -119,14 +112,15 @@ fn cheapest(problem: &Problem, graph: &mut Graph, children: &[Decision]) -> usiz
     found
 }
 
-/// The place of the child that a target takes. Where it takes none, that in which the operation
-/// goes first that an adviser named; where it does in none, that of the child that costs least
-/// among those that are not dead, the first one of several, or 0. The graph is as before.
+/// The place of the child that a target takes. Where it takes none, that of the child that takes
+/// the cheaper one of the orders that an adviser named; where none does, that of the child that
+/// costs least among those that are not dead, the first one of several, or 0. The graph is as
+/// before.
 pub fn preferred(
     problem: &Problem,
     graph: &mut Graph,
     target: &Target,
-    cheaper: Option<Op>,
+    orders: Option<Orders>,
     children: &[Decision],
 ) -> usize
     requires { graph.old.problem ≡ problem.now }
@@ -137,18 +131,33 @@ pub fn preferred(
     if let Some(place) = aimed(target, children) {
         return place;
     }
-    if let Some(place) = first_with(cheaper, children) {
+    if let Some(place) = cheaper(orders, children) {
         return place;
     }
     cheapest(problem, graph, children)
 }
 
-/// Whether the child to which a decision leads is seen to be open: it is not dead, and its forced
-/// components cost less than the best. The graph is as before.
-fn is_open(problem: &Problem, graph: &mut Graph, decision: Decision, best: Option<u64>) -> bool
+/// Whether an adviser has seen that a decision leaves a plan that is wanted, or that it leaves none,
+/// where it takes one of the orders that it named.
+fn seen_open(orders: Option<Orders>, decision: Decision) -> Option<bool> {
+    orders?.is_open(decision)
+}
+
+/// Whether the child to which a decision leads is seen to be open, by an adviser or by a look: it
+/// is not dead, and its forced components cost less than the best. The graph is as before.
+fn is_open(
+    problem: &Problem,
+    graph: &mut Graph,
+    orders: Option<Orders>,
+    decision: Decision,
+    best: Option<u64>,
+) -> bool
     requires { graph.old.problem ≡ problem.now }
     ensures { graph.new ≡ graph.old }
 {
+    if let Some(open) = seen_open(orders, decision) {
+        return open;
+    }
     match child_cost(problem, graph, decision) {
         Some(cost) => best.is_none_or(|best| cost < best),
         None => false,
@@ -160,6 +169,7 @@ fn is_open(problem: &Problem, graph: &mut Graph, decision: Decision, best: Optio
 fn open_one(
     problem: &Problem,
     graph: &mut Graph,
+    orders: Option<Orders>,
     children: &[Decision],
     place: usize,
     best: Option<u64>,
@@ -173,11 +183,11 @@ fn open_one(
     let Some(decision) = children.get(place) else {
         return place;
     };
-    if is_open(problem, graph, *decision, best) {
+    if is_open(problem, graph, orders, *decision, best) {
         return place;
     }
     for (other, decision) in children.iter().enumerate() {
-        if other != place && is_open(problem, graph, *decision, best) {
+        if other != place && is_open(problem, graph, orders, *decision, best) {
             return other;
         }
     }
@@ -189,7 +199,7 @@ pub(crate) fn followed(
     problem: &Problem,
     graph: &mut Graph,
     target: &Target,
-    cheaper: Option<Op>,
+    orders: Option<Orders>,
     children: &[Decision],
     way: Way,
 ) -> usize
@@ -198,9 +208,9 @@ pub(crate) fn followed(
     ensures within { result ≤ length children.now }
     ensures there { 0 < length children.now → result < length children.now }
 {
-    let place = preferred(problem, graph, target, cheaper, children);
+    let place = preferred(problem, graph, target, orders, children);
     match way {
         Way::Preferred => place,
-        Way::Open(best) => open_one(problem, graph, children, place, best),
+        Way::Open(best) => open_one(problem, graph, orders, children, place, best),
     }
 }

@@ -44,6 +44,15 @@ fn is_below(bound: u64, best: Option<u64>) -> bool
     }
 }
 
+/// How much more a plan may cost than a bound that is below the best cost, and a little more: one
+/// that costs so much is not better.
+fn room_above(bound: u64, best: Option<u64>) -> u64 {
+    match best {
+        Some(cost) => cost.saturating_sub(bound),
+        None => u64::MAX,
+    }
+}
+
 /// What a rule finds at the node of a graph, which is not dead. The graph is as before.
 fn pick(
     alloc: Global,
@@ -52,6 +61,7 @@ fn pick(
     graph: &mut Graph,
     guide: &mut Guide,
     strategy: Strategy,
+    room: u64,
 ) -> Result<Pick, Memory>
     requires node { graph.old.problem ≡ problem.now }
     requires alive { IsDead graph.old → ⊥ }
@@ -62,7 +72,7 @@ fn pick(
 {
     match rule {
         Rule::Fixed => pick_fixed_by(alloc, problem, graph, &mut guide.spans),
-        Rule::Free => pick_free(alloc, problem, graph, &mut guide.adviser, strategy),
+        Rule::Free => pick_free(alloc, problem, graph, &mut guide.adviser, strategy, room),
     }
 }
 
@@ -90,10 +100,12 @@ pub(crate) fn stage_of(
     let None = graph.late() else {
         return Ok(Stage::End(End::Closed));
     };
-    if !is_below(reckoning.cost(alloc, problem, graph, known)?, best) {
+    let bound = reckoning.cost(alloc, problem, graph, known)?;
+    if !is_below(bound, best) {
         return Ok(Stage::End(End::Closed));
     }
-    match pick(alloc, problem, reckoning.rule, graph, guide, strategy)? {
+    let room = room_above(bound, best);
+    match pick(alloc, problem, reckoning.rule, graph, guide, strategy, room)? {
         Pick::Choice(choice) => Ok(Stage::Branch(choice)),
         Pick::Plan(plan) => Ok(Stage::End(End::Plan(plan))),
     }
