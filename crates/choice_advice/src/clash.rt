@@ -88,11 +88,13 @@ pub(crate) fn first_of(known: Option<Clash>, clash: Clash) -> Option<Clash> {
     }
 }
 
-/// The place of the clash that comes last of some; 0 where there are none.
-pub(crate) fn last_of(clashes: &[Clash]) -> usize {
+/// The place of a clash that weighs least of some; 0 where there are none.
+pub(crate) fn lightest(clashes: &[Clash]) -> usize {
     let mut found = 0;
+    let mut least = u64::MAX;
     for (place, clash) in clashes.iter().enumerate() {
-        if clashes.get(found).is_some_and(|last| last.is_before(clash)) {
+        if clash.weight < least {
+            least = clash.weight;
             found = place;
         }
     }

@@ -1,5 +1,5 @@
 use crate::asking::Asking;
-use crate::clash::{Clash, Tolls, dead_weight, first_of, last_of, own_weight, weight};
+use crate::clash::{Clash, Tolls, dead_weight, first_of, lightest, own_weight, weight};
 use crate::meetings::{Meeting, Meetings, Met};
 use crate::pusher::Pusher;
 use crate::seeker::Seeker;
@@ -29,7 +29,7 @@ fn is_asked(view: View, seeker: &mut Seeker, one: u32, other: u32) -> bool {
 pub(crate) struct Clashes {
     /// Those that come first of what was looked at.
     first: Vec<Clash>,
-    /// The place of the last of these, where no more are kept.
+    /// The place of one that weighs least of these, where no more are kept.
     last: usize,
     pusher: Pusher,
     /// Of how many clashes at most it is asked at a node what their orders push.
@@ -89,7 +89,7 @@ impl Clashes {
             }
         }
         if self.first.len() >= most {
-            self.last = last_of(&self.first);
+            self.last = lightest(&self.first);
         }
         Ok(())
     }

@@ -16,6 +16,8 @@ struct Fact {
 pub(crate) struct Facts {
     each: Vec<Fact>,
     firsts: Vec<u32>,
+    /// Whether it matters when each operation starts: it costs something, or has an upper.
+    matters: Vec<bool>,
 }
 
 /// How much more operations may cost that start later.
@@ -85,6 +87,7 @@ impl Facts {
         let mut facts = Facts {
             each: Vec::new(alloc),
             firsts: Vec::new(alloc),
+            matters: Vec::new(alloc),
         };
         let mut train = 0u32;
         let mut number = 0u32;
@@ -102,6 +105,10 @@ impl Facts {
         }
         for component in problem.components.as_slice() {
             facts.keep(*component)?;
+        }
+        for fact in &facts.each {
+            let matters = fact.upper.is_some() || fact.components.len() > 0;
+            facts.matters.push(matters)?;
         }
         Ok(facts)
     }
@@ -136,8 +143,8 @@ impl Facts {
 
     /// Whether it matters when an operation starts: it costs something, or has an upper.
     pub(crate) fn matters(&self, number: u32) -> bool {
-        match self.each.get(number as usize) {
-            Some(fact) => fact.upper.is_some() || fact.components.len() > 0,
+        match self.matters.get(number as usize) {
+            Some(matters) => *matters,
             None => false,
         }
     }

@@ -22,6 +22,15 @@ pub(crate) struct Pusher {
     waiting: Queue,
 }
 
+/// What an operation that is pushed to a time costs more; never where it may not start so late.
+fn rise_of(view: View, number: u32, time: u64) -> u64 {
+    if !view.facts.matters(number) {
+        return 0;
+    }
+    let start = length_of(view.graph.paths(), number);
+    view.facts.rise(number, start, time).unwrap_or(NEVER)
+}
+
 impl Pusher {
     /// A look over so many operations.
     pub(crate) fn new(alloc: Global, count: usize) -> Result<Pusher, Memory> {
@@ -96,11 +105,7 @@ impl Pusher {
                 return NEVER;
             }
             let time = self.time(number);
-            let start = length_of(paths, number);
-            let Some(rise) = view.facts.rise(number, start, time) else {
-                return NEVER;
-            };
-            toll = toll.saturating_add(rise);
+            toll = toll.saturating_add(rise_of(view, number, time));
             if toll >= view.room {
                 return NEVER;
             }
