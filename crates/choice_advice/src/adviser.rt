@@ -1,6 +1,7 @@
 ghost use Rattle.std.specs.Prelude.{◌≡◌};
 
 use crate::changes::Changes;
+use crate::clashes::Care;
 use crate::course::Course;
 use crate::facts::Facts;
 use crate::found::{Found, by_any, by_time, by_toll};
@@ -99,13 +100,12 @@ pub struct Adviser {
 }
 
 impl Adviser {
-    /// An adviser on the choices of a problem. By tolls it weighs so many clashes at a node by all
-    /// that their orders push, at most: the more, the smaller is the tree and the longer each look.
+    /// An adviser on the choices of a problem, which weighs clashes with so much care.
     ///
     /// # Errors
     ///
     /// `Memory` where memory runs out.
-    pub fn new(alloc: Global, problem: &Problem, most_pushed: usize) -> Result<Adviser, Memory> {
+    pub fn new(alloc: Global, problem: &Problem, care: Care) -> Result<Adviser, Memory> {
         let facts = Facts::of(alloc, problem)?;
         let count = facts.count();
         let trains = problem.trains.len();
@@ -121,7 +121,7 @@ impl Adviser {
             spots: Spots::new(alloc, count, trains)?,
             holders: Holders::of(alloc, problem)?,
             layered,
-            found: Found::new(alloc, count, trains, problem.names.len(), most_pushed)?,
+            found: Found::new(alloc, count, trains, problem.names.len(), care)?,
         })
     }
 
@@ -138,6 +138,7 @@ impl Adviser {
 
     /// Follows a graph to its node: notes the trains that are to be looked at again.
     fn follow(&mut self, graph: &Graph) -> Result<(), Memory> {
+        self.changes.begin_turn();
         let decisions = graph.decisions();
         let arcs = graph.paths().arcs();
         let shared = self.course.shared_with(decisions);
@@ -148,9 +149,9 @@ impl Adviser {
             None => &[],
         };
         self.changes.note_decided(more)?;
-        self.changes.unlink(&mut self.links, left)?;
+        self.changes.unlink(&self.facts, &mut self.links, left)?;
         self.links.begin_turn();
-        self.changes.link(&mut self.links, arcs)?;
+        self.changes.link(&self.facts, &mut self.links, arcs)?;
         self.course.go_down(more, arcs.len())?;
         self.changes.spread(&self.facts, &self.links, graph.paths())
     }
@@ -260,6 +261,7 @@ impl Adviser {
             spots: &self.spots,
             holders: &self.holders,
             links: &self.links,
+            ages: self.changes.ages(),
             room,
         };
         match strategy {

@@ -1,3 +1,4 @@
+use crate::ages::Ages;
 use crate::facts::Facts;
 use crate::links::Links;
 use crate::spots::{NEVER, length_of};
@@ -18,6 +19,7 @@ pub(crate) struct Changes {
     trains: Vec<u32>,
     /// Whether the routes of each train may be others than when it was looked at last.
     decided: Vec<bool>,
+    ages: Ages,
 }
 
 /// The train whose routes a decision is about.
@@ -43,6 +45,7 @@ impl Changes {
             stale: Vec::with_capacity(alloc, trains)?,
             trains: Vec::with_capacity(alloc, trains)?,
             decided: Vec::with_capacity(alloc, trains)?,
+            ages: Ages::new(alloc)?,
         };
         for train in 0..trains {
             changes.stale.push(true)?;
@@ -54,8 +57,19 @@ impl Changes {
         Ok(changes)
     }
 
+    /// Begins a turn.
+    pub(crate) fn begin_turn(&mut self) {
+        self.ages.begin_turn();
+    }
+
+    /// When trains were last found otherwise.
+    pub(crate) fn ages(&self) -> &Ages {
+        &self.ages
+    }
+
     /// Notes that a train is to be looked at.
     fn note(&mut self, train: u32) -> Result<(), Memory> {
+        self.ages.note(train);
         let Some(stale) = self.stale.get_mut(train as usize) else {
             return Ok(());
         };
@@ -88,20 +102,32 @@ impl Changes {
     }
 
     /// Takes arcs away until so many are left, and notes where they led to.
-    pub(crate) fn unlink(&mut self, links: &mut Links, left: usize) -> Result<(), Memory> {
+    pub(crate) fn unlink(
+        &mut self,
+        facts: &Facts,
+        links: &mut Links,
+        left: usize,
+    ) -> Result<(), Memory> {
         for _ in left..links.len() {
-            if let Some(to) = links.pop() {
-                self.waiting.push(to)?;
+            if let Some(ends) = links.pop() {
+                self.ages.note(facts.op(ends.from).train);
+                self.waiting.push(ends.to)?;
             }
         }
         Ok(())
     }
 
     /// Keeps the arcs behind those that are kept, and notes where they lead to.
-    pub(crate) fn link(&mut self, links: &mut Links, arcs: &[Arc]) -> Result<(), Memory> {
+    pub(crate) fn link(
+        &mut self,
+        facts: &Facts,
+        links: &mut Links,
+        arcs: &[Arc],
+    ) -> Result<(), Memory> {
         for place in links.len()..arcs.len() {
             if let Some(arc) = arcs.get(place) {
                 links.push(*arc)?;
+                self.ages.note(facts.op(arc.from).train);
                 self.waiting.push(arc.to)?;
             }
         }

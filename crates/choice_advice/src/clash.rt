@@ -88,19 +88,6 @@ pub(crate) fn first_of(known: Option<Clash>, clash: Clash) -> Option<Clash> {
     }
 }
 
-/// The place of a clash that weighs least of some; 0 where there are none.
-pub(crate) fn lightest(clashes: &[Clash]) -> usize {
-    let mut found = 0;
-    let mut least = u64::MAX;
-    for (place, clash) in clashes.iter().enumerate() {
-        if clash.weight < least {
-            least = clash.weight;
-            found = place;
-        }
-    }
-    found
-}
-
 /// What the orders of two that meet weigh at most by their own trains.
 fn most_weight(view: View, meeting: &Meeting) -> Weighed {
     let one = most_toll(view.spots, meeting.one, meeting.other_until);

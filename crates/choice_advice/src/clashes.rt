@@ -1,5 +1,5 @@
 use crate::asking::Asking;
-use crate::clash::{Clash, Tolls, dead_weight, first_of, lightest, own_weight, weight};
+use crate::clash::{Clash, Tolls, dead_weight, first_of, own_weight, weight};
 use crate::meetings::{Meeting, Meetings, Met};
 use crate::pusher::Pusher;
 use crate::seeker::Seeker;
@@ -11,11 +11,46 @@ use std::alloc::Global;
 /// For how many clashes at most it is asked at a node whether an order of theirs closes a cycle.
 const MOST_ASKED: u32 = 64;
 
+/// Of how many clashes at most a quick look asks what their orders push.
+const FEW: usize = 8;
+
 /// By what one clash comes before another.
 #[derive(Clone, Copy, PartialEq, Eq)]
 pub(crate) enum By {
     Toll,
     Time,
+}
+
+/// Of how many clashes it is asked at a node what their orders push. The more, the smaller is the
+/// tree of a search, and the longer is a look.
+#[derive(Clone, Copy, Debug, PartialEq, Eq)]
+pub enum Care {
+    /// Of all.
+    Thorough,
+    /// Of a few that come first by their own trains.
+    Quick,
+}
+
+/// Two that meet, by the resource and their place among those that meet there, and how much their
+/// orders weigh by their own trains.
+#[derive(Clone, Copy)]
+struct Candidate {
+    resource: u32,
+    place: usize,
+    weight: u64,
+}
+
+/// The place of a candidate that weighs least of some; 0 where there are none.
+fn lightest(candidates: &[Candidate]) -> usize {
+    let mut found = 0;
+    let mut least = u64::MAX;
+    for (place, candidate) in candidates.iter().enumerate() {
+        if candidate.weight < least {
+            least = candidate.weight;
+            found = place;
+        }
+    }
+    found
 }
 
 /// Whether arcs ask for the order of one operation before another.
@@ -27,13 +62,14 @@ fn is_asked(view: View, seeker: &mut Seeker, one: u32, other: u32) -> bool {
 /// Looks for the clash that comes first: room for one look after another.
 #[derive(Drop)]
 pub(crate) struct Clashes {
-    /// Those that come first of what was looked at.
-    first: Vec<Clash>,
-    /// The place of one that weighs least of these, where no more are kept.
-    last: usize,
+    care: Care,
+    /// The one that comes first of those of which all is known.
+    first: Option<Clash>,
+    /// The others that weigh most by their own trains, where few are kept, and the place of one of
+    /// these that weighs least.
+    few: Vec<Candidate>,
+    lightest: usize,
     pusher: Pusher,
-    /// Of how many clashes at most it is asked at a node what their orders push.
-    most_pushed: usize,
     by: By,
     /// Whether those count that only touch.
     touching: bool,
@@ -44,13 +80,14 @@ pub(crate) struct Clashes {
 }
 
 impl Clashes {
-    /// A look over so many operations, at what the orders of so many clashes push at most.
-    pub(crate) fn new(alloc: Global, count: usize, most_pushed: usize) -> Result<Clashes, Memory> {
+    /// A look over so many operations.
+    pub(crate) fn new(alloc: Global, count: usize, care: Care) -> Result<Clashes, Memory> {
         Ok(Clashes {
-            first: Vec::new(alloc),
-            last: 0,
+            care,
+            first: None,
+            few: Vec::with_capacity(alloc, FEW)?,
+            lightest: 0,
             pusher: Pusher::new(alloc, count)?,
-            most_pushed,
             by: By::Toll,
             touching: false,
             closes: false,
@@ -61,7 +98,8 @@ impl Clashes {
 
     /// Begins a look.
     fn begin(&mut self, view: View, by: By, touching: bool) -> Result<(), Memory> {
-        self.first.clear();
+        self.first = None;
+        self.few.clear();
         self.by = by;
         self.touching = touching;
         self.closes = false;
@@ -69,41 +107,61 @@ impl Clashes {
         self.asking.begin(view)
     }
 
-    /// How many of those that come first are kept.
-    fn most_kept(&self) -> usize {
-        match self.by {
-            By::Toll => self.most_pushed,
-            By::Time => 1,
-        }
-    }
-
-    /// Keeps a clash, if it is among those that come first.
-    fn keep(&mut self, clash: Clash) -> Result<(), Memory> {
-        let most = self.most_kept();
-        if self.first.len() < most {
-            self.first.push(clash)?;
-        } else {
-            match self.first.get_mut(self.last) {
-                Some(last) if clash.is_before(last) => *last = clash,
-                _ => return Ok(()),
+    /// What the orders of two that meet cost with all that they push, by what is known of it or by
+    /// a look.
+    fn tolls(&mut self, view: View, met: &mut Met) -> Tolls {
+        let pushed = match met.pushed_within(view.ages, view.room) {
+            Some(pushed) => pushed,
+            None => {
+                met.pushed = self.pusher.pushed(view, &met.meeting);
+                met.pushed
             }
-        }
-        if self.first.len() >= most {
-            self.last = lightest(&self.first);
-        }
-        Ok(())
+        };
+        Tolls::of(&met.meeting, pushed.there, pushed.back)
     }
 
-    /// What the orders of two that meet weigh; none where that is too little.
-    fn weight(&self, view: View, met: &mut Met) -> Option<u64> {
-        if self.by == By::Time {
-            return Some(dead_weight(view, met));
-        }
-        let known = match self.first.get(self.last) {
-            Some(last) if self.first.len() >= self.most_pushed => last.weight,
+    /// Looks at the clash of two that meet, by tolls with all that they push.
+    fn take_pushed(&mut self, view: View, met: &mut Met) {
+        let tolls = self.tolls(view, met);
+        let clash = Clash {
+            weight: weight(tolls.least, tolls.most),
+            meeting: met.meeting,
+            tolls: Some(tolls),
+        };
+        self.first = first_of(self.first, clash);
+    }
+
+    /// Looks at the clash of two that meet, by time.
+    fn take_timed(&mut self, view: View, met: &mut Met) {
+        let clash = Clash {
+            weight: dead_weight(view, met),
+            meeting: met.meeting,
+            tolls: None,
+        };
+        self.first = first_of(self.first, clash);
+    }
+
+    /// Keeps two that meet, if they are among the few that weigh most by their own trains.
+    fn keep(&mut self, view: View, met: &mut Met, place: usize) -> Result<(), Memory> {
+        let known = match self.few.get(self.lightest) {
+            Some(lightest) if self.few.len() >= FEW => lightest.weight.saturating_add(1),
             _ => 0,
         };
-        own_weight(view, met, known)
+        let Some(weight) = own_weight(view, met, known) else {
+            return Ok(());
+        };
+        let candidate = Candidate {
+            resource: met.meeting.resource,
+            place,
+            weight,
+        };
+        if self.few.len() < FEW {
+            self.few.push(candidate)?;
+        } else if let Some(lightest) = self.few.get_mut(self.lightest) {
+            *lightest = candidate;
+        }
+        self.lightest = lightest(&self.few);
+        Ok(())
     }
 
     /// Whether it is asked of two that meet if one order of theirs closes a cycle.
@@ -115,30 +173,35 @@ impl Clashes {
         true
     }
 
-    /// Keeps the clash of two that meet alone, since one order of theirs closes a cycle.
-    fn keep_alone(&mut self, meeting: Meeting) -> Result<(), Memory> {
+    /// Has the clash of two that meet come first, since one order of theirs closes a cycle.
+    fn put_first(&mut self, meeting: Meeting) {
         self.closes = true;
-        self.first.clear();
-        self.keep(Clash {
+        self.few.clear();
+        self.first = Some(Clash {
             weight: NEVER,
             meeting,
             tolls: None,
-        })
+        });
     }
 
-    /// Looks at two that meet.
-    fn take(&mut self, view: View, seeker: &mut Seeker, met: &mut Met) -> Result<(), Memory> {
+    /// Looks at two that meet, which stand at a place among those that meet on a resource.
+    fn take(
+        &mut self,
+        view: View,
+        seeker: &mut Seeker,
+        met: &mut Met,
+        place: usize,
+    ) -> Result<(), Memory> {
         if self.asks() && self.asking.closes(view, seeker, met) {
-            return self.keep_alone(met.meeting);
+            self.put_first(met.meeting);
+            return Ok(());
         }
-        match self.weight(view, met) {
-            Some(weight) => self.keep(Clash {
-                weight,
-                meeting: met.meeting,
-                tolls: None,
-            }),
-            None => Ok(()),
+        match (self.by, self.care) {
+            (By::Time, _) => self.take_timed(view, met),
+            (By::Toll, Care::Thorough) => self.take_pushed(view, met),
+            (By::Toll, Care::Quick) => self.keep(view, met, place)?,
         }
+        Ok(())
     }
 
     /// Whether two that meet count.
@@ -152,42 +215,27 @@ impl Clashes {
 
     /// Looks at all that meet on a resource.
     fn look_at(&mut self, view: View, seeker: &mut Seeker, all: &mut [Met]) -> Result<(), Memory> {
-        for met in all.iter_mut() {
+        for (place, met) in all.iter_mut().enumerate() {
             if self.closes {
                 return Ok(());
             }
             if self.counts(view, seeker, &met.meeting) {
-                self.take(view, seeker, met)?;
+                self.take(view, seeker, met, place)?;
             }
         }
         Ok(())
     }
 
-    /// The clash of two that meet, as their orders weigh with all that they push.
-    fn pushed(&mut self, view: View, meeting: Meeting) -> Clash {
-        let (one, other) = (meeting.one, meeting.other);
-        let behind = view.spots.at(one).behind;
-        let there = self.pusher.toll(view, other, meeting.one_until, behind);
-        let behind = view.spots.at(other).behind;
-        let back = self.pusher.toll(view, one, meeting.other_until, behind);
-        Clash {
-            weight: weight(there, back),
-            meeting,
-            tolls: Some(Tolls::of(&meeting, there, back)),
-        }
-    }
-
-    /// The one of those that are kept that comes first by all that its orders push.
-    fn first_pushed(&mut self, view: View) -> Option<Clash> {
-        let mut found = None;
-        for _ in 0..self.first.len() {
-            let Some(clash) = self.first.pop() else {
-                return found;
+    /// Looks at the few that are kept by all that they push.
+    fn look_at_few(&mut self, view: View, meetings: &mut Meetings) {
+        for _ in 0..self.few.len() {
+            let Some(candidate) = self.few.pop() else {
+                return;
             };
-            let clash = self.pushed(view, clash.meeting);
-            found = first_of(found, clash);
+            if let Some(met) = meetings.met_mut(candidate.resource, candidate.place) {
+                self.take_pushed(view, met);
+            }
         }
-        found
     }
 
     /// The clash that comes first.
@@ -203,9 +251,7 @@ impl Clashes {
         for all in meetings.each_mut().iter_mut() {
             self.look_at(view, seeker, all.as_mut_slice())?;
         }
-        if self.first.len() > 1 {
-            return Ok(self.first_pushed(view));
-        }
-        Ok(self.first.pop())
+        self.look_at_few(view, meetings);
+        Ok(self.first)
     }
 }

@@ -1,3 +1,4 @@
+use crate::ages::set_of;
 use disp_model::{Component, List, Memory, Op, Operation, Problem};
 use std::alloc::Global;
 
@@ -18,6 +19,8 @@ pub(crate) struct Facts {
     firsts: Vec<u32>,
     /// Whether it matters when each operation starts: it costs something, or has an upper.
     matters: Vec<bool>,
+    /// The bit of the set of each one's train.
+    sets: Vec<u64>,
 }
 
 /// How much more operations may cost that start later.
@@ -88,6 +91,7 @@ impl Facts {
             each: Vec::new(alloc),
             firsts: Vec::new(alloc),
             matters: Vec::new(alloc),
+            sets: Vec::new(alloc),
         };
         let mut train = 0u32;
         let mut number = 0u32;
@@ -109,6 +113,7 @@ impl Facts {
         for fact in &facts.each {
             let matters = fact.upper.is_some() || fact.components.len() > 0;
             facts.matters.push(matters)?;
+            facts.sets.push(set_of(fact.op.train))?;
         }
         Ok(facts)
     }
@@ -146,6 +151,14 @@ impl Facts {
         match self.matters.get(number as usize) {
             Some(matters) => *matters,
             None => false,
+        }
+    }
+
+    /// The bit of the set of an operation's train.
+    pub(crate) fn set(&self, number: u32) -> u64 {
+        match self.sets.get(number as usize) {
+            Some(set) => *set,
+            None => u64::MAX,
         }
     }
 

@@ -2,7 +2,7 @@ ghost use Rattle.std.specs.Prelude.{◌≡◌};
 
 use crate::adviser::Advice;
 use crate::clash::{Clash, Tolls};
-use crate::clashes::{By, Clashes};
+use crate::clashes::{By, Care, Clashes};
 use crate::facts::Facts;
 use crate::forks::{Fork, Forks};
 use crate::holders::{Holder, Moved};
@@ -30,18 +30,18 @@ pub(crate) struct Found {
 }
 
 impl Found {
-    /// Nothing found yet of so many operations of so many trains and so many resources, to look at
-    /// what the orders of so many clashes push at most.
+    /// Nothing found yet of so many operations of so many trains and so many resources, to look
+    /// with so much care.
     pub(crate) fn new(
         alloc: Global,
         count: usize,
         trains: usize,
         resources: usize,
-        most_pushed: usize,
+        care: Care,
     ) -> Result<Found, Memory> {
         Ok(Found {
             meetings: Meetings::new(alloc, resources)?,
-            clashes: Clashes::new(alloc, count, most_pushed)?,
+            clashes: Clashes::new(alloc, count, care)?,
             forks: Forks::new(alloc, count, trains)?,
             crossings: Crossings::new(alloc, count, trains)?,
             ways: Ways::new(alloc, count)?,

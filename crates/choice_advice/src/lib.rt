@@ -6,6 +6,7 @@
 #![tactic(auto)]
 
 mod adviser;
+mod ages;
 mod asking;
 mod changes;
 mod clash;
@@ -27,3 +28,4 @@ mod view;
 mod ways;
 
 pub use adviser::{Advice, Adviser, Orders, Strategy};
+pub use clashes::Care;

@@ -80,13 +80,13 @@ impl Links {
         Ok(())
     }
 
-    /// Takes the last arc away, and gives the operation that it led to.
-    pub(crate) fn pop(&mut self) -> Option<u32> {
+    /// Takes the last arc away, and gives the operations that it led from and to.
+    pub(crate) fn pop(&mut self) -> Option<Ends> {
         let ends = self.each.pop()?;
         if let Some(behind) = self.behind.get_mut(ends.from as usize) {
             behind.pop();
         }
-        Some(ends.to)
+        Some(ends)
     }
 
     /// The arcs from an operation, in the order in which they were added.

@@ -1,3 +1,4 @@
+use crate::ages::Ages;
 use crate::holders::{Holder, Moved, Span};
 use crate::spots::{NEVER, Spots};
 use disp_model::Memory;
@@ -55,14 +56,55 @@ impl Asked {
     pub(crate) const NOTHING: Asked = Asked { turn: 0, arcs: 0 };
 }
 
-/// Two that meet, their trains, and what is known of how much their orders weigh and of whether one
-/// of them closes a cycle.
+/// What the two orders of two that meet cost with all that they push, as long as the trains that
+/// this depends on are as they were.
+#[derive(Clone, Copy)]
+pub(crate) struct Pushed {
+    /// Where the one goes first, and where the other does: never where that is as much as the room.
+    pub there: u64,
+    pub back: u64,
+    pub room: u64,
+    /// The sets of these trains.
+    pub sets: u64,
+    /// The turn at which that was found.
+    pub turn: u64,
+}
+
+impl Pushed {
+    /// Nothing was found, in no room.
+    const NOTHING: Pushed = Pushed {
+        there: NEVER,
+        back: NEVER,
+        room: 0,
+        sets: 0,
+        turn: 0,
+    };
+
+    /// Whether that is known in a room.
+    fn is_known(&self, ages: &Ages, room: u64) -> bool {
+        (room <= self.room || self.there.max(self.back) < NEVER)
+            && ages.are_as_at(self.sets, self.turn)
+    }
+
+    /// The same in a room.
+    fn within(&self, room: u64) -> Pushed {
+        Pushed {
+            there: if self.there < room { self.there } else { NEVER },
+            back: if self.back < room { self.back } else { NEVER },
+            ..*self
+        }
+    }
+}
+
+/// Two that meet, their trains, and what is known of how much their orders weigh, of what these
+/// push, and of whether one of them closes a cycle.
 #[derive(Clone, Copy)]
 pub(crate) struct Met {
     pub meeting: Meeting,
     pub one_train: u32,
     pub other_train: u32,
     pub weighed: Weighed,
+    pub pushed: Pushed,
     pub asked: Asked,
 }
 
@@ -70,6 +112,15 @@ impl Met {
     /// Whether neither train was looked at again since a turn.
     pub(crate) fn is_as_at(&self, spots: &Spots, turn: u64) -> bool {
         spots.is_as_at(self.one_train, turn) && spots.is_as_at(self.other_train, turn)
+    }
+
+    /// What its orders cost with all that they push in a room, where that is known.
+    pub(crate) fn pushed_within(&self, ages: &Ages, room: u64) -> Option<Pushed> {
+        if self.pushed.is_known(ages, room) {
+            Some(self.pushed.within(room))
+        } else {
+            None
+        }
     }
 }
 
@@ -129,6 +180,7 @@ fn meet(met: &mut Vec<Met>, one: &Holder, later: &[Holder]) -> Result<(), Memory
                 one_train: one.train,
                 other_train: other.train,
                 weighed: Weighed::NOTHING,
+                pushed: Pushed::NOTHING,
                 asked: Asked::NOTHING,
             })?;
         }
@@ -226,6 +278,11 @@ impl Meetings {
             }
         }
         None
+    }
+
+    /// Two that meet on a resource, by their place among those that do.
+    pub(crate) fn met_mut(&mut self, resource: u32, place: usize) -> Option<&mut Met> {
+        self.each.get_mut(resource as usize)?.get_mut(place)
     }
 
     /// How those meet that list each resource.

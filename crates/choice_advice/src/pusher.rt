@@ -1,4 +1,5 @@
-use crate::links::Links;
+use crate::facts::Facts;
+use crate::meetings::{Meeting, Pushed};
 use crate::queue::Queue;
 use crate::spots::{NEVER, length_of};
 use crate::view::View;
@@ -8,7 +9,7 @@ use std::alloc::Global;
 
 /// When an operation starts that is pushed, and in which look it was.
 #[derive(Clone, Copy)]
-struct Pushed {
+struct Delay {
     look: u64,
     time: u64,
 }
@@ -16,8 +17,10 @@ struct Pushed {
 /// Starts operations later, and all to which arcs lead from them: room for one look after another.
 #[derive(Drop)]
 pub(crate) struct Pusher {
-    each: Vec<Pushed>,
+    each: Vec<Delay>,
     look: u64,
+    /// The sets of the trains on whose operations the look depends.
+    sets: u64,
     /// The operations that are pushed and push on, by their places in the order of the arcs.
     waiting: Queue,
 }
@@ -36,11 +39,12 @@ impl Pusher {
     pub(crate) fn new(alloc: Global, count: usize) -> Result<Pusher, Memory> {
         let mut each = Vec::with_capacity(alloc, count)?;
         for _ in 0..count {
-            each.push(Pushed { look: 0, time: 0 })?;
+            each.push(Delay { look: 0, time: 0 })?;
         }
         Ok(Pusher {
             each,
             look: 0,
+            sets: 0,
             waiting: Queue::new(alloc, count)?,
         })
     }
@@ -48,7 +52,7 @@ impl Pusher {
     /// When an operation starts that is pushed.
     fn time(&self, number: u32) -> u64 {
         match self.each.get(number as usize) {
-            Some(pushed) => pushed.time,
+            Some(delay) => delay.time,
             None => NEVER,
         }
     }
@@ -56,14 +60,14 @@ impl Pusher {
     /// Has an operation start no earlier than a time. Says whether it is pushed for the first time
     /// in this look.
     fn delay(&mut self, number: u32, time: u64) -> bool {
-        let Some(pushed) = self.each.get_mut(number as usize) else {
+        let Some(known) = self.each.get_mut(number as usize) else {
             return false;
         };
-        if pushed.look == self.look {
-            pushed.time = pushed.time.max(time);
+        if known.look == self.look {
+            known.time = known.time.max(time);
             return false;
         }
-        *pushed = Pushed {
+        *known = Delay {
             look: self.look,
             time,
         };
@@ -71,7 +75,8 @@ impl Pusher {
     }
 
     /// Pushes an operation to a time, where it starts earlier.
-    fn push(&mut self, paths: &Paths, number: u32, time: u64) {
+    fn push(&mut self, facts: &Facts, paths: &Paths, number: u32, time: u64) {
+        self.sets |= facts.set(number);
         let Some(start) = paths.lengths().get(number as usize) else {
             return;
         };
@@ -82,20 +87,21 @@ impl Pusher {
     }
 
     /// Pushes those to which arcs lead from an operation that starts at a time.
-    fn push_on(&mut self, links: &Links, paths: &Paths, number: u32, time: u64) {
-        for link in links.behind(number) {
-            self.push(paths, link.to, time.saturating_add(link.length));
+    fn push_on(&mut self, view: View, number: u32, time: u64) {
+        let paths = view.graph.paths();
+        for link in view.links.behind(number) {
+            self.push(view.facts, paths, link.to, time.saturating_add(link.length));
         }
     }
 
     /// How much more all trains cost where an operation starts only at a time; never where that
     /// leaves no plan that is wanted, where one of them may not start so late, or where that pushes
     /// an operation that is to come before.
-    pub(crate) fn toll(&mut self, view: View, number: u32, time: u64, before: u32) -> u64 {
+    fn toll(&mut self, view: View, number: u32, time: u64, before: u32) -> u64 {
         let paths = view.graph.paths();
         self.look = self.look.saturating_add(1);
         self.waiting.clear();
-        self.push(paths, number, time);
+        self.push(view.facts, paths, number, time);
         let mut toll = 0u64;
         for _ in 0..self.each.len() {
             let Some(number) = self.waiting.take() else {
@@ -109,8 +115,25 @@ impl Pusher {
             if toll >= view.room {
                 return NEVER;
             }
-            self.push_on(view.links, paths, number, time);
+            self.push_on(view, number, time);
         }
         toll
+    }
+
+    /// What the two orders of two that meet cost with all that they push.
+    pub(crate) fn pushed(&mut self, view: View, meeting: &Meeting) -> Pushed {
+        self.sets = 0;
+        let (one, other) = (meeting.one, meeting.other);
+        let behind = view.spots.at(one).behind;
+        let there = self.toll(view, other, meeting.one_until, behind);
+        let behind = view.spots.at(other).behind;
+        let back = self.toll(view, one, meeting.other_until, behind);
+        Pushed {
+            there,
+            back,
+            room: view.room,
+            sets: self.sets,
+            turn: view.ages.turn(),
+        }
     }
 }

@@ -1,3 +1,4 @@
+use crate::ages::Ages;
 use crate::facts::Facts;
 use crate::holders::Holders;
 use crate::links::Links;
@@ -15,6 +16,7 @@ pub(crate) struct View<'a> {
     pub spots: &'a Spots,
     pub holders: &'a Holders,
     pub links: &'a Links,
+    pub ages: &'a Ages,
     /// An order that costs so much more, or more, leaves no plan that is wanted.
     pub room: u64,
 }

@@ -4,7 +4,7 @@ ghost use Rattle.std.specs.Prelude.{◌≡◌};
 use branch_rules::Pick;
 use disp_model::{Choice, Decision, Op, Problem};
 use event_graph::Graph;
-use free_choices::{Adviser, Strategy, pick_free};
+use free_choices::{Adviser, Care, Strategy, pick_free};
 use std::alloc::Global;
 use std::test::Fail;
 use worked_problems::{forked, swap, two_trains};
@@ -21,7 +21,7 @@ fn picked(
     let None = graph.late() else {
         return Err(Fail::from("late"));
     };
-    let mut adviser = Adviser::new(alloc, problem, 64)?;
+    let mut adviser = Adviser::new(alloc, problem, Care::Thorough)?;
     match pick_free(alloc, problem, graph, &mut adviser, strategy, u64::MAX)? {
         Pick::Choice(choice) => Ok(Some(choice)),
         Pick::Plan(_) => Ok(None),

@@ -7,17 +7,13 @@ use crate::neighbours::improved;
 use crate::outlook::{Aim, Outlook, Wanted, look_below};
 use disp_model::{Memory, Plan, Problem};
 use event_graph::Graph;
-use free_choices::{Adviser, Strategy};
+use free_choices::{Adviser, Care, Strategy};
 use std::alloc::Global;
 use train_insertion::Target;
 use tree_dives::rewind;
 
 /// At how many nodes is looked at most for a first plan.
 const FIRST_NODES: u32 = 4096;
-
-/// So many clashes at most are weighed at a node by all that their orders push: fewer than in a
-/// dive, since no tree is kept and more nodes find better plans.
-const MOST_PUSHED: usize = 8;
 
 /// What a look ahead came to.
 #[derive(Drop)]
@@ -97,7 +93,7 @@ fn look(
     ensures beside { IsBeside graph.old graph.new }
     ensures plan { IfOk result (λ ahead. IfSome ahead.plan (IsPlanAt graph.old)) }
 {
-    let mut adviser = Adviser::new(alloc, problem, MOST_PUSHED)?;
+    let mut adviser = Adviser::new(alloc, problem, Care::Quick)?;
     let First { base, dead_by_time } = first_plan(alloc, problem, graph, &mut adviser, target)?;
     let Some(base) = base else {
         return Ok(Ahead {

@@ -4,7 +4,7 @@ ghost use Rattle.tree_dives.specs.Guides.{GuidesIn};
 
 use disp_model::{Memory, Problem};
 use first_overlaps::KnownSpans;
-use free_choices::{Adviser, Strategy};
+use free_choices::{Adviser, Care, Strategy};
 use std::alloc::Global;
 use train_insertion::Target;
 
@@ -16,9 +16,6 @@ const TIME_DIVES: u32 = 64;
 
 /// After so many by time where that comes first.
 const TIME_DIVES_FIRST: u32 = 4096;
-
-/// So many clashes at most are weighed at a node by all that their orders push.
-const MOST_PUSHED: usize = 64;
 
 /// Advice for dives, on which nothing rests: which child is followed, and under the free rule which
 /// choice is taken. With it, what the fixed rule keeps from pick to pick of when operations ran.
@@ -39,7 +36,7 @@ impl Guide {
     {
         Ok(Guide {
             target,
-            adviser: Adviser::new(alloc, problem, MOST_PUSHED)?,
+            adviser: Adviser::new(alloc, problem, Care::Thorough)?,
             strategy: Strategy::Toll,
             spans: KnownSpans::new(alloc, problem)?,
             left: TOLL_DIVES,
