@@ -47,14 +47,15 @@ impl Ages {
     /// Whether no train of some sets was found otherwise since a turn.
     pub(crate) fn are_as_at(&self, sets: u64, turn: u64) -> bool {
         let mut left = sets;
-        for last in &self.last {
+        for _ in 0..SETS {
             if left == 0 {
                 return true;
             }
-            if left % 2 == 1 && *last > turn {
+            let set = left.trailing_zeros() as usize;
+            if self.last.get(set).is_some_and(|last| *last > turn) {
                 return false;
             }
-            left /= 2;
+            left &= left.saturating_sub(1);
         }
         true
     }
