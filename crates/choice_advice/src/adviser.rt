@@ -70,9 +70,9 @@ impl Orders {
         }
     }
 
-    /// Whether a decision that takes one of the orders is seen to leave a plan that is wanted, or to
-    /// leave none; nothing where it takes neither.
-    pub fn is_open(&self, decision: Decision) -> Option<bool> {
+    /// Whether a decision that takes one of the orders is seen to leave a plan that is wanted, or
+    /// to leave none; nothing where it takes neither.
+    fn is_open(&self, decision: Decision) -> Option<bool> {
         match decision {
             Decision::First { a, b } if a == self.cheaper && b == self.dearer => {
                 Some(self.is_cheaper_open)
@@ -83,6 +83,12 @@ impl Orders {
             _ => None,
         }
     }
+}
+
+/// Whether an adviser has seen that a decision leaves a plan that is wanted, or that it leaves none,
+/// where it takes one of the orders that were named.
+pub fn seen_open(orders: Option<Orders>, decision: Decision) -> Option<bool> {
+    orders?.is_open(decision)
 }
 
 /// What an adviser keeps of a problem, and of the node at which it was asked last.

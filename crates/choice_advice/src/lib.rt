@@ -27,5 +27,5 @@ mod tolls;
 mod view;
 mod ways;
 
-pub use adviser::{Advice, Adviser, Orders, Strategy};
+pub use adviser::{Advice, Adviser, Orders, Strategy, seen_open};
 pub use clashes::Care;

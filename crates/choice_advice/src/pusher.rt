@@ -7,6 +7,10 @@ use disp_model::Memory;
 use incremental_paths::Paths;
 use std::alloc::Global;
 
+/// How many operations push on at most in a look: beyond so many it would take long, and hardly ever
+/// changes what is picked.
+const MOST_PUSHED: usize = 256;
+
 /// When an operation starts that is pushed, and in which look it was.
 #[derive(Clone, Copy)]
 struct Delay {
@@ -96,14 +100,14 @@ impl Pusher {
 
     /// How much more all trains cost where an operation starts only at a time; never where that
     /// leaves no plan that is wanted, where one of them may not start so late, or where that pushes
-    /// an operation that is to come before.
+    /// an operation that is to come before. Where very many are pushed it counts the first of them.
     fn toll(&mut self, view: View, number: u32, time: u64, before: u32) -> u64 {
         let paths = view.graph.paths();
         self.look = self.look.saturating_add(1);
         self.waiting.clear();
         self.push(view.facts, paths, number, time);
         let mut toll = 0u64;
-        for _ in 0..self.each.len() {
+        for _ in 0..MOST_PUSHED {
             let Some(number) = self.waiting.take() else {
                 return toll;
             };

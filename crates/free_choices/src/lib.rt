@@ -12,5 +12,5 @@ mod open_touch;
 mod pick;
 
 pub use branch_rules::Pick;
-pub use choice_advice::{Adviser, Care, Orders, Strategy};
+pub use choice_advice::{Adviser, Care, Orders, Strategy, seen_open};
 pub use pick::pick_free;

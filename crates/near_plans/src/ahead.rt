@@ -5,6 +5,8 @@ ghost use Rattle.near_plans.specs.Plans.{IsBeside, IsFoundBeside, IsPlanAt};
 use crate::base::Base;
 use crate::neighbours::improved;
 use crate::outlook::{Aim, Outlook, Wanted, look_below};
+use crate::passing::events_of;
+use crate::taking::{Course, Going, take_over};
 use disp_model::{Memory, Plan, Problem};
 use event_graph::Graph;
 use free_choices::{Adviser, Care, Strategy};
@@ -31,6 +33,37 @@ struct First {
     dead_by_time: bool,
 }
 
+/// A first plan in which all trains go on as in a target: they take its routes, and hold each
+/// resource in its order. Few choices are left then, however large the problem is.
+fn plan_of(
+    alloc: Global,
+    problem: &Problem,
+    graph: &mut Graph,
+    adviser: &mut Adviser,
+    target: &Target,
+) -> Result<Outlook, Memory>
+    requires { graph.old.problem ≡ problem.now }
+    ensures beside { IsBeside graph.old graph.new }
+    ensures plan { IfOk result (λ outlook. IfSome outlook.plan (IsFoundBeside graph.old)) }
+{
+    let events = events_of(alloc, target, problem.trains.len())?;
+    let course = Course {
+        events: events.as_slice(),
+        target,
+    };
+    let going = Going {
+        out: &[],
+        new: None,
+    };
+    take_over(alloc, problem, graph, course, going)?;
+    let aim = Aim {
+        problem,
+        target,
+        strategy: Strategy::Toll,
+    };
+    look_below(alloc, aim, graph, adviser, Wanted::any(FIRST_NODES))
+}
+
 /// By what the choices are taken for a first plan along a target: a target that leaves a train out
 /// may be a sign of a deadlock, which is often seen by time alone.
 fn first_strategy(target: &Target) -> Strategy {
@@ -41,8 +74,8 @@ fn first_strategy(target: &Target) -> Strategy {
     }
 }
 
-/// A first plan of the edition of a graph, along a target.
-fn first_plan(
+/// A first plan along a target, which is gone down to by one choice after the other.
+fn plan_towards(
     alloc: Global,
     problem: &Problem,
     graph: &mut Graph,
@@ -61,22 +94,39 @@ fn first_plan(
         strategy,
     };
     let outlook = look_below(alloc, aim, graph, adviser, Wanted::any(FIRST_NODES))?;
-    let Outlook {
-        plan,
-        below,
-        whole,
-        ..
-    } = outlook;
-    let Some(plan) = plan else {
-        return Ok(First {
-            base: None,
-            dead_by_time: whole && strategy == Strategy::Time,
-        });
-    };
+    let dead_by_time = outlook.whole && outlook.plan.is_none() && strategy == Strategy::Time;
     Ok(First {
-        base: Some(Base::of(alloc, problem, plan, below)?),
-        dead_by_time: false,
+        base: Base::of_outlook(alloc, problem, outlook)?,
+        dead_by_time,
     })
+}
+
+/// A first plan below the node of a graph, along a target.
+fn first_plan(
+    alloc: Global,
+    problem: &Problem,
+    graph: &mut Graph,
+    adviser: &mut Adviser,
+    target: &Target,
+) -> Result<First, Memory>
+    requires { graph.old.problem ≡ problem.now }
+    ensures beside { IsBeside graph.old graph.new }
+    ensures plan { IfOk result
+        (λ first. IfSome first.base (λ base. IsFoundBeside graph.old base.plan)) }
+{
+    if !target.is_whole() {
+        return plan_towards(alloc, problem, graph, adviser, target);
+    }
+    let depth = graph.decisions().len();
+    let outlook = plan_of(alloc, problem, graph, adviser, target)?;
+    if outlook.plan.is_some() {
+        return Ok(First {
+            base: Base::of_outlook(alloc, problem, outlook)?,
+            dead_by_time: false,
+        });
+    }
+    rewind(graph, depth.min(graph.decisions().len()));
+    plan_towards(alloc, problem, graph, adviser, target)
 }
 
 /// Looks for a first plan along a target, and for better ones near it. The graph is moved.

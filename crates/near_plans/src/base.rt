@@ -3,6 +3,7 @@ ghost use Rattle.disp_model.specs.Node.{Node};
 ghost use Rattle.near_plans.specs.Plans.{IsFoundBeside};
 
 use crate::outlook::Outlook;
+use crate::taking::Course;
 use disp_model::{Memory, Plan, Problem};
 use std::alloc::Global;
 use train_insertion::Target;
@@ -32,6 +33,30 @@ impl Base {
         })
     }
 
+    /// How its trains go on.
+    pub(crate) fn course(&self) -> Course<'_> {
+        Course {
+            events: self.plan.as_slice(),
+            target: &self.target,
+        }
+    }
+
+    /// The plan that was found, if one was.
+    pub(crate) fn of_outlook(
+        alloc: Global,
+        problem: &Problem,
+        outlook: Outlook,
+    ) -> Result<Option<Base>, Memory>
+        ensures { (root : Node) → IfSome outlook.plan (IsFoundBeside root)
+            → IfOk result (λ found. IfSome found (λ base. IsFoundBeside root base.plan)) }
+    {
+        let Outlook { plan, below, .. } = outlook;
+        match plan {
+            Some(plan) => Ok(Some(Base::of(alloc, problem, plan, below)?)),
+            None => Ok(None),
+        }
+    }
+
     /// Becomes the plan that was found, if one was. Gives how many nodes were looked at.
     pub(crate) fn keep(
         &mut self,
@@ -42,18 +67,10 @@ impl Base {
         ensures { (root : Node) → IfSome outlook.plan (IsFoundBeside root)
             → IsFoundBeside root self.old.plan → IsFoundBeside root self.new.plan }
     {
-        let Outlook {
-            plan,
-            below,
-            nodes,
-            ..
-        } = outlook;
-        match plan {
-            Some(plan) => {
-                *self = Base::of(alloc, problem, plan, below)?;
-                Ok(nodes)
-            }
-            None => Ok(nodes),
+        let nodes = outlook.nodes;
+        if let Some(base) = Base::of_outlook(alloc, problem, outlook)? {
+            *self = base;
         }
+        Ok(nodes)
     }
 }

@@ -10,6 +10,7 @@ mod ahead;
 mod base;
 mod neighbours;
 mod outlook;
+mod passing;
 mod region;
 mod taking;
 

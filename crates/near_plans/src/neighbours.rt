@@ -128,7 +128,7 @@ fn try_round(
         out: &out,
         new: Some(region),
     };
-    let taken = take_over(alloc, problem, graph, base, going)?;
+    let taken = take_over(alloc, problem, graph, base.course(), going)?;
     climb.spend(taken);
     let outlook = look_for_cheaper(alloc, problem, graph, adviser, base)?;
     let nodes = base.keep(alloc, problem, outlook)?;
@@ -165,7 +165,7 @@ fn try_region(
         out: &region,
         new: None,
     };
-    let taken = take_over(alloc, problem, graph, base, going)?;
+    let taken = take_over(alloc, problem, graph, base.course(), going)?;
     climb.spend(taken);
     let depth = graph.decisions().len();
     for _ in 0..rounds {

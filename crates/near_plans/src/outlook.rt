@@ -8,7 +8,7 @@ use branch_rules::{Pick, children};
 use cost_bound::cost;
 use disp_model::{Choice, Decision, Memory, Plan, Problem};
 use event_graph::{ExtendNo, Graph};
-use free_choices::{Adviser, Orders, Strategy, pick_free};
+use free_choices::{Adviser, Orders, Strategy, pick_free, seen_open};
 use std::alloc::Global;
 use train_insertion::Target;
 use tree_dives::{preferred, rewind};
@@ -118,10 +118,8 @@ fn put(
     depth: usize,
     decision: Decision,
 ) -> Result<(), Memory> {
-    if let Some(orders) = orders {
-        if orders.is_open(decision) == Some(false) {
-            return Ok(());
-        }
+    if seen_open(orders, decision) == Some(false) {
+        return Ok(());
     }
     waiting.push(Waiting { depth, decision })?;
     Ok(())

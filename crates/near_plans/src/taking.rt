@@ -1,7 +1,6 @@
 ghost use Rattle.std.specs.Prelude.{◌≡◌};
 ghost use Rattle.near_plans.specs.Plans.{IsBeside};
 
-use crate::base::Base;
 use crate::region::{is_among, op_of};
 use disp_model::{Decision, Event, Memory, Op, Problem};
 use event_graph::{ExtendNo, Graph};
@@ -12,7 +11,14 @@ use train_insertion::Target;
 /// How many decisions that are only taken over count as one node.
 const TAKEN_FOR_ONE: usize = 16;
 
-/// Which trains are to go on as in a plan.
+/// How trains go on: their events in order, and the target that is the same.
+#[derive(Clone, Copy)]
+pub(crate) struct Course<'a> {
+    pub events: &'a [Event],
+    pub target: &'a Target,
+}
+
+/// Which trains are to go on as in a course.
 #[derive(Clone, Copy)]
 pub(crate) struct Going<'a> {
     /// These are out, all others go on.
@@ -68,19 +74,19 @@ fn take_route(problem: &Problem, graph: &mut Graph, target: &Target, op: Op) -> 
     }
 }
 
-/// Has trains take the routes of a plan.
+/// Has trains take the routes of a course.
 fn take_routes(
     problem: &Problem,
     graph: &mut Graph,
-    base: &Base,
+    course: Course,
     going: Going,
 ) -> Result<(), Memory>
     requires { graph.old.problem ≡ problem.now }
     ensures { IsBeside graph.old graph.new }
 {
-    for event in base.plan.as_slice() {
+    for event in course.events {
         if going.has(event.train) && going.is_new(event.train) {
-            take_route(problem, graph, &base.target, op_of(event))?;
+            take_route(problem, graph, course.target, op_of(event))?;
         }
     }
     Ok(())
@@ -118,18 +124,18 @@ fn take_orders_of(
     Ok(())
 }
 
-/// Has trains hold each resource in the order of a plan.
+/// Has trains hold each resource in the order of these events.
 fn take_orders(
     alloc: Global,
     problem: &Problem,
     graph: &mut Graph,
-    plan: &[Event],
+    events: &[Event],
     going: Going,
 ) -> Result<(), Memory>
     ensures { IsBeside graph.old graph.new }
 {
     let mut last = vec![in alloc; None; problem.names.len()]?;
-    for event in plan {
+    for event in events {
         if going.has(event.train) {
             take_orders_of(problem, graph, going, &mut last, op_of(event))?;
         }
@@ -137,20 +143,20 @@ fn take_orders(
     Ok(())
 }
 
-/// Has trains go on as in a plan. Gives for how many nodes that counts.
+/// Has trains go on as in a course. Gives for how many nodes that counts.
 pub(crate) fn take_over(
     alloc: Global,
     problem: &Problem,
     graph: &mut Graph,
-    base: &Base,
+    course: Course,
     going: Going,
 ) -> Result<u32, Memory>
     requires { graph.old.problem ≡ problem.now }
     ensures { IsBeside graph.old graph.new }
 {
     let depth = graph.decisions().len();
-    take_routes(problem, graph, base, going)?;
-    take_orders(alloc, problem, graph, base.plan.as_slice(), going)?;
+    take_routes(problem, graph, course, going)?;
+    take_orders(alloc, problem, graph, course.events, going)?;
     let taken = graph.decisions().len().saturating_sub(depth);
     Ok(u32::try_from(taken / TAKEN_FOR_ONE).unwrap_or(u32::MAX))
 }

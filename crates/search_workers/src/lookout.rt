@@ -3,9 +3,10 @@ use disp_model::Problem;
 
 /// At how many nodes one searcher of a problem looks at a time, at most.
 const NODES: Amount = Amount {
-    for_train: 900,
+    for_train: 1500,
     fewest: 4096,
-    most: 60_000,
+    most: 150_000,
+    for_operations: 700_000_000,
 };
 
 /// The same where changes may come.

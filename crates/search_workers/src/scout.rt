@@ -16,10 +16,16 @@ const FIRST_INSERTIONS: Amount = Amount {
     for_train: 250,
     fewest: INSERTIONS,
     most: 30_000,
+    for_operations: 216_000_000,
 };
 
 /// How many trains are put in for a target where an order of trains is known from the last one.
-const INSERTIONS_AGAIN: u32 = 4000;
+const INSERTIONS_AGAIN: Amount = Amount {
+    for_train: 0,
+    fewest: 4000,
+    most: 4000,
+    for_operations: 216_000_000,
+};
 
 /// What guides the dives of a search, and when better plans are looked for.
 #[derive(Drop)]
@@ -34,7 +40,7 @@ fn insertions_after(problem: &Problem, order: &[u32]) -> u32 {
     if order.is_empty() {
         FIRST_INSERTIONS.of(problem)
     } else {
-        INSERTIONS_AGAIN
+        INSERTIONS_AGAIN.of(problem)
     }
 }
 

@@ -128,8 +128,8 @@ impl Target {
         self.runs.iter().all(|run| run.len() > 0)
     }
 
-    /// What a train runs.
-    fn run(&self, train: u32) -> &[Start]
+    /// What a train runs; nothing, where it has none of that number.
+    pub fn run(&self, train: u32) -> &[Start]
         ensures { result.now ≡ run_in self.now train }
     {
         match self.runs.get(train as usize) {

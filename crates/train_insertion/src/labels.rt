@@ -60,7 +60,7 @@ fn enter(window: &mut Window, stage: &Stage, min: u64, step: Step) {
 
 /// Enters an operation in each of its windows.
 fn enter_each(windows: &mut Windows, op: u32, stage: &Stage, min: u64, step: Step) {
-    let (begin, end) = windows.range(op);
+    let (begin, end) = windows.range_behind(op, step.low);
     for place in begin..end {
         let Some(window) = windows.get_mut(place) else {
             break;

@@ -80,6 +80,14 @@ impl Windows {
         (begin, end.unwrap_or(begin))
     }
 
+    /// Where the windows of an operation stand that end behind a time.
+    pub(crate) fn range_behind(&self, op: u32, time: u64) -> (usize, usize) {
+        let (begin, end) = self.range(op);
+        let windows = self.all.get(begin..end).unwrap_or(&[]);
+        let passed = windows.partition_point(|window| window.until <= time);
+        (begin.saturating_add(passed), end)
+    }
+
     /// The window at a place.
     pub(crate) fn get(&self, place: usize) -> Option<Window> {
         self.all.get(place).copied()

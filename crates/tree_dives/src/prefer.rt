@@ -3,7 +3,7 @@ ghost use Rattle.std.specs.Prelude.{◌≡◌, ◌<◌, ◌≤◌, length, IfSom
 use cost_bound::cost;
 use disp_model::{Decision, Problem};
 use event_graph::Graph;
-use free_choices::Orders;
+use free_choices::{Orders, seen_open};
 use train_insertion::Target;
 
 /// A dive of no more branches than this is to raise the bound.
@@ -135,12 +135,6 @@ pub fn preferred(
         return place;
     }
     cheapest(problem, graph, children)
-}
-
-/// Whether an adviser has seen that a decision leaves a plan that is wanted, or that it leaves none,
-/// where it takes one of the orders that it named.
-fn seen_open(orders: Option<Orders>, decision: Decision) -> Option<bool> {
-    orders?.is_open(decision)
 }
 
 /// Whether the child to which a decision leads is seen to be open, by an adviser or by a look: it

@@ -44,8 +44,8 @@ fn is_below(bound: u64, best: Option<u64>) -> bool
     }
 }
 
-/// How much more a plan may cost than a bound that is below the best cost, and a little more: one
-/// that costs so much is not better.
+/// How much more the best plan costs than a bound. A plan that costs so much more than the bound, or
+/// more still, is not better.
 fn room_above(bound: u64, best: Option<u64>) -> u64 {
     match best {
         Some(cost) => cost.saturating_sub(bound),
