@@ -41,10 +41,11 @@ fn plan_of(
     graph: &mut Graph,
     adviser: &mut Adviser,
     target: &Target,
-) -> Result<Outlook, Memory>
+) -> Result<Option<Base>, Memory>
     requires { graph.old.problem ≡ problem.now }
     ensures beside { IsBeside graph.old graph.new }
-    ensures plan { IfOk result (λ outlook. IfSome outlook.plan (IsFoundBeside graph.old)) }
+    ensures plan { IfOk result
+        (λ found. IfSome found (λ base. IsFoundBeside graph.old base.plan)) }
 {
     let events = events_of(alloc, target, problem.trains.len())?;
     let course = Course {
@@ -61,7 +62,8 @@ fn plan_of(
         target,
         strategy: Strategy::Toll,
     };
-    look_below(alloc, aim, graph, adviser, Wanted::any(FIRST_NODES))
+    let outlook = look_below(alloc, aim, graph, adviser, Wanted::any(FIRST_NODES))?;
+    Base::of_outlook(alloc, problem, outlook)
 }
 
 /// By what the choices are taken for a first plan along a target: a target that leaves a train out
@@ -118,10 +120,9 @@ fn first_plan(
         return plan_towards(alloc, problem, graph, adviser, target);
     }
     let depth = graph.decisions().len();
-    let outlook = plan_of(alloc, problem, graph, adviser, target)?;
-    if outlook.plan.is_some() {
+    if let Some(base) = plan_of(alloc, problem, graph, adviser, target)? {
         return Ok(First {
-            base: Base::of_outlook(alloc, problem, outlook)?,
+            base: Some(base),
             dead_by_time: false,
         });
     }

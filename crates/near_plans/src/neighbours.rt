@@ -36,8 +36,15 @@ const MOST_ROUNDS: usize = 8;
 /// How many trains a region has beside one for each two rounds.
 const TRAINS_IN_REGION: usize = 3;
 
-/// At how many nodes is looked at most in a round.
+/// At how many nodes is looked at most in a round at first.
 const ROUND_NODES: u32 = 300;
+
+/// It is twice as many after so many rounds in a row that were in vain and cut off: where trains
+/// crowd, a train that is out meets many others before it is put in again.
+const ROUNDS_CUT_OFF: usize = 12;
+
+/// But never more than so many.
+const MOST_ROUND_NODES: u32 = 4800;
 
 /// How far a climb has come.
 #[derive(Drop)]
@@ -49,6 +56,10 @@ struct Climb {
     nodes: u32,
     /// How many rounds were in vain since the last that was not.
     vain: usize,
+    /// At how many nodes is looked at most in a round.
+    round_nodes: u32,
+    /// How many rounds in a row were in vain and cut off.
+    cut_off: usize,
 }
 
 impl Climb {
@@ -62,13 +73,28 @@ impl Climb {
         self.nodes = self.nodes.saturating_sub(nodes);
     }
 
-    /// Counts a round.
-    fn count_round(&mut self, found: bool) {
+    /// Counts a round: whether it found a plan, and whether it looked at all that may have one.
+    fn count_round(&mut self, found: bool, whole: bool) {
         self.vain = if found {
             0
         } else {
             self.vain.saturating_add(1)
         };
+        self.cut_off = if found || whole {
+            0
+        } else {
+            self.cut_off.saturating_add(1)
+        };
+        if self.cut_off >= ROUNDS_CUT_OFF && self.round_nodes < MOST_ROUND_NODES {
+            self.look_further();
+        }
+    }
+
+    /// Looks at more nodes in a round from now on, and counts rounds in vain anew.
+    fn look_further(&mut self) {
+        self.round_nodes = self.round_nodes.saturating_mul(2);
+        self.cut_off = 0;
+        self.vain = 0;
     }
 
     /// How many trains are taken out next.
@@ -80,14 +106,16 @@ impl Climb {
     }
 }
 
-/// Looks for the cheapest plan below the node of a graph, if it is cheaper than this one. It goes
-/// down to the child that costs least, since along the plan it would find that one again.
+/// Looks for the cheapest plan below the node of a graph, in so many nodes at most, if it is cheaper
+/// than this one. It goes down to the child that costs least, since along the plan it would find
+/// that one again.
 fn look_for_cheaper(
     alloc: Global,
     problem: &Problem,
     graph: &mut Graph,
     adviser: &mut Adviser,
     base: &Base,
+    nodes: u32,
 ) -> Result<Outlook, Memory>
     requires { graph.old.problem ≡ problem.now }
     ensures beside { IsBeside graph.old graph.new }
@@ -99,7 +127,7 @@ fn look_for_cheaper(
         target: &cheapest,
         strategy: Strategy::Toll,
     };
-    let wanted = Wanted::cheaper(base.cost, ROUND_NODES);
+    let wanted = Wanted::cheaper(base.cost, nodes);
     look_below(alloc, aim, graph, adviser, wanted)
 }
 
@@ -130,10 +158,11 @@ fn try_round(
     };
     let taken = take_over(alloc, problem, graph, base.course(), going)?;
     climb.spend(taken);
-    let outlook = look_for_cheaper(alloc, problem, graph, adviser, base)?;
+    let outlook = look_for_cheaper(alloc, problem, graph, adviser, base, climb.round_nodes)?;
+    let whole = outlook.whole;
     let nodes = base.keep(alloc, problem, outlook)?;
     climb.spend(nodes);
-    climb.count_round(base.cost < before);
+    climb.count_round(base.cost < before, whole);
     Ok(())
 }
 
@@ -225,6 +254,8 @@ pub(crate) fn improved(
         floor: cost(problem, graph),
         nodes,
         vain: 0,
+        round_nodes: ROUND_NODES,
+        cut_off: 0,
     };
     climbed(alloc, problem, graph, adviser, base, climb)
 }
