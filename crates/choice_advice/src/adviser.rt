@@ -4,6 +4,7 @@ use crate::changes::Changes;
 use crate::clashes::Care;
 use crate::course::Course;
 use crate::facts::Facts;
+use crate::failures::Failures;
 use crate::found::{Found, by_any, by_time, by_toll};
 use crate::holders::Holders;
 use crate::layers::has_layers;
@@ -85,8 +86,8 @@ impl Orders {
     }
 }
 
-/// Whether an adviser has seen that a decision leaves a plan that is wanted, or that it leaves none,
-/// where it takes one of the orders that were named.
+/// Whether an adviser has seen that a decision leaves a plan that is wanted, or that it leaves
+/// none, where it takes one of the orders that were named.
 pub fn seen_open(orders: Option<Orders>, decision: Decision) -> Option<bool> {
     orders?.is_open(decision)
 }
@@ -103,6 +104,7 @@ pub struct Adviser {
     /// Whether forks stand behind each other in a train.
     layered: Vec<bool>,
     found: Found,
+    failures: Failures,
 }
 
 impl Adviser {
@@ -128,6 +130,7 @@ impl Adviser {
             holders: Holders::of(alloc, problem)?,
             layered,
             found: Found::new(alloc, count, trains, problem.names.len(), care)?,
+            failures: Failures::new(alloc, problem.names.len(), trains)?,
         })
     }
 
@@ -234,13 +237,26 @@ impl Adviser {
 
     /// What is known of the two orders that were named last, where it was looked at what both push.
     pub fn orders(&self) -> Option<Orders> {
-        let tolls = self.found.tolls?;
+        let tolls = self.found.clash?.tolls?;
         Some(Orders {
             cheaper: self.facts.op(tolls.cheaper),
             dearer: self.facts.op(tolls.dearer),
             is_cheaper_open: tolls.least < NEVER,
             is_dearer_open: tolls.most < NEVER,
         })
+    }
+
+    /// Counts the orders of the clash that came first that leave no plan that is wanted.
+    fn count_closed(&mut self) {
+        if let Some(clash) = self.found.clash {
+            let closed = clash.closed_orders();
+            self.failures.count_orders(clash.meeting.resource, closed);
+        }
+    }
+
+    /// Notes that the node to which a decision led is closed: it leaves no plan that is wanted.
+    pub fn count_failure(&mut self, decision: Decision) {
+        self.failures.count_decision(decision);
     }
 
     /// The choice to take at the node of a graph, where the adviser knows one. An order that raises
@@ -259,7 +275,7 @@ impl Adviser {
         requires { graph.now.problem ≡ problem.now }
     {
         self.look(problem, graph)?;
-        self.found.tolls = None;
+        self.found.clash = None;
         let view = View {
             problem,
             graph,
@@ -268,12 +284,15 @@ impl Adviser {
             holders: &self.holders,
             links: &self.links,
             ages: self.changes.ages(),
+            failures: &self.failures,
             room,
         };
-        match strategy {
+        let advice = match strategy {
             Strategy::Toll => by_toll(view, &mut self.found, &self.layered),
             Strategy::Time => by_time(view, &mut self.found),
             Strategy::Any => by_any(view, &mut self.found, &self.layered),
-        }
+        };
+        self.count_closed();
+        advice
     }
 }

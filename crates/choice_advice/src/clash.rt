@@ -1,4 +1,5 @@
-use crate::meetings::{Meeting, Met, Weighed};
+use crate::meetings::{Meeting, Met, Pushed, Weighed};
+use crate::spots::NEVER;
 use crate::tolls::{most_toll, toll};
 use crate::view::View;
 
@@ -7,6 +8,12 @@ const CHEAPER: u64 = 4;
 
 /// What the dearer order of a clash counts at most.
 const MOST_DEARER: u64 = 1 << 50;
+
+/// A weight counts so often, and once more for each order on its resource that failed.
+const EVEN: u64 = 256;
+
+/// By how much an order counts as delaying what it pushes at most.
+const MOST_DELAY: u64 = 1 << 24;
 
 /// What the two orders of a clash cost with all that they push, never where one leaves no plan that
 /// is wanted. Each is named by the operation that goes first.
@@ -22,8 +29,11 @@ pub(crate) struct Tolls {
 /// Two forced operations that meet, and how much their order decides.
 #[derive(Clone, Copy)]
 pub(crate) struct Clash {
-    /// What its orders cost, as `weight` adds it up; never where one of them closes a cycle.
+    /// What its orders cost, as `weight` adds it up, the more the more orders on its resource
+    /// failed; never where one of them closes a cycle.
     pub weight: u64,
+    /// By how much they delay what they push, likewise.
+    pub delay: u64,
     pub meeting: Meeting,
     /// What its orders cost with all that they push, where that is known.
     pub tolls: Option<Tolls>,
@@ -37,9 +47,25 @@ pub(crate) fn weight(one: u64, other: u64) -> u64 {
         .saturating_add(dearer)
 }
 
+/// The same where so many orders on the resource failed. An order that leaves no plan still counts
+/// for more than all else.
+fn by_failures(weight: u64, failures: u64) -> u64 {
+    if weight >= MOST_DEARER {
+        return weight;
+    }
+    weight
+        .saturating_mul(EVEN.saturating_add(failures))
+        .min(MOST_DEARER - 1)
+}
+
+/// How much two orders delay that delay what they push by so much: little where one of them does.
+fn both_delays(there: u64, back: u64) -> u64 {
+    there.min(MOST_DELAY).saturating_mul(back.min(MOST_DELAY))
+}
+
 impl Tolls {
     /// By what it costs to have the one of two that meet go first, and the other.
-    pub(crate) fn of(meeting: &Meeting, one: u64, other: u64) -> Tolls {
+    fn of(meeting: &Meeting, one: u64, other: u64) -> Tolls {
         if one < other || (one == other && meeting.first() == meeting.one) {
             Tolls {
                 cheaper: meeting.one,
@@ -56,9 +82,41 @@ impl Tolls {
             }
         }
     }
+
+    /// How many of the two orders leave no plan that is wanted.
+    fn closed(&self) -> u64 {
+        if self.least == NEVER {
+            2
+        } else if self.most == NEVER {
+            1
+        } else {
+            0
+        }
+    }
 }
 
 impl Clash {
+    /// Two that meet, by what their orders push, where so many orders on their resource failed.
+    pub(crate) fn of(meeting: Meeting, pushed: Pushed, failures: u64) -> Clash {
+        let (there, back) = (pushed.there, pushed.back);
+        let tolls = Tolls::of(&meeting, there.toll, back.toll);
+        let delay = both_delays(there.delay, back.delay);
+        Clash {
+            weight: by_failures(weight(tolls.least, tolls.most), failures),
+            delay: delay.saturating_mul(failures.saturating_add(1)),
+            meeting,
+            tolls: Some(tolls),
+        }
+    }
+
+    /// How many of its orders are known to leave no plan that is wanted.
+    pub(crate) fn closed_orders(&self) -> u64 {
+        match &self.tolls {
+            Some(tolls) => tolls.closed(),
+            None => 0,
+        }
+    }
+
     /// When the later one of the two starts.
     fn later(&self) -> u64 {
         self.meeting.one_start.max(self.meeting.other_start)
@@ -68,6 +126,9 @@ impl Clash {
     pub(crate) fn is_before(&self, other: &Clash) -> bool {
         if self.weight != other.weight {
             return self.weight > other.weight;
+        }
+        if self.delay != other.delay {
+            return self.delay > other.delay;
         }
         if self.later() != other.later() {
             return self.later() < other.later();

@@ -1,6 +1,6 @@
 use crate::asking::Asking;
-use crate::clash::{Clash, Tolls, dead_weight, first_of, own_weight, weight};
-use crate::meetings::{Meeting, Meetings, Met};
+use crate::clash::{Clash, dead_weight, first_of, own_weight};
+use crate::meetings::{Meeting, Meetings, Met, Pushed};
 use crate::pusher::Pusher;
 use crate::seeker::Seeker;
 use crate::spots::NEVER;
@@ -107,27 +107,23 @@ impl Clashes {
         self.asking.begin(view)
     }
 
-    /// What the orders of two that meet cost with all that they push, by what is known of it or by
-    /// a look.
-    fn tolls(&mut self, view: View, met: &mut Met) -> Tolls {
-        let pushed = match met.pushed_within(view.ages, view.room) {
+    /// What the orders of two that meet do with all that they push, by what is known of it or by a
+    /// look.
+    fn pushed(&mut self, view: View, met: &mut Met) -> Pushed {
+        match met.pushed_within(view.ages, view.room) {
             Some(pushed) => pushed,
             None => {
                 met.pushed = self.pusher.pushed(view, &met.meeting);
                 met.pushed
             }
-        };
-        Tolls::of(&met.meeting, pushed.there, pushed.back)
+        }
     }
 
     /// Looks at the clash of two that meet, by tolls with all that they push.
     fn take_pushed(&mut self, view: View, met: &mut Met) {
-        let tolls = self.tolls(view, met);
-        let clash = Clash {
-            weight: weight(tolls.least, tolls.most),
-            meeting: met.meeting,
-            tolls: Some(tolls),
-        };
+        let pushed = self.pushed(view, met);
+        let failures = view.failures.of_resource(met.meeting.resource);
+        let clash = Clash::of(met.meeting, pushed, failures);
         self.first = first_of(self.first, clash);
     }
 
@@ -135,6 +131,7 @@ impl Clashes {
     fn take_timed(&mut self, view: View, met: &mut Met) {
         let clash = Clash {
             weight: dead_weight(view, met),
+            delay: 0,
             meeting: met.meeting,
             tolls: None,
         };
@@ -179,6 +176,7 @@ impl Clashes {
         self.few.clear();
         self.first = Some(Clash {
             weight: NEVER,
+            delay: 0,
             meeting,
             tolls: None,
         });

@@ -8,6 +8,9 @@ use disp_model::Memory;
 use route_sets::Routes;
 use std::alloc::Global;
 
+/// A fork counts so often where none of its ways is free, half as often where one is, and so on.
+const NONE_FREE: u64 = 64;
+
 /// A fork, and what was found of its ways.
 #[derive(Clone, Copy)]
 pub(crate) struct Fork {
@@ -20,16 +23,26 @@ pub(crate) struct Fork {
     /// hold then.
     pub free: u32,
     pub start: u64,
+    /// How many decisions of its train failed, where forks of several trains are compared.
+    pub failures: u64,
 }
 
 impl Fork {
+    /// How much hangs on which way is taken: what the ways differ by, the more the more decisions
+    /// of the train failed, and the less the more ways are free.
+    fn weight(&self) -> u64 {
+        let failures = self.failures.saturating_add(1);
+        let whole = self.spread.saturating_add(1).saturating_mul(failures);
+        whole.saturating_mul(NONE_FREE) / u64::from(self.free).saturating_add(1)
+    }
+
     /// Whether it comes before another.
     fn is_before(&self, other: &Fork) -> bool {
         if self.live != other.live {
             return self.live < other.live;
         }
-        if self.spread != other.spread {
-            return self.spread > other.spread;
+        if self.weight() != other.weight() {
+            return self.weight() > other.weight();
         }
         if self.free != other.free {
             return self.free < other.free;
@@ -64,6 +77,7 @@ fn fork_at(
         spread: 0,
         free: 0,
         start: spot.start,
+        failures: 0,
     };
     let Some(next) = routes.rows().get(spot.row as usize) else {
         return fork;
@@ -290,7 +304,8 @@ impl Forks {
                 fork
             };
             if let Some(fork) = fork {
-                found = first_of(found, fork);
+                let failures = view.failures.of_train(train);
+                found = first_of(found, Fork { failures, ..fork });
             }
         }
         found

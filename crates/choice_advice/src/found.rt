@@ -1,7 +1,7 @@
 ghost use Rattle.std.specs.Prelude.{◌≡◌};
 
 use crate::adviser::Advice;
-use crate::clash::{Clash, Tolls};
+use crate::clash::Clash;
 use crate::clashes::{By, Care, Clashes};
 use crate::facts::Facts;
 use crate::forks::{Fork, Forks};
@@ -24,9 +24,8 @@ pub(crate) struct Found {
     crossings: Crossings,
     ways: Ways,
     seeker: Seeker,
-    /// What the orders of the clash that came first cost with all that they push, where that is
-    /// known.
-    pub tolls: Option<Tolls>,
+    /// The clash that came first, where one was looked for.
+    pub clash: Option<Clash>,
 }
 
 impl Found {
@@ -46,7 +45,7 @@ impl Found {
             crossings: Crossings::new(alloc, count, trains)?,
             ways: Ways::new(alloc, count)?,
             seeker: Seeker::new(alloc, count)?,
-            tolls: None,
+            clash: None,
         })
     }
 
@@ -86,7 +85,7 @@ impl Found {
     fn first_clash(&mut self, view: View, by: By, touching: bool) -> Result<Option<Clash>, Memory> {
         let (seeker, meetings) = (&mut self.seeker, &mut self.meetings);
         let clash = self.clashes.find(view, seeker, meetings, by, touching)?;
-        self.tolls = clash.and_then(|clash| clash.tolls);
+        self.clash = clash;
         Ok(clash)
     }
 

@@ -11,6 +11,9 @@ use std::alloc::Global;
 /// How often a forced operation counts, where others count once.
 const FORCED: u64 = 8;
 
+/// How often the crowd counts, where a decision that failed counts once.
+const CROWD: u64 = 16;
+
 /// An operation that some allowed routes have and others have not, and how much else may be held
 /// while it is run.
 #[derive(Clone, Copy)]
@@ -18,13 +21,22 @@ pub(crate) struct Crossing {
     pub number: u32,
     pub crowd: u64,
     pub start: u64,
+    /// How many decisions of its train failed, where crossings of several trains are compared.
+    pub failures: u64,
 }
 
 impl Crossing {
+    /// How much hangs on whether the operation is run.
+    fn weight(&self) -> u64 {
+        self.crowd
+            .saturating_mul(CROWD)
+            .saturating_add(self.failures)
+    }
+
     /// Whether it comes before another.
     fn is_before(&self, other: &Crossing) -> bool {
-        if self.crowd != other.crowd {
-            return self.crowd > other.crowd;
+        if self.weight() != other.weight() {
+            return self.weight() > other.weight();
         }
         if self.start != other.start {
             return self.start < other.start;
@@ -60,6 +72,7 @@ fn crossing_at(view: View, number: u32, spot: Spot) -> Crossing {
         number,
         crowd,
         start: spot.start,
+        failures: 0,
     }
 }
 
@@ -285,6 +298,11 @@ impl Crossings {
             if layered.get(train as usize) == Some(&true) {
                 let routes = view.graph.routes(train);
                 if let Some(crossing) = self.of_routes(view, routes, train) {
+                    let failures = view.failures.of_train(train);
+                    let crossing = Crossing {
+                        failures,
+                        ..crossing
+                    };
                     found = first_of(found, crossing);
                 }
             }

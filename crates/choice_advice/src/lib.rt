@@ -13,6 +13,7 @@ mod clash;
 mod clashes;
 mod course;
 mod facts;
+mod failures;
 mod forks;
 mod found;
 mod holders;

@@ -56,13 +56,56 @@ impl Asked {
     pub(crate) const NOTHING: Asked = Asked { turn: 0, arcs: 0 };
 }
 
-/// What the two orders of two that meet cost with all that they push, as long as the trains that
+/// What one order of two that meet does with all that it pushes.
+#[derive(Clone, Copy)]
+pub(crate) struct Push {
+    /// What it costs more: never where that is as much as the room.
+    pub toll: u64,
+    /// By how much later the operations start that it pushes, in sum, as far as it was looked.
+    pub delay: u64,
+}
+
+impl Push {
+    /// Nothing is pushed.
+    pub(crate) const NOTHING: Push = Push { toll: 0, delay: 0 };
+
+    /// It leaves no plan that is wanted.
+    const CLOSED: Push = Push {
+        toll: NEVER,
+        delay: 0,
+    };
+
+    /// The same where it leaves no plan that is wanted.
+    pub(crate) fn closed(&self) -> Push {
+        Push {
+            toll: NEVER,
+            ..*self
+        }
+    }
+
+    /// The same in a room.
+    fn within(&self, room: u64) -> Push {
+        if self.toll < room {
+            *self
+        } else {
+            self.closed()
+        }
+    }
+
+    /// Pushes one more operation, which costs so much more and starts so much later.
+    pub(crate) fn add(&mut self, rise: u64, delay: u64) {
+        self.toll = self.toll.saturating_add(rise);
+        self.delay = self.delay.saturating_add(delay);
+    }
+}
+
+/// What the two orders of two that meet do with all that they push, as long as the trains that
 /// this depends on are as they were.
 #[derive(Clone, Copy)]
 pub(crate) struct Pushed {
-    /// Where the one goes first, and where the other does: never where that is as much as the room.
-    pub there: u64,
-    pub back: u64,
+    /// Where the one goes first, and where the other does.
+    pub there: Push,
+    pub back: Push,
     pub room: u64,
     /// The sets of these trains.
     pub sets: u64,
@@ -73,8 +116,8 @@ pub(crate) struct Pushed {
 impl Pushed {
     /// Nothing was found, in no room.
     const NOTHING: Pushed = Pushed {
-        there: NEVER,
-        back: NEVER,
+        there: Push::CLOSED,
+        back: Push::CLOSED,
         room: 0,
         sets: 0,
         turn: 0,
@@ -82,15 +125,15 @@ impl Pushed {
 
     /// Whether that is known in a room.
     fn is_known(&self, ages: &Ages, room: u64) -> bool {
-        (room <= self.room || self.there.max(self.back) < NEVER)
+        (room <= self.room || self.there.toll.max(self.back.toll) < NEVER)
             && ages.are_as_at(self.sets, self.turn)
     }
 
     /// The same in a room.
     fn within(&self, room: u64) -> Pushed {
         Pushed {
-            there: if self.there < room { self.there } else { NEVER },
-            back: if self.back < room { self.back } else { NEVER },
+            there: self.there.within(room),
+            back: self.back.within(room),
             ..*self
         }
     }
@@ -114,7 +157,7 @@ impl Met {
         spots.is_as_at(self.one_train, turn) && spots.is_as_at(self.other_train, turn)
     }
 
-    /// What its orders cost with all that they push in a room, where that is known.
+    /// What its orders do with all that they push in a room, where that is known.
     pub(crate) fn pushed_within(&self, ages: &Ages, room: u64) -> Option<Pushed> {
         if self.pushed.is_known(ages, room) {
             Some(self.pushed.within(room))

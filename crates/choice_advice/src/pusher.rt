@@ -1,5 +1,5 @@
 use crate::facts::Facts;
-use crate::meetings::{Meeting, Pushed};
+use crate::meetings::{Meeting, Push, Pushed};
 use crate::queue::Queue;
 use crate::spots::{NEVER, length_of};
 use crate::view::View;
@@ -7,8 +7,8 @@ use disp_model::Memory;
 use incremental_paths::Paths;
 use std::alloc::Global;
 
-/// How many operations push on at most in a look: beyond so many it would take long, and hardly ever
-/// changes what is picked.
+/// How many operations push on at most in a look: beyond so many it would take long, and hardly
+/// ever changes what is picked.
 const MOST_PUSHED: usize = 256;
 
 /// When an operation starts that is pushed, and in which look it was.
@@ -29,13 +29,13 @@ pub(crate) struct Pusher {
     waiting: Queue,
 }
 
-/// What an operation that is pushed to a time costs more; never where it may not start so late.
-fn rise_of(view: View, number: u32, time: u64) -> u64 {
-    if !view.facts.matters(number) {
+/// What an operation costs more that is pushed from a start to a time; never where it may not start
+/// so late.
+fn rise_of(facts: &Facts, number: u32, start: u64, time: u64) -> u64 {
+    if !facts.matters(number) {
         return 0;
     }
-    let start = length_of(view.graph.paths(), number);
-    view.facts.rise(number, start, time).unwrap_or(NEVER)
+    facts.rise(number, start, time).unwrap_or(NEVER)
 }
 
 impl Pusher {
@@ -98,40 +98,41 @@ impl Pusher {
         }
     }
 
-    /// How much more all trains cost where an operation starts only at a time; never where that
-    /// leaves no plan that is wanted, where one of them may not start so late, or where that pushes
-    /// an operation that is to come before. Where very many are pushed it counts the first of them.
-    fn toll(&mut self, view: View, number: u32, time: u64, before: u32) -> u64 {
+    /// What it does to have an operation start only at a time: it leaves no plan that is wanted
+    /// where an operation may not start so late, or where that pushes one that is to come before.
+    /// Where very many are pushed it counts the first of them.
+    fn pushed_to(&mut self, view: View, number: u32, time: u64, before: u32) -> Push {
         let paths = view.graph.paths();
         self.look = self.look.saturating_add(1);
         self.waiting.clear();
         self.push(view.facts, paths, number, time);
-        let mut toll = 0u64;
+        let mut push = Push::NOTHING;
         for _ in 0..MOST_PUSHED {
             let Some(number) = self.waiting.take() else {
-                return toll;
+                return push;
             };
             if number == before {
-                return NEVER;
+                return push.closed();
             }
-            let time = self.time(number);
-            toll = toll.saturating_add(rise_of(view, number, time));
-            if toll >= view.room {
-                return NEVER;
+            let (start, time) = (length_of(paths, number), self.time(number));
+            let rise = rise_of(view.facts, number, start, time);
+            push.add(rise, time.saturating_sub(start));
+            if push.toll >= view.room {
+                return push.closed();
             }
             self.push_on(view, number, time);
         }
-        toll
+        push
     }
 
-    /// What the two orders of two that meet cost with all that they push.
+    /// What the two orders of two that meet do with all that they push.
     pub(crate) fn pushed(&mut self, view: View, meeting: &Meeting) -> Pushed {
         self.sets = 0;
         let (one, other) = (meeting.one, meeting.other);
         let behind = view.spots.at(one).behind;
-        let there = self.toll(view, other, meeting.one_until, behind);
+        let there = self.pushed_to(view, other, meeting.one_until, behind);
         let behind = view.spots.at(other).behind;
-        let back = self.toll(view, one, meeting.other_until, behind);
+        let back = self.pushed_to(view, one, meeting.other_until, behind);
         Pushed {
             there,
             back,

@@ -1,5 +1,6 @@
 use crate::ages::Ages;
 use crate::facts::Facts;
+use crate::failures::Failures;
 use crate::holders::Holders;
 use crate::links::Links;
 use crate::seeker::Seeker;
@@ -17,6 +18,7 @@ pub(crate) struct View<'a> {
     pub holders: &'a Holders,
     pub links: &'a Links,
     pub ages: &'a Ages,
+    pub failures: &'a Failures,
     /// An order that costs so much more, or more, leaves no plan that is wanted.
     pub room: u64,
 }

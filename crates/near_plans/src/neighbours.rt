@@ -26,8 +26,8 @@ const ROUNDS_FOR_MORE: usize = 24;
 /// After so many of these it ends.
 const ROUNDS_IN_VAIN: usize = 192;
 
-/// For so many trains of a problem one round is made in a region, since taking over the others takes
-/// the longer the more there are,
+/// For so many trains of a problem one round is made in a region, since taking over the others
+/// takes the longer the more there are,
 const TRAINS_FOR_ROUND: usize = 12;
 
 /// but no more than these.
@@ -106,9 +106,9 @@ impl Climb {
     }
 }
 
-/// Looks for the cheapest plan below the node of a graph, in so many nodes at most, if it is cheaper
-/// than this one. It goes down to the child that costs least, since along the plan it would find
-/// that one again.
+/// Looks for the cheapest plan below the node of a graph, in so many nodes at most, if it is
+/// cheaper than this one. It goes down to the child that costs least, since along the plan it
+/// would find that one again.
 fn look_for_cheaper(
     alloc: Global,
     problem: &Problem,

@@ -1,7 +1,7 @@
 use disp_model::Problem;
 
-/// How much is done for a problem: the more trains it has, the more, between two limits, but the less
-/// the more operations it has, since each step takes the longer.
+/// How much is done for a problem: the more trains it has, the more, between two limits, but the
+/// less the more operations it has, since each step takes the longer.
 #[derive(Clone, Copy)]
 pub(crate) struct Amount {
     /// For each train.

@@ -123,11 +123,12 @@ fn dive_down(
 }
 
 /// Branches at the node of a graph, follows one child and branches there, and so on, at most so
-/// often. The child that the target takes is followed, or else the one that costs least, or another
-/// where a dive of more than a few branches sees that one to be closed; the others become leaves. It ends earlier at a node that is dead, or whose bound is not below the best
-/// cost, or where nothing is picked. Choices are picked, and bounds reckoned, by the rule of the
-/// reckoning. The graph is as before, what is known of shares holds for its node, and what the
-/// guide keeps is of the problem.
+/// often. The child that the target takes is followed, or else the one that costs least, or
+/// another where a dive of more than a few branches sees that one to be closed; the others become
+/// leaves. It ends earlier at a node that is dead, or whose bound is not below the best cost, or
+/// where nothing is picked. Choices are picked, and bounds reckoned, by the rule of the reckoning.
+/// The graph is as before, what is known of shares holds for its node, and what the guide keeps is
+/// of the problem.
 ///
 /// # Errors
 ///

@@ -3,6 +3,7 @@ ghost use Rattle.disp_model.specs.declared.problem.Problem.{Problem as ProblemOf
 ghost use Rattle.tree_dives.specs.Guides.{GuidesIn};
 
 use disp_model::{Memory, Problem};
+use event_graph::Graph;
 use first_overlaps::KnownSpans;
 use free_choices::{Adviser, Care, Strategy};
 use std::alloc::Global;
@@ -68,6 +69,15 @@ impl Guide {
         ensures { (problem : ProblemOf) → GuidesIn problem self.old → GuidesIn problem self.new }
     {
         self.adviser.lose();
+    }
+
+    /// Notes that the node of a graph is closed: it leaves no plan that is wanted.
+    pub(crate) fn count_closed(&mut self, graph: &Graph)
+        ensures { (problem : ProblemOf) → GuidesIn problem self.old → GuidesIn problem self.new }
+    {
+        if let Some(decision) = graph.decisions().last() {
+            self.adviser.count_failure(*decision);
+        }
     }
 
     /// Counts a dive. Each of the two strategies gives way to the other after a number of dives.

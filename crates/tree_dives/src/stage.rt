@@ -44,8 +44,8 @@ fn is_below(bound: u64, best: Option<u64>) -> bool
     }
 }
 
-/// How much more the best plan costs than a bound. A plan that costs so much more than the bound, or
-/// more still, is not better.
+/// How much more the best plan costs than a bound. A plan that costs so much more than the bound,
+/// or more still, is not better.
 fn room_above(bound: u64, best: Option<u64>) -> u64 {
     match best {
         Some(cost) => cost.saturating_sub(bound),
@@ -98,10 +98,12 @@ pub(crate) fn stage_of(
     ensures stage { IfOk result (IsStageAt reckoning.now.rule best graph.old) }
 {
     let None = graph.late() else {
+        guide.count_closed(graph);
         return Ok(Stage::End(End::Closed));
     };
     let bound = reckoning.cost(alloc, problem, graph, known)?;
     if !is_below(bound, best) {
+        guide.count_closed(graph);
         return Ok(Stage::End(End::Closed));
     }
     let room = room_above(bound, best);
