@@ -15,7 +15,7 @@ use event_graph::Graph;
 use std::alloc::Global;
 
 /// The route of an operation, where it is open.
-fn tested_route(problem: &Problem, graph: &Graph, op: Op) -> Option<Choice>
+pub(crate) fn tested_route(problem: &Problem, graph: &Graph, op: Op) -> Option<Choice>
     requires { graph.now.problem ≡ problem.now }
     ensures { IfSome result (λ choice. IsPicked graph.now Free (Some choice)) }
 {
@@ -27,7 +27,13 @@ fn tested_route(problem: &Problem, graph: &Graph, op: Op) -> Option<Choice>
 }
 
 /// The order of two operations, where it is open since both hold the resource at a time.
-fn tested_order(problem: &Problem, graph: &Graph, a: Op, b: Op, resource: u32) -> Option<Choice>
+pub(crate) fn tested_order(
+    problem: &Problem,
+    graph: &Graph,
+    a: Op,
+    b: Op,
+    resource: u32,
+) -> Option<Choice>
     requires { graph.now.problem ≡ problem.now }
     ensures { IfSome result (λ choice. IsPicked graph.now Free (Some choice)) }
 {
@@ -40,7 +46,7 @@ fn tested_order(problem: &Problem, graph: &Graph, a: Op, b: Op, resource: u32) -
 
 /// The order of two operations, where it is open since one ends as the other starts, and something
 /// is to be picked since the routes part at another operation.
-fn tested_touch(
+pub(crate) fn tested_touch(
     problem: &Problem,
     graph: &Graph,
     a: Op,
@@ -61,7 +67,7 @@ fn tested_touch(
 }
 
 /// Whether an operation is run, where that is open.
-fn tested_run(problem: &Problem, graph: &Graph, op: Op) -> Option<Choice>
+pub(crate) fn tested_run(problem: &Problem, graph: &Graph, op: Op) -> Option<Choice>
     requires { graph.now.problem ≡ problem.now }
     ensures { IfSome result (λ choice. IsPicked graph.now Free (Some choice)) }
 {
@@ -90,17 +96,24 @@ fn tested(problem: &Problem, graph: &Graph, advice: Advice) -> Option<Choice>
     }
 }
 
+/// The first operation of the first train whose routes part, at which they do.
+pub(crate) fn first_fork(problem: &Problem, graph: &Graph) -> Option<Op>
+    requires { graph.now.problem ≡ problem.now }
+{
+    for train in 0..problem.trains.len() as u32 {
+        if let Some(op) = graph.routes(train).fork() {
+            return Some(Op { train, op });
+        }
+    }
+    None
+}
+
 /// The route at which those of the first train part that has more than one.
 fn first_route(problem: &Problem, graph: &Graph) -> Option<Choice>
     requires { graph.now.problem ≡ problem.now }
     ensures { IfSome result (λ choice. IsPicked graph.now Free (Some choice)) }
 {
-    for train in 0..problem.trains.len() as u32 {
-        if let Some(op) = graph.routes(train).fork() {
-            return tested_route(problem, graph, Op { train, op });
-        }
-    }
-    None
+    tested_route(problem, graph, first_fork(problem, graph)?)
 }
 
 /// The choice that an adviser names by a look at all choices, where there is one, it is open and

@@ -2,6 +2,7 @@ mod ahead;
 mod dives;
 mod leaves;
 mod parts;
+mod rehearsed;
 mod scenes;
 mod script;
 mod searches;

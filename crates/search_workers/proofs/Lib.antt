@@ -3,3 +3,4 @@ pub mod Growths
 pub mod GoingOn
 pub mod Handing
 pub mod Rooted
+pub mod Keeping

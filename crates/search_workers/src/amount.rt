@@ -15,7 +15,7 @@ pub(crate) struct Amount {
 }
 
 /// How many operations a problem has.
-fn count_operations(problem: &Problem) -> u64 {
+pub(crate) fn count_operations(problem: &Problem) -> u64 {
     let mut count = 0u64;
     for train in problem.trains.as_slice() {
         count = count.saturating_add(train.len() as u64);

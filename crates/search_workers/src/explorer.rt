@@ -9,22 +9,37 @@ ghost use Rattle.search_workers.specs.Grown.{IsGrownOf};
 use crate::growth::{Growth, grow};
 use crate::lookout::{Look, Lookout};
 use crate::scout::Scout;
-use disp_model::{Fixing, Memory, Plan, Problem};
+use crate::walk::go_to;
+use disp_model::{Decision, Fixing, Leaf, Memory, Plan, Problem, Rule};
 use event_graph::Graph;
 use near_plans::{Ahead, look_ahead};
 use node_leaves::Reckoning;
 use open_nodes::Work;
+use rehearsals::{Rehearsed, rehearse};
 use share_bound::KnownShares;
 use std::alloc::Global;
-use tree_dives::rewind_knowing;
+use train_insertion::Target;
+use tree_dives::{Guide, Script, rewind_knowing};
 
 /// A graph of an edition, which is moved from work to work, what is known of shares where it is,
-/// and what guides its moves.
+/// what guides its moves, and a plan that is to be published.
 #[derive(Drop)]
 pub struct Explorer<'p> {
     pub graph: Graph<'p>,
     pub known: KnownShares,
     scout: Scout,
+    /// What guides rehearsals, which count what fails by themselves.
+    rehearser: Guide,
+    found: Option<Plan>,
+}
+
+/// What is known after a rehearsal.
+#[derive(Clone, Copy)]
+struct Tried {
+    /// What the best plan costs, if there is one.
+    best: Option<u64>,
+    /// Whether a script is followed now.
+    scripted: bool,
 }
 
 impl<'p> Explorer<'p> {
@@ -48,15 +63,19 @@ impl<'p> Explorer<'p> {
     {
         let scout = Scout::new(alloc, problem, fixings, lookout, order)?;
         let known = KnownShares::new(alloc, problem)?;
+        let rehearser = Guide::new(alloc, problem, Target::none(alloc))?;
         Ok(Explorer {
             graph,
             known,
             scout,
+            rehearser,
+            found: None,
         })
     }
 
-    /// Looks for plans that are better than the target, from the root, if that is due. A plan that
-    /// is found is valid, and the target from then on.
+    /// Gives a plan that was found by a rehearsal, or looks for plans that are better than the
+    /// target, from the root, if that is due. A plan that is found is valid, and the target from
+    /// then on.
     ///
     /// # Errors
     ///
@@ -69,6 +88,9 @@ impl<'p> Explorer<'p> {
         ensures ready { IsExplorerOf problem.now self.new }
         ensures plan { IfOk result (λ plan. IfSome plan (IsPlanAt self.old.graph)) }
     {
+        if let Some(plan) = self.found.take() {
+            return Ok(Some(plan));
+        }
         let Some(Look { draws, nodes }) = self.scout.lookout.next() else {
             return Ok(None);
         };
@@ -80,14 +102,140 @@ impl<'p> Explorer<'p> {
         Ok(plan)
     }
 
-    /// Grows the leaf of a work, by a dive from its node, where what branches costs less than this
-    /// best. A plan that is found costs less than that, and is the target from then on. Where the
-    /// node is not reached, a leaf shows that it is dead.
-    ///
-    /// # Errors
-    ///
-    /// `Memory` where memory runs out.
-    pub fn grow(
+    /// Rehearses the search below where the graph is, for plans that cost less than this.
+    fn rehearse_here(
+        &mut self,
+        alloc: Global,
+        problem: &Problem,
+        reckoning: &Reckoning,
+        best: Option<u64>,
+        nodes: u32,
+    ) -> Result<Rehearsed, Memory>
+        requires problem { self.old.graph.problem ≡ problem.now }
+        requires edition { IsOfEdition self.old.graph }
+        requires reckons { ReckonsFor problem.now reckoning.now }
+        requires ready { IsExplorerOf problem.now self.old }
+        ensures ready { IsExplorerOf problem.now self.new }
+        ensures beside { IsBeside self.old.graph self.new.graph }
+        ensures plan { IfOk result
+            (λ rehearsed. IfSome rehearsed.plan (IsPlanAt self.new.graph)) }
+    {
+        rehearse(
+            alloc,
+            problem,
+            reckoning,
+            &mut self.graph,
+            &mut self.known,
+            &mut self.rehearser,
+            self.scout.guide.target(),
+            best,
+            nodes,
+        )
+    }
+
+    /// Keeps a plan, if there is one, until it is published. It is the target from then on.
+    fn keep(&mut self, alloc: Global, problem: &Problem, plan: Option<Plan>)
+        requires ready { IsExplorerOf problem.now self.old }
+        requires plan { IfSome plan (IsPlanAt self.old.graph) }
+        ensures ready { IsExplorerOf problem.now self.new }
+        ensures same { self.new.graph ≡ self.old.graph }
+    {
+        let Some(plan) = plan else {
+            return;
+        };
+        self.scout.aim_at(alloc, problem, &plan);
+        self.found = Some(plan);
+    }
+
+    /// Follows a script, if there is one. Says whether there is.
+    fn follow(&mut self, problem: &Problem, script: Option<Script>) -> Result<bool, Memory>
+        requires ready { IsExplorerOf problem.now self.old }
+        ensures ready { IsExplorerOf problem.now self.new }
+        ensures same { self.new.graph ≡ self.old.graph }
+    {
+        let Some(script) = script else {
+            return Ok(false);
+        };
+        let _problem = problem;
+        self.scout.guide.follow(script)?;
+        Ok(true)
+    }
+
+    /// Rehearses the search below where the graph is, for plans that cost less than this. A plan
+    /// that is found is kept, and is the target from then on.
+    fn try_on(
+        &mut self,
+        alloc: Global,
+        problem: &Problem,
+        reckoning: &Reckoning,
+        best: Option<u64>,
+        nodes: u32,
+    ) -> Result<Tried, Memory>
+        requires problem { self.old.graph.problem ≡ problem.now }
+        requires edition { IsOfEdition self.old.graph }
+        requires reckons { ReckonsFor problem.now reckoning.now }
+        requires ready { IsExplorerOf problem.now self.old }
+        ensures ready { IsExplorerOf problem.now self.new }
+        ensures beside { IsBeside self.old.graph self.new.graph }
+    {
+        let rehearsed = self.rehearse_here(alloc, problem, reckoning, best, nodes)?;
+        let Rehearsed { plan, best, script } = rehearsed;
+        self.keep(alloc, problem, plan);
+        let scripted = self.follow(problem, script)?;
+        Ok(Tried { best, scripted })
+    }
+
+    /// Moves the graph to the node of these decisions. Where one on the way is refused, gives the
+    /// leaf that shows it.
+    fn move_to(&mut self, problem: &Problem, decisions: &[Decision]) -> Result<Option<Leaf>, Memory>
+        requires ready { IsExplorerOf problem.now self.old }
+        ensures ready { IsExplorerOf problem.now self.new }
+        ensures beside { IsBeside self.old.graph self.new.graph }
+    {
+        let _problem = problem;
+        go_to(&mut self.graph, &mut self.known, decisions)
+    }
+
+    /// Rehearses the search below the leaf of a work, as often as is due, unless a script says
+    /// something of it.
+    fn prepare(
+        &mut self,
+        alloc: Global,
+        problem: &Problem,
+        reckoning: &Reckoning,
+        work: &Work,
+        best: Option<u64>,
+    ) -> Result<(), Memory>
+        requires problem { self.old.graph.problem ≡ problem.now }
+        requires edition { IsOfEdition self.old.graph }
+        requires reckons { ReckonsFor problem.now reckoning.now }
+        requires ready { IsExplorerOf problem.now self.old }
+        ensures ready { IsExplorerOf problem.now self.new }
+        ensures beside { IsBeside self.old.graph self.new.graph }
+    {
+        let decisions = work.decisions.as_slice();
+        if reckoning.rule == Rule::Fixed || self.scout.guide.is_scripted(decisions) {
+            return Ok(());
+        }
+        let mut best = best;
+        for _ in 0..self.scout.lookout.trials.begin(decisions.len()) {
+            let Some(nodes) = self.scout.lookout.trials.next() else {
+                return Ok(());
+            };
+            let None = self.move_to(problem, decisions)? else {
+                return Ok(());
+            };
+            let tried = self.try_on(alloc, problem, reckoning, best, nodes)?;
+            if tried.scripted {
+                return Ok(());
+            }
+            best = tried.best;
+        }
+        Ok(())
+    }
+
+    /// Grows the leaf of a work by a dive from its node.
+    fn dive_from(
         &mut self,
         alloc: Global,
         problem: &Problem,
@@ -117,5 +265,35 @@ impl<'p> Explorer<'p> {
         );
         self.scout.note_growth(alloc, problem, &growth);
         growth
+    }
+
+    /// Grows the leaf of a work, by a dive from its node, where what branches costs less than this
+    /// best. Before, the search below is rehearsed where that is due. A plan that is found costs
+    /// less than that, and is the target from then on. Where the node is not reached, a leaf shows
+    /// that it is dead.
+    ///
+    /// # Errors
+    ///
+    /// `Memory` where memory runs out.
+    pub fn grow(
+        &mut self,
+        alloc: Global,
+        problem: &Problem,
+        reckoning: &Reckoning,
+        work: &Work,
+        best: Option<u64>,
+    ) -> Result<Growth, Memory>
+        requires problem { self.old.graph.problem ≡ problem.now }
+        requires edition { IsOfEdition self.old.graph }
+        requires reckons { ReckonsFor problem.now reckoning.now }
+        requires ready { IsExplorerOf problem.now self.old }
+        ensures ready { IsExplorerOf problem.now self.new }
+        ensures beside { IsBeside self.old.graph self.new.graph }
+        ensures grown { IfOk result (IsGrownOf reckoning.now.rule
+            (node_at self.old.graph.problem self.old.graph.fixings work.now.decisions) best
+            work.now.allowance work.now.bound) }
+    {
+        self.prepare(alloc, problem, reckoning, work, best)?;
+        self.dive_from(alloc, problem, reckoning, work, best)
     }
 }

@@ -12,6 +12,7 @@ mod hand_in;
 mod lookout;
 mod scout;
 mod search;
+mod trials;
 mod turn;
 mod walk;
 

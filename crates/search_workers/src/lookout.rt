@@ -1,4 +1,5 @@
 use crate::amount::Amount;
+use crate::trials::Trials;
 use disp_model::Problem;
 
 /// At how many nodes one searcher of a problem looks at a time, at most.
@@ -47,6 +48,8 @@ pub struct Lookout {
     /// How many of them before the last look.
     before: u64,
     due: Due,
+    /// When the search is rehearsed.
+    pub(crate) trials: Trials,
 }
 
 /// A look that is due.
@@ -61,7 +64,7 @@ pub(crate) struct Look {
 impl Lookout {
     /// The lookout of a searcher at this place that looks at so many nodes at a time, at most.
     /// Where no branch is allowed it never looks.
-    fn of(place: u32, most: u32, budget: u32) -> Lookout {
+    fn of(place: u32, most: u32, budget: u32, trials: Trials) -> Lookout {
         let due = match budget {
             0 => Due::Never,
             _ => Due::First,
@@ -72,6 +75,7 @@ impl Lookout {
             grown: 0,
             before: 0,
             due,
+            trials,
         }
     }
 
@@ -79,12 +83,12 @@ impl Lookout {
     /// trains there are, the more it looks at a time, and the more searchers, the less.
     pub fn steady(problem: &Problem, place: u32, count: u32, budget: u32) -> Lookout {
         let most = NODES.of(problem).saturating_mul(2) / count.saturating_add(1).max(1);
-        Lookout::of(place, most, budget)
+        Lookout::of(place, most, budget, Trials::steady(problem, budget))
     }
 
     /// The lookout of a searcher at a place where changes may come: it is never away for long.
     pub fn prompt(place: u32, budget: u32) -> Lookout {
-        Lookout::of(place, PROMPT_NODES, budget)
+        Lookout::of(place, PROMPT_NODES, budget, Trials::prompt(budget))
     }
 
     /// Counts so many nodes that were grown.
@@ -120,8 +124,9 @@ impl Lookout {
         u32::try_from(grown).unwrap_or(u32::MAX).min(self.most)
     }
 
-    /// Looks no more.
+    /// Looks no more, and rehearses no more.
     pub(crate) fn end(&mut self) {
         self.due = Due::Never;
+        self.trials.end();
     }
 }

@@ -63,7 +63,7 @@ impl Scout {
     }
 
     /// Makes a plan the target, where there is memory for it.
-    fn aim_at(&mut self, alloc: Global, problem: &Problem, plan: &Plan)
+    pub(crate) fn aim_at(&mut self, alloc: Global, problem: &Problem, plan: &Plan)
         requires { GuidesIn problem.now self.old.guide }
         ensures { GuidesIn problem.now self.new.guide }
     {

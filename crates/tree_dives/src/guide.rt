@@ -2,10 +2,11 @@ ghost use Rattle.std.specs.Prelude.{IfOk};
 ghost use Rattle.disp_model.specs.declared.problem.Problem.{Problem as ProblemOf};
 ghost use Rattle.tree_dives.specs.Guides.{GuidesIn};
 
-use disp_model::{Memory, Problem};
+use crate::script::Script;
+use disp_model::{Decision, Memory, Problem};
 use event_graph::Graph;
 use first_overlaps::KnownSpans;
-use free_choices::{Adviser, Care, Strategy};
+use free_choices::{Adviser, Care, Orders, Strategy};
 use std::alloc::Global;
 use train_insertion::Target;
 
@@ -18,14 +19,19 @@ const TIME_DIVES: u32 = 64;
 /// After so many by time where that comes first.
 const TIME_DIVES_FIRST: u32 = 4096;
 
+/// So many scripts are kept, at most.
+const MOST_SCRIPTS: usize = 8;
+
 /// Advice for dives, on which nothing rests: which child is followed, and under the free rule which
-/// choice is taken. With it, what the fixed rule keeps from pick to pick of when operations ran.
+/// choice is taken: the one that a script says, where one says one that is open, and else one that an
+/// adviser names. With it, what the fixed rule keeps from pick to pick of when operations ran.
 #[derive(Drop)]
 pub struct Guide {
     pub(crate) target: Target,
     pub(crate) adviser: Adviser,
     pub(crate) strategy: Strategy,
     pub(crate) spans: KnownSpans,
+    pub(crate) scripts: Vec<Script>,
     /// How many dives the strategy has left.
     left: u32,
 }
@@ -40,6 +46,7 @@ impl Guide {
             adviser: Adviser::new(alloc, problem, Care::Thorough)?,
             strategy: Strategy::Toll,
             spans: KnownSpans::new(alloc, problem)?,
+            scripts: Vec::new(alloc),
             left: TOLL_DIVES,
         })
     }
@@ -64,11 +71,47 @@ impl Guide {
         self.target = target;
     }
 
+    /// Has a script be followed. Where there are many the oldest is given up but for the first one,
+    /// which says most. Fails for memory alone.
+    pub fn follow(&mut self, script: Script) -> Result<(), Memory>
+        ensures { (problem : ProblemOf) → GuidesIn problem self.old → GuidesIn problem self.new }
+    {
+        if self.scripts.len() >= MOST_SCRIPTS {
+            let _oldest = self.scripts.remove(1);
+        }
+        self.scripts.push(script)?;
+        Ok(())
+    }
+
+    /// Whether a script says something of the node of these decisions.
+    pub fn is_scripted(&self, decisions: &[Decision]) -> bool {
+        self.scripts
+            .iter()
+            .any(|script| script.place_of(decisions).is_some())
+    }
+
+    /// By what the choices are taken.
+    pub fn strategy(&self) -> Strategy {
+        self.strategy
+    }
+
+    /// What is known of the two orders of the choice that was taken last.
+    pub fn orders(&self) -> Option<Orders> {
+        self.adviser.orders()
+    }
+
     /// Notes that the graph may have been moved to any node.
     pub(crate) fn begin(&mut self)
         ensures { (problem : ProblemOf) → GuidesIn problem self.old → GuidesIn problem self.new }
     {
         self.adviser.lose();
+    }
+
+    /// Notes that the graph may have been moved to any node that has as many of its decisions.
+    pub fn begin_behind(&mut self, depth: usize)
+        ensures { (problem : ProblemOf) → GuidesIn problem self.old → GuidesIn problem self.new }
+    {
+        self.adviser.lose_behind(depth);
     }
 
     /// Notes that the node of a graph is closed: it leaves no plan that is wanted.

@@ -4,7 +4,8 @@
 //! its allowance is spent, the child is dead or costs too much, or nothing is picked there, so that
 //! the earliest plan is valid. The other children become leaves with their bounds. The graph is as
 //! before then. Which child is followed, and under the free rule which open choice is taken, is
-//! advice of a guide, and nothing rests on it. With it the guide has what the fixed rule keeps from
+//! advice of a guide, and nothing rests on it: it may follow a script of choices that were thought
+//! out before. With it the guide has what the fixed rule keeps from
 //! pick to pick of when operations ran.
 #![tactic(auto)]
 
@@ -16,6 +17,7 @@ mod guide;
 mod leaves;
 mod prefer;
 mod rewinding;
+mod script;
 mod stage;
 
 pub use diving::dive;
@@ -23,4 +25,5 @@ pub use given::Dive;
 pub use guide::Guide;
 pub use prefer::preferred;
 pub use rewinding::{rewind, rewind_knowing};
-pub use stage::End;
+pub use script::{Below, Script};
+pub use stage::{End, Stage, stage_of};

@@ -1,4 +1,6 @@
-ghost use Rattle.std.specs.Prelude.{◌≡◌, ◌↔◌, IsTrue, IfOk};
+ghost use Rattle.std.specs.Prelude.{◌≡◌, ◌↔◌, IsTrue, IfOk, IfSome, Some};
+ghost use Rattle.disp_model.specs.declared.settings.Rule.TheVariants.{Free};
+ghost use Rattle.disp_model.specs.Earliest.{IsPicked};
 ghost use Rattle.disp_model.specs.Nodes.{IsDead};
 ghost use Rattle.free_choices.specs.Picks.{IsPickBy};
 ghost use Rattle.node_leaves.specs.Reckoned.{ReckonsFor};
@@ -8,10 +10,11 @@ ghost use Rattle.tree_dives.specs.Stages.{IsStageAt};
 ghost use Rattle.share_bound.specs.Known.{HoldFor};
 
 use crate::guide::Guide;
+use crate::script::Script;
 use branch_rules::{Pick, pick_fixed_by};
 use disp_model::{Choice, Memory, Plan, Problem, Rule};
 use event_graph::Graph;
-use free_choices::{Strategy, pick_free};
+use free_choices::{Strategy, pick_free, pick_said};
 use node_leaves::Reckoning;
 use share_bound::KnownShares;
 use std::alloc::Global;
@@ -29,7 +32,7 @@ pub enum End {
 
 /// What comes next at a node.
 #[derive(Drop)]
-pub(crate) enum Stage {
+pub enum Stage {
     Branch(Choice),
     End(End),
 }
@@ -53,6 +56,60 @@ fn room_above(bound: u64, best: Option<u64>) -> u64 {
     }
 }
 
+/// At so many branches of a script, at most, is looked for one of which the choice is open.
+const MOST_PASSED: u32 = 16;
+
+/// The choice that a script says at the node of a graph, where it says one that is open and
+/// something is to be picked.
+fn said_in(problem: &Problem, graph: &Graph, script: &Script) -> Option<Choice>
+    requires { graph.now.problem ≡ problem.now }
+    ensures { IfSome result (λ choice. IsPicked graph.now Free (Some choice)) }
+{
+    let mut place = script.place_of(graph.decisions())?;
+    for _ in 0..MOST_PASSED {
+        let choice = script.choice(place)?;
+        if let Some(choice) = pick_said(problem, graph, choice) {
+            return Some(choice);
+        }
+        place = script.passed(place)?;
+    }
+    None
+}
+
+/// The same of the first of some scripts that says one.
+fn said(problem: &Problem, graph: &Graph, scripts: &[Script]) -> Option<Choice>
+    requires { graph.now.problem ≡ problem.now }
+    ensures { IfSome result (λ choice. IsPicked graph.now Free (Some choice)) }
+{
+    for script in scripts {
+        if let Some(choice) = said_in(problem, graph, script) {
+            return Some(choice);
+        }
+    }
+    None
+}
+
+/// What the free rule finds at the node of a graph, which is not dead.
+fn pick_open(
+    alloc: Global,
+    problem: &Problem,
+    graph: &Graph,
+    guide: &mut Guide,
+    strategy: Strategy,
+    room: u64,
+) -> Result<Pick, Memory>
+    requires node { graph.now.problem ≡ problem.now }
+    requires alive { IsDead graph.now → ⊥ }
+    requires guide { GuidesIn problem.now guide.old }
+    ensures guide { GuidesIn problem.now guide.new }
+    ensures picked { IfOk result (IsPickBy Free graph.now) }
+{
+    match said(problem, graph, guide.scripts.as_slice()) {
+        Some(choice) => Ok(Pick::Choice(choice)),
+        None => pick_free(alloc, problem, graph, &mut guide.adviser, strategy, room),
+    }
+}
+
 /// What a rule finds at the node of a graph, which is not dead. The graph is as before.
 fn pick(
     alloc: Global,
@@ -72,13 +129,13 @@ fn pick(
 {
     match rule {
         Rule::Fixed => pick_fixed_by(alloc, problem, graph, &mut guide.spans),
-        Rule::Free => pick_free(alloc, problem, graph, &mut guide.adviser, strategy, room),
+        Rule::Free => pick_open(alloc, problem, graph, guide, strategy, room),
     }
 }
 
 /// What comes next at the node of a graph, by the rule of the reckoning, and of the open choices by
 /// a strategy. The graph is as before.
-pub(crate) fn stage_of(
+pub fn stage_of(
     alloc: Global,
     problem: &Problem,
     reckoning: &Reckoning,

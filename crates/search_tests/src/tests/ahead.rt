@@ -16,7 +16,7 @@ use train_insertion::{Target, target};
 type Came = (Option<u128>, bool);
 
 /// What a plan costs, as the verifier says.
-fn cost_of(rt: &impl Abort, problem: &Problem, plan: &Plan) -> u128 {
+pub(crate) fn cost_of(rt: &impl Abort, problem: &Problem, plan: &Plan) -> u128 {
     match verify(problem, &[], plan, None) {
         Ok(cost) => cost,
         Err(_) => panic!(rt; "the plan is not valid"),

@@ -1,0 +1,116 @@
+use disp_model::{Choice, Decision, Memory};
+use std::alloc::Global;
+
+/// A child of a scripted branch that branches too.
+#[derive(Clone, Copy)]
+pub struct Below {
+    /// The decision that leads to it.
+    pub decision: Decision,
+    /// Where its branch stands.
+    pub place: usize,
+}
+
+/// What a script says of a node.
+#[derive(Drop)]
+struct Branch {
+    choice: Choice,
+    below: Vec<Below>,
+}
+
+/// Which choices to take from a node down: a tree of branches that was thought out before. It is
+/// advice, and nothing rests on it.
+#[derive(Drop)]
+pub struct Script {
+    /// The decisions of the node where it begins.
+    above: Vec<Decision>,
+    branches: Vec<Branch>,
+    /// Where the branch of that node stands.
+    first: Option<usize>,
+}
+
+/// Whether a decision is one of those between which a choice is.
+fn is_between(choice: Choice, decision: Decision) -> bool {
+    match (choice, decision) {
+        (Choice::Route(at), Decision::Go { op, .. }) => at == op,
+        (Choice::Order(one, other), Decision::First { a, b }) => {
+            (a == one && b == other) || (a == other && b == one)
+        }
+        (Choice::Run(at), Decision::Run(op)) => at == op,
+        (Choice::Run(at), Decision::Skip(op)) => at == op,
+        _ => false,
+    }
+}
+
+impl Branch {
+    /// Where the branch behind a decision stands.
+    fn behind(&self, decision: Decision) -> Option<usize> {
+        for below in self.below.iter() {
+            if below.decision == decision {
+                return Some(below.place);
+            }
+        }
+        None
+    }
+}
+
+impl Script {
+    /// A script that says nothing yet of what is below the node of these decisions. Fails for memory
+    /// alone.
+    pub fn new(alloc: Global, above: &[Decision]) -> Result<Script, Memory> {
+        Ok(Script {
+            above: Vec::from_slice(alloc, above)?,
+            branches: Vec::new(alloc),
+            first: None,
+        })
+    }
+
+    /// Adds a branch of which these children branch too, and gives its place. Fails for memory
+    /// alone.
+    pub fn add(&mut self, choice: Choice, below: Vec<Below>) -> Result<usize, Memory> {
+        let place = self.branches.len();
+        self.branches.push(Branch { choice, below })?;
+        Ok(place)
+    }
+
+    /// Has the script begin with the branch at a place.
+    pub fn begin_at(&mut self, place: Option<usize>) {
+        self.first = place;
+    }
+
+    /// The choice of the branch at a place.
+    pub(crate) fn choice(&self, place: usize) -> Option<Choice> {
+        Some(self.branches.get(place)?.choice)
+    }
+
+    /// The branch that comes next where the choice of the one at a place is not open.
+    pub(crate) fn passed(&self, place: usize) -> Option<usize> {
+        let branch = self.branches.get(place)?;
+        Some(branch.below.first()?.place)
+    }
+
+    /// The branch to which a decision leads from the one at a place. What is not between its
+    /// choice's decisions was taken where that was not open.
+    fn step(&self, place: usize, decision: Decision) -> Option<usize> {
+        let mut place = place;
+        for _ in 0..self.branches.len() {
+            let branch = self.branches.get(place)?;
+            if let Some(next) = branch.behind(decision) {
+                return Some(next);
+            }
+            if is_between(branch.choice, decision) {
+                return None;
+            }
+            place = branch.below.first()?.place;
+        }
+        None
+    }
+
+    /// Where the branch of the node of these decisions stands, if the script says something of it.
+    pub(crate) fn place_of(&self, decisions: &[Decision]) -> Option<usize> {
+        let mut place = self.first?;
+        for decision in decisions.strip_prefix(self.above.as_slice())? {
+            place = self.step(place, *decision)?;
+        }
+        Some(place)
+    }
+}
