@@ -1,4 +1,4 @@
-use crate::reasons::Reasons;
+use conflict_reasons::Reasons;
 use disp_model::{Choice, Decision, List, Memory};
 use std::alloc::Global;
 use tree_dives::{Below, Script};

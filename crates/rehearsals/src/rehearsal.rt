@@ -6,14 +6,28 @@ ghost use Rattle.node_leaves.specs.Reckoned.{ReckonsFor};
 ghost use Rattle.share_bound.specs.Known.{HoldFor};
 ghost use Rattle.tree_dives.specs.Guides.{GuidesIn};
 
+use crate::lessons::Lessons;
 use crate::state::Rehearsal;
-use disp_model::{Memory, Plan, Problem};
+use disp_model::{Fixing, Memory, Plan, Problem};
 use event_graph::Graph;
 use node_leaves::Reckoning;
 use share_bound::KnownShares;
 use std::alloc::Global;
 use train_insertion::Target;
 use tree_dives::{Guide, Script};
+
+/// What a rehearsal goes by, and how far.
+#[derive(Clone, Copy)]
+pub struct Trial<'a> {
+    /// The fixings of the graph.
+    pub fixings: &'a [Fixing],
+    /// What is followed first at each node.
+    pub target: &'a Target,
+    /// Plans are to cost less than this, if it is known.
+    pub best: Option<u64>,
+    /// At how many nodes to look, at most.
+    pub nodes: u32,
+}
 
 /// What a rehearsal came to.
 #[derive(Drop)]
@@ -22,8 +36,16 @@ pub struct Rehearsed {
     pub plan: Option<Plan>,
     /// What the best plan costs, of those that were found and were known, if there is one.
     pub best: Option<u64>,
-    /// What to branch on to show that there is no better one, where that was seen.
-    pub script: Option<Script>,
+    pub ending: Ending,
+}
+
+/// How a rehearsal ended.
+#[derive(Drop)]
+pub enum Ending {
+    /// There is no better plan: this is what to branch on to show it.
+    Closed(Script),
+    /// It came to no end, and learned this.
+    Open(Lessons),
 }
 
 /// What a rehearsal came to where it ended.
@@ -32,22 +54,23 @@ fn outcome_of(rehearsal: Rehearsal) -> Rehearsed
         → IfSome result.plan (IsPlanAt root) }
 {
     let Rehearsal {
-        script,
+        lessons,
         plan,
         best,
         closed,
         ..
     } = rehearsal;
-    Rehearsed {
-        plan,
-        best,
-        script: if closed { Some(script) } else { None },
-    }
+    let ending = if closed {
+        Ending::Closed(lessons.script)
+    } else {
+        Ending::Open(lessons)
+    };
+    Rehearsed { plan, best, ending }
 }
 
-/// Rehearses the search below the node of a graph at so many nodes, along a target, for plans that
-/// cost less than this best. The guide has counted what failed then. A plan that is
-/// found is valid; nothing is claimed of how good it is, or of the script. The graph is moved.
+/// Rehearses the search below the node of a graph by a trial, with what rehearsals from that node
+/// learned before it, for plans that cost no less. A plan that is found is valid; nothing is
+/// claimed of how good it is, or of the script. The graph is moved.
 ///
 /// # Errors
 ///
@@ -59,9 +82,8 @@ pub fn rehearse(
     graph: &mut Graph,
     known: &mut KnownShares,
     guide: &mut Guide,
-    target: &Target,
-    best: Option<u64>,
-    nodes: u32,
+    lessons: Lessons,
+    trial: Trial,
 ) -> Result<Rehearsed, Memory>
     requires node { graph.old.problem ≡ problem.now }
     requires edition { IsOfEdition graph.old }
@@ -74,9 +96,9 @@ pub fn rehearse(
     ensures plan { IfOk result (λ rehearsed. IfSome rehearsed.plan (IsPlanAt graph.old)) }
 {
     guide.begin_behind(0);
-    let mut rehearsal = Rehearsal::new(alloc, problem, graph.decisions(), target, best)?;
+    let mut rehearsal = Rehearsal::new(alloc, problem, graph, lessons, trial)?;
     rehearsal.look(alloc, problem, reckoning, graph, known, guide)?;
-    for _ in 1..nodes {
+    for _ in 1..trial.nodes {
         let Some(next) = rehearsal.next() else {
             return Ok(outcome_of(rehearsal));
         };

@@ -6,21 +6,28 @@ ghost use Rattle.share_bound.specs.Known.{HoldFor};
 ghost use Rattle.tree_dives.specs.Guides.{GuidesIn};
 
 use crate::frame::{Closed, Frame, Next};
-use crate::past::Past;
-use crate::reasons::Reasons;
+use crate::lessons::Lessons;
+use crate::rehearsal::Trial;
 use branch_rules::children;
+use conflict_reasons::{At, Met, Past, Reasons};
 use cost_bound::cost;
-use disp_model::{Choice, Decision, Leaf, Memory, Plan, Problem};
+use disp_model::{Choice, Decision, Fixing, Leaf, Memory, Plan, Problem};
 use event_graph::{ExtendNo, Graph};
 use node_leaves::{NodeLeaf, Reckoning, leaf_of};
 use share_bound::KnownShares;
 use std::alloc::Global;
 use train_insertion::Target;
-use tree_dives::{End, Guide, Script, Stage, preferred, rewind_knowing, stage_of};
+use tree_dives::{End, Guide, Stage, preferred, rewind_knowing, stage_of};
+
+/// A nogood with more branches than these is not kept: where it is met, a tree would have them once
+/// more.
+const MOST_BRANCHES: usize = 512;
 
 /// A rehearsal where it is.
 #[derive(Drop)]
 pub(crate) struct Rehearsal<'a> {
+    /// The fixings of the graph.
+    fixings: &'a [Fixing],
     /// Which child of a node comes first.
     target: &'a Target,
     /// Behind how many decisions of the graph it began.
@@ -28,8 +35,8 @@ pub(crate) struct Rehearsal<'a> {
     /// The nodes that branch, from where it began to where it is.
     frames: Vec<Frame>,
     past: Past,
-    /// The branches of the nodes that are closed.
-    pub script: Script,
+    /// Which decisions close a node together, and the branches of the nodes that are closed.
+    pub lessons: Lessons,
     /// The best plan that was found.
     pub plan: Option<Plan>,
     /// What plans are to cost less than, if a cost is known.
@@ -55,6 +62,14 @@ fn leaf_in(shown: NodeLeaf) -> Leaf {
     }
 }
 
+/// How much more a node's leaf costs than the best plan.
+fn room_in(shown: &NodeLeaf, best: Option<u64>) -> u64 {
+    match (shown, best) {
+        (NodeLeaf::Open { bound, .. }, Some(best)) => bound.saturating_sub(best),
+        _ => 0,
+    }
+}
+
 /// Moves a graph to a decision behind so many of those where it is. Gives the leaf of one that is
 /// refused. What is known of shares holds where the graph is.
 fn go_to(
@@ -77,27 +92,44 @@ fn go_to(
 }
 
 impl<'a> Rehearsal<'a> {
-    /// A rehearsal that begins behind some decisions and goes along a target, for plans that cost
-    /// less than this. Fails for memory alone.
+    /// A rehearsal that begins at the node of a graph. Fails for memory alone.
     pub(crate) fn new(
         alloc: Global,
         problem: &Problem,
-        above: &[Decision],
-        target: &'a Target,
-        best: Option<u64>,
+        graph: &Graph,
+        lessons: Lessons,
+        trial: Trial<'a>,
     ) -> Result<Rehearsal<'a>, Memory>
+        requires { graph.now.problem ≡ problem.now }
         ensures { IfOk result (λ rehearsal. rehearsal.plan ≡ NoPlan) }
     {
+        let mut lessons = lessons;
+        lessons.nogoods.give_all_back();
         Ok(Rehearsal {
-            target,
-            base: above.len(),
+            fixings: trial.fixings,
+            target: trial.target,
+            base: graph.decisions().len(),
             frames: Vec::new(alloc),
-            past: Past::new(alloc, problem.trains.len())?,
-            script: Script::new(alloc, above)?,
+            past: Past::new(alloc, problem, trial.fixings, graph)?,
+            lessons,
             plan: None,
-            best,
+            best: trial.best,
             closed: false,
         })
+    }
+
+    /// Keeps on which decisions it rests that a node is closed, if a branch shows it, and that has
+    /// few branches below it.
+    fn learn(&mut self, alloc: Global, closed: &Closed) -> Result<(), Memory>
+        ensures { self.new.plan ≡ self.old.plan }
+    {
+        match closed.place {
+            Some(branch) if self.lessons.script.size(branch) <= MOST_BRANCHES => {
+                let nogoods = &mut self.lessons.nogoods;
+                nogoods.add(alloc, &self.past, &closed.reasons, branch)
+            }
+            _ => Ok(()),
+        }
     }
 
     /// Notes in the node in front that its child is closed. Gives the node where it is closed too.
@@ -114,7 +146,9 @@ impl<'a> Rehearsal<'a> {
         }
         frame.note(closed)?;
         if frame.is_done() {
-            return Ok(Some(frame.into_closed(alloc, &mut self.script)?));
+            let closed = frame.into_closed(alloc, &mut self.lessons.script)?;
+            self.learn(alloc, &closed)?;
+            return Ok(Some(closed));
         }
         self.frames.push(frame)?;
         Ok(None)
@@ -135,15 +169,31 @@ impl<'a> Rehearsal<'a> {
             };
         }
         self.closed = true;
-        self.script.begin_at(closed.place);
+        self.lessons.script.begin_at(closed.place);
         Ok(())
     }
 
-    /// Notes that a leaf shows the node where it is.
-    fn close_by(&mut self, alloc: Global, leaf: &Leaf) -> Result<(), Memory>
+    /// Notes that a leaf shows the node where it is, which is that of a graph, or the one to which
+    /// the graph refused to go, and that it costs so much more than it has to.
+    fn close_by(
+        &mut self,
+        alloc: Global,
+        problem: &Problem,
+        graph: &Graph,
+        leaf: &Leaf,
+        room: u64,
+    ) -> Result<(), Memory>
+        requires { graph.now.problem ≡ problem.now }
         ensures { self.new.plan ≡ self.old.plan }
     {
-        let reasons = Reasons::of_leaf(alloc, &self.past, leaf)?;
+        let at = At {
+            problem,
+            fixings: self.fixings,
+            graph,
+            past: &self.past,
+            room,
+        };
+        let reasons = Reasons::of_leaf(alloc, at, leaf)?;
         self.close(
             alloc,
             Closed {
@@ -199,8 +249,10 @@ impl<'a> Rehearsal<'a> {
         ensures known { HoldFor graph.now known.new }
         ensures plan { self.new.plan ≡ self.old.plan }
     {
-        let leaf = leaf_in(leaf_of(alloc, problem, reckoning, graph, known)?);
-        self.close_by(alloc, &leaf)
+        let shown = leaf_of(alloc, problem, reckoning, graph, known)?;
+        let room = room_in(&shown, self.best);
+        let leaf = leaf_in(shown);
+        self.close_by(alloc, problem, graph, &leaf, room)
     }
 
     /// Keeps the plan at which the node of a graph ends, which is closed then.
@@ -246,6 +298,7 @@ impl<'a> Rehearsal<'a> {
         ensures plan { (root : Node) → IsBeside root graph.old
             → IfSome self.old.plan (IsFoundBeside root) → IfSome self.new.plan (IsFoundBeside root) }
     {
+        guide.prompt(self.lessons.nogoods.prompts(alloc)?);
         let strategy = guide.strategy();
         match stage_of(
             alloc, problem, reckoning, graph, known, guide, strategy, self.best,
@@ -265,7 +318,34 @@ impl<'a> Rehearsal<'a> {
         self.frames.last_mut()?.next()
     }
 
-    /// Moves a graph to a decision, and looks at the node there.
+    /// Takes decisions back until so many are left.
+    fn go_back(&mut self, depth: usize)
+        ensures { self.new.plan ≡ self.old.plan }
+    {
+        for _ in depth..self.past.len() {
+            if let Some(decision) = self.past.pop() {
+                self.lessons.nogoods.give_back(decision);
+            }
+        }
+    }
+
+    /// Takes a decision. Gives the node there as closed, where a nogood shows that it is.
+    fn take(&mut self, alloc: Global, decision: Decision) -> Result<Option<Closed>, Memory>
+        ensures { self.new.plan ≡ self.old.plan }
+    {
+        let place = self.past.len();
+        self.past.push(decision)?;
+        match self.lessons.nogoods.take(alloc, decision, place)? {
+            Some(Met { reasons, branch }) => Ok(Some(Closed {
+                reasons,
+                place: Some(branch),
+            })),
+            None => Ok(None),
+        }
+    }
+
+    /// Moves a graph to a decision, and looks at the node there, unless a nogood shows that it is
+    /// closed.
     pub(crate) fn step(
         &mut self,
         alloc: Global,
@@ -286,12 +366,14 @@ impl<'a> Rehearsal<'a> {
         ensures plan { (root : Node) → IsBeside root graph.old
             → IfSome self.old.plan (IsFoundBeside root) → IfSome self.new.plan (IsFoundBeside root) }
     {
+        self.go_back(next.depth);
+        if let Some(closed) = self.take(alloc, next.decision)? {
+            return self.close(alloc, closed);
+        }
         let depth = self.base.saturating_add(next.depth);
         guide.begin_behind(depth);
-        self.past.rewind(next.depth);
-        self.past.push(next.decision)?;
         match go_to(graph, known, depth, next)? {
-            Some(leaf) => self.close_by(alloc, &leaf),
+            Some(leaf) => self.close_by(alloc, problem, graph, &leaf, 0),
             None => self.look(alloc, problem, reckoning, graph, known, guide),
         }
     }

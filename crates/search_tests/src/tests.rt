@@ -1,6 +1,7 @@
 mod ahead;
 mod dives;
 mod leaves;
+mod nogoods;
 mod parts;
 mod rehearsed;
 mod scenes;

@@ -11,5 +11,5 @@ use Rattle.search_workers.specs.declared.explorer.Explorer.{Explorer}
 pub record IsExplorerOf (problem : Problem) (explorer : Explorer) : Type 0 where
   pub known : HoldFor explorer.graph explorer.known
   pub guide : GuidesIn problem explorer.scout.guide
-  pub rehearser : GuidesIn problem explorer.rehearser
+  pub rehearser : GuidesIn problem explorer.rehearser.guide
   pub found : IfSome explorer.found (IsPlanAt explorer.graph)

@@ -8,6 +8,7 @@ ghost use Rattle.search_workers.specs.Grown.{IsGrownOf};
 
 use crate::growth::{Growth, grow};
 use crate::lookout::{Look, Lookout};
+use crate::rehearser::Rehearser;
 use crate::scout::Scout;
 use crate::walk::go_to;
 use disp_model::{Decision, Fixing, Leaf, Memory, Plan, Problem, Rule};
@@ -15,11 +16,10 @@ use event_graph::Graph;
 use near_plans::{Ahead, look_ahead};
 use node_leaves::Reckoning;
 use open_nodes::Work;
-use rehearsals::{Rehearsed, rehearse};
+use rehearsals::{Ending, Lessons, Rehearsed, Trial, rehearse};
 use share_bound::KnownShares;
 use std::alloc::Global;
-use train_insertion::Target;
-use tree_dives::{Guide, Script, rewind_knowing};
+use tree_dives::rewind_knowing;
 
 /// A graph of an edition, which is moved from work to work, what is known of shares where it is,
 /// what guides its moves, and a plan that is to be published.
@@ -28,18 +28,17 @@ pub struct Explorer<'p> {
     pub graph: Graph<'p>,
     pub known: KnownShares,
     scout: Scout,
-    /// What guides rehearsals, which count what fails by themselves.
-    rehearser: Guide,
+    rehearser: Rehearser,
     found: Option<Plan>,
 }
 
 /// What is known after a rehearsal.
-#[derive(Clone, Copy)]
+#[derive(Drop)]
 struct Tried {
     /// What the best plan costs, if there is one.
     best: Option<u64>,
-    /// Whether a script is followed now.
-    scripted: bool,
+    /// What was learned, unless a script is followed now.
+    lessons: Option<Lessons>,
 }
 
 impl<'p> Explorer<'p> {
@@ -63,7 +62,7 @@ impl<'p> Explorer<'p> {
     {
         let scout = Scout::new(alloc, problem, fixings, lookout, order)?;
         let known = KnownShares::new(alloc, problem)?;
-        let rehearser = Guide::new(alloc, problem, Target::none(alloc))?;
+        let rehearser = Rehearser::new(alloc, problem, fixings)?;
         Ok(Explorer {
             graph,
             known,
@@ -71,6 +70,30 @@ impl<'p> Explorer<'p> {
             rehearser,
             found: None,
         })
+    }
+
+    /// Looks for plans that are better than the target, from the root. A plan that is found is
+    /// valid, and the target from then on.
+    fn look_from_root(
+        &mut self,
+        alloc: Global,
+        problem: &Problem,
+        look: Look,
+    ) -> Result<Option<Plan>, Memory>
+        requires problem { self.old.graph.problem ≡ problem.now }
+        requires edition { IsOfEdition self.old.graph }
+        requires ready { IsExplorerOf problem.now self.old }
+        ensures beside { IsBeside self.old.graph self.new.graph }
+        ensures ready { IsExplorerOf problem.now self.new }
+        ensures plan { IfOk result (λ plan. IfSome plan (IsPlanAt self.old.graph)) }
+    {
+        rewind_knowing(&mut self.graph, &mut self.known, 0);
+        let Look { draws, nodes } = look;
+        let target = self.scout.guide.target();
+        let ahead = look_ahead(alloc, problem, &mut self.graph, target, draws, nodes)?;
+        self.scout.note_look(alloc, problem, &ahead);
+        let Ahead { plan, .. } = ahead;
+        Ok(plan)
     }
 
     /// Gives a plan that was found by a rehearsal, or looks for plans that are better than the
@@ -91,15 +114,10 @@ impl<'p> Explorer<'p> {
         if let Some(plan) = self.found.take() {
             return Ok(Some(plan));
         }
-        let Some(Look { draws, nodes }) = self.scout.lookout.next() else {
+        let Some(look) = self.scout.lookout.next() else {
             return Ok(None);
         };
-        rewind_knowing(&mut self.graph, &mut self.known, 0);
-        let target = self.scout.guide.target();
-        let ahead = look_ahead(alloc, problem, &mut self.graph, target, draws, nodes)?;
-        self.scout.note_look(alloc, problem, &ahead);
-        let Ahead { plan, .. } = ahead;
-        Ok(plan)
+        self.look_from_root(alloc, problem, look)
     }
 
     /// Rehearses the search below where the graph is, for plans that cost less than this.
@@ -108,6 +126,7 @@ impl<'p> Explorer<'p> {
         alloc: Global,
         problem: &Problem,
         reckoning: &Reckoning,
+        lessons: Lessons,
         best: Option<u64>,
         nodes: u32,
     ) -> Result<Rehearsed, Memory>
@@ -126,10 +145,14 @@ impl<'p> Explorer<'p> {
             reckoning,
             &mut self.graph,
             &mut self.known,
-            &mut self.rehearser,
-            self.scout.guide.target(),
-            best,
-            nodes,
+            &mut self.rehearser.guide,
+            lessons,
+            Trial {
+                fixings: &self.rehearser.fixings,
+                target: self.scout.guide.target(),
+                best,
+                nodes,
+            },
         )
     }
 
@@ -147,18 +170,20 @@ impl<'p> Explorer<'p> {
         self.found = Some(plan);
     }
 
-    /// Follows a script, if there is one. Says whether there is.
-    fn follow(&mut self, problem: &Problem, script: Option<Script>) -> Result<bool, Memory>
+    /// Follows the script of a rehearsal that came to its end. Gives what another one learned.
+    fn follow(&mut self, problem: &Problem, ending: Ending) -> Result<Option<Lessons>, Memory>
         requires ready { IsExplorerOf problem.now self.old }
         ensures ready { IsExplorerOf problem.now self.new }
         ensures same { self.new.graph ≡ self.old.graph }
     {
-        let Some(script) = script else {
-            return Ok(false);
-        };
         let _problem = problem;
-        self.scout.guide.follow(script)?;
-        Ok(true)
+        match ending {
+            Ending::Closed(script) => {
+                self.scout.guide.follow(script)?;
+                Ok(None)
+            }
+            Ending::Open(lessons) => Ok(Some(lessons)),
+        }
     }
 
     /// Rehearses the search below where the graph is, for plans that cost less than this. A plan
@@ -168,6 +193,7 @@ impl<'p> Explorer<'p> {
         alloc: Global,
         problem: &Problem,
         reckoning: &Reckoning,
+        lessons: Lessons,
         best: Option<u64>,
         nodes: u32,
     ) -> Result<Tried, Memory>
@@ -178,11 +204,26 @@ impl<'p> Explorer<'p> {
         ensures ready { IsExplorerOf problem.now self.new }
         ensures beside { IsBeside self.old.graph self.new.graph }
     {
-        let rehearsed = self.rehearse_here(alloc, problem, reckoning, best, nodes)?;
-        let Rehearsed { plan, best, script } = rehearsed;
+        let rehearsed = self.rehearse_here(alloc, problem, reckoning, lessons, best, nodes)?;
+        let Rehearsed { plan, best, ending } = rehearsed;
         self.keep(alloc, problem, plan);
-        let scripted = self.follow(problem, script)?;
-        Ok(Tried { best, scripted })
+        let lessons = self.follow(problem, ending)?;
+        Ok(Tried { best, lessons })
+    }
+
+    /// Looks for plans that are better than one that a rehearsal from the root found, at so many
+    /// nodes. A plan that is found is kept.
+    fn look_behind(&mut self, alloc: Global, problem: &Problem, nodes: u32) -> Result<(), Memory>
+        requires problem { self.old.graph.problem ≡ problem.now }
+        requires edition { IsOfEdition self.old.graph }
+        requires ready { IsExplorerOf problem.now self.old }
+        ensures ready { IsExplorerOf problem.now self.new }
+        ensures beside { IsBeside self.old.graph self.new.graph }
+    {
+        let look = self.scout.lookout.look_between(nodes);
+        let plan = self.look_from_root(alloc, problem, look)?;
+        self.keep(alloc, problem, plan);
+        Ok(())
     }
 
     /// Moves the graph to the node of these decisions. Where one on the way is refused, gives the
@@ -196,8 +237,97 @@ impl<'p> Explorer<'p> {
         go_to(&mut self.graph, &mut self.known, decisions)
     }
 
-    /// Rehearses the search below the leaf of a work, as often as is due, unless a script says
-    /// something of it.
+    /// Rehearses the search from the root, if that is due, and looks on from a better plan that it
+    /// finds. Says whether it came to no end. What is known of plans that others found is left out, so
+    /// that each searcher of a crew comes to the same script.
+    fn rehearse_once(
+        &mut self,
+        alloc: Global,
+        problem: &Problem,
+        reckoning: &Reckoning,
+    ) -> Result<bool, Memory>
+        requires problem { self.old.graph.problem ≡ problem.now }
+        requires edition { IsOfEdition self.old.graph }
+        requires reckons { ReckonsFor problem.now reckoning.now }
+        requires ready { IsExplorerOf problem.now self.old }
+        ensures ready { IsExplorerOf problem.now self.new }
+        ensures beside { IsBeside self.old.graph self.new.graph }
+    {
+        let Some(lessons) = self.rehearser.lessons.take() else {
+            return Ok(false);
+        };
+        let Some(nodes) = self.scout.lookout.trials.next() else {
+            return Ok(false);
+        };
+        let None = self.move_to(problem, &[])? else {
+            return Ok(false);
+        };
+        let best = self.rehearser.best;
+        let Tried {
+            best: cost,
+            lessons: learned,
+        } = self.try_on(alloc, problem, reckoning, lessons, best, nodes)?;
+        let is_open = learned.is_some();
+        self.rehearser.lessons = learned;
+        self.rehearser.best = cost;
+        if is_open && cost != best {
+            self.look_behind(alloc, problem, nodes)?;
+        }
+        Ok(is_open)
+    }
+
+    /// Rehearses the search from the root, as often in turn as is due before a leaf grows, whichever
+    /// that is.
+    fn rehearse_root(
+        &mut self,
+        alloc: Global,
+        problem: &Problem,
+        reckoning: &Reckoning,
+    ) -> Result<(), Memory>
+        requires problem { self.old.graph.problem ≡ problem.now }
+        requires edition { IsOfEdition self.old.graph }
+        requires reckons { ReckonsFor problem.now reckoning.now }
+        requires ready { IsExplorerOf problem.now self.old }
+        ensures ready { IsExplorerOf problem.now self.new }
+        ensures beside { IsBeside self.old.graph self.new.graph }
+    {
+        for _ in 0..self.scout.lookout.trials.at_once() {
+            if !self.rehearse_once(alloc, problem, reckoning)? {
+                return Ok(());
+            }
+        }
+        Ok(())
+    }
+
+    /// Rehearses the search below the node of these decisions, if that is due.
+    fn rehearse_below(
+        &mut self,
+        alloc: Global,
+        problem: &Problem,
+        reckoning: &Reckoning,
+        decisions: &[Decision],
+        best: Option<u64>,
+    ) -> Result<(), Memory>
+        requires problem { self.old.graph.problem ≡ problem.now }
+        requires edition { IsOfEdition self.old.graph }
+        requires reckons { ReckonsFor problem.now reckoning.now }
+        requires ready { IsExplorerOf problem.now self.old }
+        ensures ready { IsExplorerOf problem.now self.new }
+        ensures beside { IsBeside self.old.graph self.new.graph }
+    {
+        let Some(nodes) = self.scout.lookout.trials.next_below() else {
+            return Ok(());
+        };
+        let None = self.move_to(problem, decisions)? else {
+            return Ok(());
+        };
+        let lessons = Lessons::new(alloc, decisions)?;
+        let _tried = self.try_on(alloc, problem, reckoning, lessons, best, nodes)?;
+        Ok(())
+    }
+
+    /// Rehearses the search from the root, and below the leaf of a work where no script says
+    /// anything of it, as far as that is due.
     fn prepare(
         &mut self,
         alloc: Global,
@@ -213,25 +343,15 @@ impl<'p> Explorer<'p> {
         ensures ready { IsExplorerOf problem.now self.new }
         ensures beside { IsBeside self.old.graph self.new.graph }
     {
-        let decisions = work.decisions.as_slice();
-        if reckoning.rule == Rule::Fixed || self.scout.guide.is_scripted(decisions) {
+        if reckoning.rule == Rule::Fixed {
             return Ok(());
         }
-        let mut best = best;
-        for _ in 0..self.scout.lookout.trials.begin(decisions.len()) {
-            let Some(nodes) = self.scout.lookout.trials.next() else {
-                return Ok(());
-            };
-            let None = self.move_to(problem, decisions)? else {
-                return Ok(());
-            };
-            let tried = self.try_on(alloc, problem, reckoning, best, nodes)?;
-            if tried.scripted {
-                return Ok(());
-            }
-            best = tried.best;
+        self.rehearse_root(alloc, problem, reckoning)?;
+        let decisions = work.decisions.as_slice();
+        if self.scout.guide.is_scripted(decisions) {
+            return Ok(());
         }
-        Ok(())
+        self.rehearse_below(alloc, problem, reckoning, decisions, best)
     }
 
     /// Grows the leaf of a work by a dive from its node.

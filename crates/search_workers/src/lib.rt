@@ -10,6 +10,7 @@ mod explorer;
 mod growth;
 mod hand_in;
 mod lookout;
+mod rehearser;
 mod scout;
 mod search;
 mod trials;

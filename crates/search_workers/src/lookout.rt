@@ -35,11 +35,14 @@ enum Due {
 
 /// When a searcher looks for better plans, and at how many nodes: before its first dive, and each
 /// time that it has grown four times as many nodes, then at no more than were grown since. Few long
-/// looks find better plans than many short ones. Each look is by draws of its own. Nothing rests on
-/// it.
+/// looks find better plans than many short ones. Each look is by draws of its own; but before a
+/// searcher grows anything it does as all others do, so that all come to the same script. Nothing
+/// rests on it.
 #[derive(Clone, Copy, Debug)]
 pub struct Lookout {
-    /// The number of the next look's draws.
+    /// The place of the searcher.
+    place: u32,
+    /// The number of the next look's draws, but for the place.
     draws: u32,
     /// At how many nodes it looks at a time, at most.
     most: u32,
@@ -70,7 +73,8 @@ impl Lookout {
             _ => Due::First,
         };
         Lookout {
-            draws: place,
+            place,
+            draws: 0,
             most,
             grown: 0,
             before: 0,
@@ -99,14 +103,28 @@ impl Lookout {
     /// The look that is due, if one is. The next one is due later then.
     pub(crate) fn next(&mut self) -> Option<Look> {
         let nodes = self.nodes_due()?;
+        let apart = match self.due {
+            Due::First => 0,
+            Due::At(_) | Due::Never => self.place,
+        };
+        self.before = self.grown;
+        self.due = Due::At(self.grown.saturating_mul(TIMES).max(FIRST_DUE));
+        Some(self.look(nodes, apart))
+    }
+
+    /// A look between rehearsals, at so many nodes, at most. It is the same for each searcher.
+    pub(crate) fn look_between(&mut self, nodes: u32) -> Look {
+        self.look(nodes.min(self.most), 0)
+    }
+
+    /// A look at so many nodes, by draws that lie so far from those of the first searcher.
+    fn look(&mut self, nodes: u32, apart: u32) -> Look {
         let look = Look {
-            draws: self.draws,
+            draws: self.draws.wrapping_add(apart),
             nodes,
         };
         self.draws = self.draws.wrapping_add(DRAWS_APART);
-        self.before = self.grown;
-        self.due = Due::At(self.grown.saturating_mul(TIMES).max(FIRST_DUE));
-        Some(look)
+        look
     }
 
     /// At how many nodes a look is to look now, if one is due.

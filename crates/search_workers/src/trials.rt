@@ -7,11 +7,11 @@ const FIRST_NODES: u32 = 8192;
 /// and then each time at so many times as many.
 const TIMES: u32 = 4;
 
-/// So often in turn, at most, below the root,
+/// So often in turn, at most, from the root before a leaf grows,
 const AT_ROOT: u32 = 16;
 
-/// and so often below another node.
-const BELOW: u32 = 1;
+/// and so often where changes may come, at as many nodes each time.
+const PROMPT_AT_ROOT: u32 = 1;
 
 /// So many times the budget, at most, are all the nodes of the rehearsals of a search,
 const FOR_BRANCH: u32 = 2;
@@ -24,7 +24,7 @@ const MOST_NODES: u32 = 400_000;
 const FOR_SQUARE: u64 = 1_200_000_000_000;
 
 /// and so many where changes may come.
-const PROMPT_NODES: u32 = 16_384;
+const PROMPT_NODES: u32 = 131_072;
 
 /// At how many nodes the search of a problem is rehearsed, at most.
 fn most_nodes(problem: &Problem) -> u32 {
@@ -33,15 +33,19 @@ fn most_nodes(problem: &Problem) -> u32 {
     u32::try_from(most).unwrap_or(u32::MAX).min(MOST_NODES)
 }
 
-/// At how many nodes the search below a leaf is rehearsed before that grows. A rehearsal that did
-/// not come to its end begins anew, with what was learned of what fails and with the best plan.
-/// Nothing rests on it.
+/// At how many nodes the search is rehearsed from the root before a leaf grows, and below that leaf
+/// where no script says anything of it. A rehearsal from the root that did not come to its end
+/// begins anew, with what was learned of what fails and with the best plan. Nothing rests on it.
 #[derive(Clone, Copy, Debug)]
 pub(crate) struct Trials {
     /// At how many nodes the next one looks.
     next: u32,
     /// At how many nodes all that are still to come look.
     left: u32,
+    /// So many times as many nodes the one behind it has,
+    times: u32,
+    /// and so many there are in turn, at most.
+    at_once: u32,
 }
 
 impl Trials {
@@ -50,6 +54,8 @@ impl Trials {
         Trials {
             next: FIRST_NODES,
             left: budget.saturating_mul(FOR_BRANCH).min(most),
+            times: TIMES,
+            at_once: AT_ROOT,
         }
     }
 
@@ -60,7 +66,11 @@ impl Trials {
 
     /// Those of a search where changes may come.
     pub(crate) fn prompt(budget: u32) -> Trials {
-        Trials::of(budget, PROMPT_NODES)
+        Trials {
+            times: 1,
+            at_once: PROMPT_AT_ROOT,
+            ..Trials::of(budget, PROMPT_NODES)
+        }
     }
 
     /// At how many nodes to look now, if there is still one to come.
@@ -70,14 +80,19 @@ impl Trials {
         }
         let nodes = self.next.min(self.left);
         self.left = self.left.saturating_sub(nodes);
-        self.next = self.next.saturating_mul(TIMES);
+        self.next = self.next.saturating_mul(self.times);
         Some(nodes)
     }
 
-    /// Begins those below a leaf behind so many decisions. Gives how many there may be.
-    pub(crate) fn begin(&mut self, depth: usize) -> u32 {
+    /// How many from the root there are in turn before a leaf grows, at most.
+    pub(crate) fn at_once(&self) -> u32 {
+        self.at_once
+    }
+
+    /// At how many nodes to look below a leaf now, if there is still one to come.
+    pub(crate) fn next_below(&mut self) -> Option<u32> {
         self.next = FIRST_NODES;
-        if depth == 0 { AT_ROOT } else { BELOW }
+        self.next()
     }
 
     /// None is to come any more.

@@ -3,7 +3,7 @@ ghost use Rattle.disp_model.specs.declared.problem.Problem.{Problem as ProblemOf
 ghost use Rattle.tree_dives.specs.Guides.{GuidesIn};
 
 use crate::script::Script;
-use disp_model::{Decision, Memory, Problem};
+use disp_model::{Choice, Decision, Memory, Problem};
 use event_graph::Graph;
 use first_overlaps::KnownSpans;
 use free_choices::{Adviser, Care, Orders, Strategy};
@@ -23,8 +23,9 @@ const TIME_DIVES_FIRST: u32 = 4096;
 const MOST_SCRIPTS: usize = 8;
 
 /// Advice for dives, on which nothing rests: which child is followed, and under the free rule which
-/// choice is taken: the one that a script says, where one says one that is open, and else one that an
-/// adviser names. With it, what the fixed rule keeps from pick to pick of when operations ran.
+/// choice is taken: one that was prompted, or that a script says, where it is open, and else one
+/// that an adviser names. With it, what the fixed rule keeps from pick to pick of when operations
+/// ran.
 #[derive(Drop)]
 pub struct Guide {
     pub(crate) target: Target,
@@ -32,6 +33,10 @@ pub struct Guide {
     pub(crate) strategy: Strategy,
     pub(crate) spans: KnownSpans,
     pub(crate) scripts: Vec<Script>,
+    /// Choices that are taken first at the next node.
+    pub(crate) prompts: Vec<Choice>,
+    /// Whether it is counted which decisions lead to closed nodes.
+    counts: bool,
     /// How many dives the strategy has left.
     left: u32,
 }
@@ -47,7 +52,21 @@ impl Guide {
             strategy: Strategy::Toll,
             spans: KnownSpans::new(alloc, problem)?,
             scripts: Vec::new(alloc),
+            prompts: Vec::new(alloc),
+            counts: true,
             left: TOLL_DIVES,
+        })
+    }
+
+    /// Advice for rehearsals of a problem's search, which learn in their own way from closed nodes.
+    /// Fails for memory alone.
+    pub fn for_rehearsals(alloc: Global, problem: &Problem) -> Result<Guide, Memory>
+        ensures { IfOk result (GuidesIn problem.now) }
+    {
+        let guide = Guide::new(alloc, problem, Target::none(alloc))?;
+        Ok(Guide {
+            counts: false,
+            ..guide
         })
     }
 
@@ -69,6 +88,13 @@ impl Guide {
         ensures { (problem : ProblemOf) → GuidesIn problem self.old → GuidesIn problem self.new }
     {
         self.target = target;
+    }
+
+    /// Has these choices be taken first at the next node, where they are open.
+    pub fn prompt(&mut self, choices: Vec<Choice>)
+        ensures { (problem : ProblemOf) → GuidesIn problem self.old → GuidesIn problem self.new }
+    {
+        self.prompts = choices;
     }
 
     /// Has a script be followed. Where there are many the oldest is given up but for the first one,
@@ -118,6 +144,9 @@ impl Guide {
     pub(crate) fn count_closed(&mut self, graph: &Graph)
         ensures { (problem : ProblemOf) → GuidesIn problem self.old → GuidesIn problem self.new }
     {
+        if !self.counts {
+            return;
+        }
         if let Some(decision) = graph.decisions().last() {
             self.adviser.count_failure(*decision);
         }

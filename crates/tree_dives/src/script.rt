@@ -15,10 +15,12 @@ pub struct Below {
 struct Branch {
     choice: Choice,
     below: Vec<Below>,
+    /// How many branches a tree has that follows the script from here on.
+    size: usize,
 }
 
-/// Which choices to take from a node down: a tree of branches that was thought out before. It is
-/// advice, and nothing rests on it.
+/// Which choices to take from a node down: branches that were thought out before, each behind those
+/// to which it leads. It is advice, and nothing rests on it.
 #[derive(Drop)]
 pub struct Script {
     /// The decisions of the node where it begins.
@@ -54,8 +56,8 @@ impl Branch {
 }
 
 impl Script {
-    /// A script that says nothing yet of what is below the node of these decisions. Fails for memory
-    /// alone.
+    /// A script that says nothing yet of what is below the node of these decisions. Fails for
+    /// memory alone.
     pub fn new(alloc: Global, above: &[Decision]) -> Result<Script, Memory> {
         Ok(Script {
             above: Vec::from_slice(alloc, above)?,
@@ -68,8 +70,25 @@ impl Script {
     /// alone.
     pub fn add(&mut self, choice: Choice, below: Vec<Below>) -> Result<usize, Memory> {
         let place = self.branches.len();
-        self.branches.push(Branch { choice, below })?;
+        let mut size: usize = 1;
+        for child in below.iter() {
+            size = size.saturating_add(self.size(child.place));
+        }
+        self.branches.push(Branch {
+            choice,
+            below,
+            size,
+        })?;
         Ok(place)
+    }
+
+    /// How many branches a tree has that follows the script from the branch at a place on. Where
+    /// several lead to one it has that as often.
+    pub fn size(&self, place: usize) -> usize {
+        match self.branches.get(place) {
+            Some(branch) => branch.size,
+            None => 0,
+        }
     }
 
     /// Has the script begin with the branch at a place.

@@ -89,6 +89,30 @@ fn said(problem: &Problem, graph: &Graph, scripts: &[Script]) -> Option<Choice>
     None
 }
 
+/// The first of some choices that is open, where something is to be picked.
+fn prompted(problem: &Problem, graph: &Graph, prompts: &[Choice]) -> Option<Choice>
+    requires { graph.now.problem ≡ problem.now }
+    ensures { IfSome result (λ choice. IsPicked graph.now Free (Some choice)) }
+{
+    for choice in prompts {
+        if let Some(choice) = pick_said(problem, graph, *choice) {
+            return Some(choice);
+        }
+    }
+    None
+}
+
+/// The choice that is taken first at the node of a graph, where one is prompted or said.
+fn first_said(problem: &Problem, graph: &Graph, guide: &Guide) -> Option<Choice>
+    requires { graph.now.problem ≡ problem.now }
+    ensures { IfSome result (λ choice. IsPicked graph.now Free (Some choice)) }
+{
+    match prompted(problem, graph, guide.prompts.as_slice()) {
+        Some(choice) => Some(choice),
+        None => said(problem, graph, guide.scripts.as_slice()),
+    }
+}
+
 /// What the free rule finds at the node of a graph, which is not dead.
 fn pick_open(
     alloc: Global,
@@ -104,7 +128,7 @@ fn pick_open(
     ensures guide { GuidesIn problem.now guide.new }
     ensures picked { IfOk result (IsPickBy Free graph.now) }
 {
-    match said(problem, graph, guide.scripts.as_slice()) {
+    match first_said(problem, graph, guide) {
         Some(choice) => Ok(Pick::Choice(choice)),
         None => pick_free(alloc, problem, graph, &mut guide.adviser, strategy, room),
     }

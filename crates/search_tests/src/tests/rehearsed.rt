@@ -6,7 +6,7 @@ use super::ahead::cost_of;
 use super::parts::{Worked, means_of, problem_of, root};
 use disp_model::{Problem, Rule};
 use event_graph::Graph;
-use rehearsals::{Rehearsed, rehearse};
+use rehearsals::{Ending, Lessons, Rehearsed, Trial, rehearse};
 use std::alloc::Global;
 use std::panic::Expect;
 use std::process::Abort;
@@ -22,7 +22,11 @@ fn came_to(rt: &impl Abort, problem: &Problem, rehearsed: &Rehearsed) -> Came {
         Some(plan) => Some(cost_of(rt, problem, plan)),
         None => None,
     };
-    (cost, rehearsed.best, rehearsed.script.is_some())
+    let closed = match rehearsed.ending {
+        Ending::Closed(_) => true,
+        Ending::Open(_) => false,
+    };
+    (cost, rehearsed.best, closed)
 }
 
 /// What a rehearsal at so many nodes comes to, for plans that cost less than this.
@@ -39,6 +43,13 @@ fn tried(
 {
     let mut means = means_of(rt, alloc, problem, Rule::Free);
     let target = Target::none(alloc);
+    let lessons = Lessons::new(alloc, &[]).expect(rt, "lessons");
+    let trial = Trial {
+        fixings: &[],
+        target: &target,
+        best,
+        nodes,
+    };
     let rehearsed = rehearse(
         alloc,
         problem,
@@ -46,9 +57,8 @@ fn tried(
         graph,
         &mut means.known,
         &mut means.guide,
-        &target,
-        best,
-        nodes,
+        lessons,
+        trial,
     )
     .expect(rt, "a rehearsal");
     let came = came_to(rt, problem, &rehearsed);
