@@ -123,6 +123,11 @@ impl Past {
         self.decisions.len()
     }
 
+    /// The decisions, in the order in which they were taken.
+    pub fn decisions(&self) -> &[Decision] {
+        &self.decisions
+    }
+
     /// How many trains there are.
     pub(crate) fn trains(&self) -> usize {
         self.trains.len()

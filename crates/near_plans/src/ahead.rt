@@ -20,8 +20,10 @@ const FIRST_NODES: u32 = 4096;
 /// What a look ahead came to.
 #[derive(Drop)]
 pub struct Ahead {
-    /// The best plan that was found.
+    /// The best plan that was found,
     pub plan: Option<Plan>,
+    /// and what it costs.
+    pub cost: Option<u64>,
     /// Whether all nodes were seen to be dead, by time.
     pub dead_by_time: bool,
 }
@@ -149,12 +151,14 @@ fn look(
     let Some(base) = base else {
         return Ok(Ahead {
             plan: None,
+            cost: None,
             dead_by_time,
         });
     };
-    let Base { plan, .. } = improved(alloc, problem, graph, &mut adviser, base, draws, nodes)?;
+    let Base { plan, cost, .. } = improved(alloc, problem, graph, &mut adviser, base, draws, nodes)?;
     Ok(Ahead {
         plan: Some(plan),
+        cost: Some(cost),
         dead_by_time,
     })
 }
@@ -183,6 +187,7 @@ pub fn look_ahead(
     if nodes == 0 {
         return Ok(Ahead {
             plan: None,
+            cost: None,
             dead_by_time: false,
         });
     }

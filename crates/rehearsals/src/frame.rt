@@ -57,6 +57,11 @@ impl Frame {
         })
     }
 
+    /// Behind how many decisions it is.
+    pub(crate) fn depth(&self) -> usize {
+        self.depth
+    }
+
     /// The place of the child that comes behind so many.
     fn place_behind(&self, begun: usize) -> usize {
         match begun {

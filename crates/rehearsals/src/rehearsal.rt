@@ -54,23 +54,28 @@ fn outcome_of(rehearsal: Rehearsal) -> Rehearsed
         → IfSome result.plan (IsPlanAt root) }
 {
     let Rehearsal {
-        lessons,
+        learned,
+        course,
         plan,
         best,
         closed,
         ..
     } = rehearsal;
     let ending = if closed {
-        Ending::Closed(lessons.script)
+        Ending::Closed(learned.script)
     } else {
-        Ending::Open(lessons)
+        Ending::Open(Lessons {
+            learned,
+            course: Some(course),
+        })
     };
     Rehearsed { plan, best, ending }
 }
 
-/// Rehearses the search below the node of a graph by a trial, with what rehearsals from that node
-/// learned before it, for plans that cost no less. A plan that is found is valid; nothing is
-/// claimed of how good it is, or of the script. The graph is moved.
+/// Rehearses the search below a node by a trial, with what rehearsals from that node learned before
+/// it, for plans that cost no less. It goes on where the last of them came to, unless it is to begin
+/// anew; the graph is at the node to which the way of the lessons leads. A plan that is found is
+/// valid; nothing is claimed of how good it is, or of the script. The graph is moved.
 ///
 /// # Errors
 ///
@@ -96,8 +101,11 @@ pub fn rehearse(
     ensures plan { IfOk result (λ rehearsed. IfSome rehearsed.plan (IsPlanAt graph.old)) }
 {
     guide.begin_behind(0);
+    let goes_on = lessons.course.is_some();
     let mut rehearsal = Rehearsal::new(alloc, problem, graph, lessons, trial)?;
-    rehearsal.look(alloc, problem, reckoning, graph, known, guide)?;
+    if !goes_on {
+        rehearsal.look(alloc, problem, reckoning, graph, known, guide)?;
+    }
     for _ in 1..trial.nodes {
         let Some(next) = rehearsal.next() else {
             return Ok(outcome_of(rehearsal));

@@ -6,10 +6,10 @@ ghost use Rattle.share_bound.specs.Known.{HoldFor};
 ghost use Rattle.tree_dives.specs.Guides.{GuidesIn};
 
 use crate::frame::{Closed, Frame, Next};
-use crate::lessons::Lessons;
+use crate::lessons::{Course, Learned, Lessons};
 use crate::rehearsal::Trial;
 use branch_rules::children;
-use conflict_reasons::{At, Met, Past, Reasons};
+use conflict_reasons::{At, Met, Reasons};
 use cost_bound::cost;
 use disp_model::{Choice, Decision, Fixing, Leaf, Memory, Plan, Problem};
 use event_graph::{ExtendNo, Graph};
@@ -32,11 +32,9 @@ pub(crate) struct Rehearsal<'a> {
     target: &'a Target,
     /// Behind how many decisions of the graph it began.
     base: usize,
-    /// The nodes that branch, from where it began to where it is.
-    frames: Vec<Frame>,
-    past: Past,
-    /// Which decisions close a node together, and the branches of the nodes that are closed.
-    pub lessons: Lessons,
+    /// How far it has come.
+    pub course: Course,
+    pub learned: Learned,
     /// The best plan that was found.
     pub plan: Option<Plan>,
     /// What plans are to cost less than, if a cost is known.
@@ -92,7 +90,8 @@ fn go_to(
 }
 
 impl<'a> Rehearsal<'a> {
-    /// A rehearsal that begins at the node of a graph. Fails for memory alone.
+    /// A rehearsal from the node of a graph, or from the one above it to which lessons lead that say
+    /// how far the last one came: it goes on there. Fails for memory alone.
     pub(crate) fn new(
         alloc: Global,
         problem: &Problem,
@@ -103,15 +102,18 @@ impl<'a> Rehearsal<'a> {
         requires { graph.now.problem ≡ problem.now }
         ensures { IfOk result (λ rehearsal. rehearsal.plan ≡ NoPlan) }
     {
-        let mut lessons = lessons;
-        lessons.nogoods.give_all_back();
+        let Lessons { learned, course } = lessons;
+        let course = match course {
+            Some(course) => course,
+            None => Course::new(alloc, problem, trial.fixings, graph)?,
+        };
+        let depth = graph.decisions().len();
         Ok(Rehearsal {
             fixings: trial.fixings,
             target: trial.target,
-            base: graph.decisions().len(),
-            frames: Vec::new(alloc),
-            past: Past::new(alloc, problem, trial.fixings, graph)?,
-            lessons,
+            base: depth.saturating_sub(course.way().len()),
+            course,
+            learned,
             plan: None,
             best: trial.best,
             closed: false,
@@ -124,9 +126,9 @@ impl<'a> Rehearsal<'a> {
         ensures { self.new.plan ≡ self.old.plan }
     {
         match closed.place {
-            Some(branch) if self.lessons.script.size(branch) <= MOST_BRANCHES => {
-                let nogoods = &mut self.lessons.nogoods;
-                nogoods.add(alloc, &self.past, &closed.reasons, branch)
+            Some(branch) if self.learned.script.size(branch) <= MOST_BRANCHES => {
+                let nogoods = &mut self.learned.nogoods;
+                nogoods.add(alloc, &self.course.past, &closed.reasons, branch)
             }
             _ => Ok(()),
         }
@@ -146,11 +148,11 @@ impl<'a> Rehearsal<'a> {
         }
         frame.note(closed)?;
         if frame.is_done() {
-            let closed = frame.into_closed(alloc, &mut self.lessons.script)?;
+            let closed = frame.into_closed(alloc, &mut self.learned.script)?;
             self.learn(alloc, &closed)?;
             return Ok(Some(closed));
         }
-        self.frames.push(frame)?;
+        self.course.frames.push(frame)?;
         Ok(None)
     }
 
@@ -159,8 +161,8 @@ impl<'a> Rehearsal<'a> {
         ensures { self.new.plan ≡ self.old.plan }
     {
         let mut closed = closed;
-        for _ in 0..self.frames.len() {
-            let Some(frame) = self.frames.pop() else {
+        for _ in 0..self.course.frames.len() {
+            let Some(frame) = self.course.frames.pop() else {
                 return Ok(());
             };
             closed = match self.close_in(alloc, frame, closed)? {
@@ -169,7 +171,7 @@ impl<'a> Rehearsal<'a> {
             };
         }
         self.closed = true;
-        self.lessons.script.begin_at(closed.place);
+        self.learned.script.begin_at(closed.place);
         Ok(())
     }
 
@@ -190,7 +192,7 @@ impl<'a> Rehearsal<'a> {
             problem,
             fixings: self.fixings,
             graph,
-            past: &self.past,
+            past: &self.course.past,
             room,
         };
         let reasons = Reasons::of_leaf(alloc, at, leaf)?;
@@ -220,8 +222,8 @@ impl<'a> Rehearsal<'a> {
         let children = children(alloc, problem, choice)?;
         let orders = guide.orders();
         let first = preferred(problem, graph, self.target, orders, children.as_slice());
-        let frame = Frame::new(alloc, self.past.len(), choice, children, first)?;
-        self.frames.push(frame)?;
+        let frame = Frame::new(alloc, self.course.past.len(), choice, children, first)?;
+        self.course.frames.push(frame)?;
         Ok(())
     }
 
@@ -298,7 +300,7 @@ impl<'a> Rehearsal<'a> {
         ensures plan { (root : Node) → IsBeside root graph.old
             → IfSome self.old.plan (IsFoundBeside root) → IfSome self.new.plan (IsFoundBeside root) }
     {
-        guide.prompt(self.lessons.nogoods.prompts(alloc)?);
+        guide.prompt(self.learned.nogoods.prompts(alloc)?);
         let strategy = guide.strategy();
         match stage_of(
             alloc, problem, reckoning, graph, known, guide, strategy, self.best,
@@ -315,16 +317,16 @@ impl<'a> Rehearsal<'a> {
     pub(crate) fn next(&mut self) -> Option<Next>
         ensures { self.new.plan ≡ self.old.plan }
     {
-        self.frames.last_mut()?.next()
+        self.course.frames.last_mut()?.next()
     }
 
     /// Takes decisions back until so many are left.
     fn go_back(&mut self, depth: usize)
         ensures { self.new.plan ≡ self.old.plan }
     {
-        for _ in depth..self.past.len() {
-            if let Some(decision) = self.past.pop() {
-                self.lessons.nogoods.give_back(decision);
+        for _ in depth..self.course.past.len() {
+            if let Some(decision) = self.course.past.pop() {
+                self.learned.nogoods.give_back(decision);
             }
         }
     }
@@ -333,9 +335,9 @@ impl<'a> Rehearsal<'a> {
     fn take(&mut self, alloc: Global, decision: Decision) -> Result<Option<Closed>, Memory>
         ensures { self.new.plan ≡ self.old.plan }
     {
-        let place = self.past.len();
-        self.past.push(decision)?;
-        match self.lessons.nogoods.take(alloc, decision, place)? {
+        let place = self.course.past.len();
+        self.course.past.push(decision)?;
+        match self.learned.nogoods.take(alloc, decision, place)? {
             Some(Met { reasons, branch }) => Ok(Some(Closed {
                 reasons,
                 place: Some(branch),

@@ -116,7 +116,7 @@ impl Crew {
         let count = u32::try_from(self.stealers.len()).unwrap_or(u32::MAX);
         match self.pace {
             Pace::Steady => Lookout::steady(problem, place, count, self.budget),
-            Pace::Prompt => Lookout::prompt(place, self.budget),
+            Pace::Prompt => Lookout::prompt(problem, place, self.budget),
         }
     }
 

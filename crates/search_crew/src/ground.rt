@@ -74,6 +74,26 @@ impl<'p> Ground<'p> {
         }
     }
 
+    /// Rehearses the search where that is due.
+    pub(crate) fn rehearse_on(
+        &mut self,
+        alloc: Global,
+        problem: &Problem,
+        reckoning: &Reckoning,
+    ) -> Result<Option<Plan>, Memory>
+        requires reckons { ReckonsFor problem.now reckoning.now }
+        requires ground { (fixings : List FixingOf) × IsGround problem.now fixings self.old }
+        ensures ground { (fixings : List FixingOf) → IsGround problem.now fixings self.old
+            → IsGround problem.now fixings self.new }
+        ensures plan { (fixings : List FixingOf) → IsGround problem.now fixings self.old
+            → IfOk result (λ plan. IfSome plan (IsPlanAt (node_at problem.now fixings []))) }
+    {
+        match self {
+            Ground::Alive(explorer) => explorer.rehearse_on(alloc, problem, reckoning),
+            Ground::Dead(_) => Ok(None),
+        }
+    }
+
     /// Grows the leaf of a work, where what branches costs less than this best.
     pub(crate) fn grow(
         &mut self,

@@ -175,8 +175,34 @@ fn look_on<W: Wait>(
     publish(rt, alloc, board, pass, crew, hand, edition, plan)
 }
 
-/// Looks for better plans where that is due, and then grows a work. Says how the search of the
-/// edition ended, if it has.
+/// Rehearses the search where that is due, and publishes a plan that is found.
+fn rehearse_on<W: Wait>(
+    rt: &W,
+    alloc: Global,
+    board: &Board,
+    pass: &mut Pass,
+    crew: &Crew,
+    hand: &mut Hand,
+    reckoning: &Reckoning,
+    ground: &mut Ground,
+    edition: u32,
+) -> Result<(), Memory>
+    requires reckons { ReckonsFor (problem_of board.now) reckoning.now }
+    requires at { (rule : RuleOf) × IsAtWork board.now rule edition pass.old }
+    requires hand { IsHandOf crew.now hand.old }
+    requires ground { IsGround (problem_of board.now) (fixings_after edition (known pass.old).seen)
+        ground.old }
+    ensures on { KeepsOn pass.old pass.new }
+    ensures hand { IsSameHand hand.old hand.new }
+    ensures ground { (fixings : List FixingOf) → IsGround (problem_of board.now) fixings ground.old
+        → IsGround (problem_of board.now) fixings ground.new }
+{
+    let plan = ground.rehearse_on(alloc, board.problem(), reckoning)?;
+    publish(rt, alloc, board, pass, crew, hand, edition, plan)
+}
+
+/// Looks for better plans and rehearses the search where that is due, and then grows a work. Says
+/// how the search of the edition ended, if it has.
 pub(crate) fn round<W: Wait, G: Gate>(
     rt: &W,
     alloc: Global,
@@ -202,6 +228,9 @@ pub(crate) fn round<W: Wait, G: Gate>(
         → IsAnswered edition (known pass.new).seen answer }
 {
     look_on(rt, alloc, board, pass, crew, hand, ground, edition)?;
+    rehearse_on(
+        rt, alloc, board, pass, crew, hand, reckoning, ground, edition,
+    )?;
     grow_next(
         rt, alloc, board, pass, crew, hand, reckoning, ground, edition, gate,
     )

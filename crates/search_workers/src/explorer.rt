@@ -79,26 +79,25 @@ impl<'p> Explorer<'p> {
         alloc: Global,
         problem: &Problem,
         look: Look,
-    ) -> Result<Option<Plan>, Memory>
+    ) -> Result<Ahead, Memory>
         requires problem { self.old.graph.problem ≡ problem.now }
         requires edition { IsOfEdition self.old.graph }
         requires ready { IsExplorerOf problem.now self.old }
         ensures beside { IsBeside self.old.graph self.new.graph }
         ensures ready { IsExplorerOf problem.now self.new }
-        ensures plan { IfOk result (λ plan. IfSome plan (IsPlanAt self.old.graph)) }
+        ensures plan { IfOk result (λ ahead. IfSome ahead.plan (IsPlanAt self.old.graph)) }
     {
         rewind_knowing(&mut self.graph, &mut self.known, 0);
         let Look { draws, nodes } = look;
         let target = self.scout.guide.target();
         let ahead = look_ahead(alloc, problem, &mut self.graph, target, draws, nodes)?;
         self.scout.note_look(alloc, problem, &ahead);
-        let Ahead { plan, .. } = ahead;
-        Ok(plan)
+        Ok(ahead)
     }
 
-    /// Gives a plan that was found by a rehearsal, or looks for plans that are better than the
-    /// target, from the root, if that is due. A plan that is found is valid, and the target from
-    /// then on.
+    /// Gives a plan that was found by a rehearsal below a leaf, or looks for plans that are better
+    /// than the target, from the root, if that is due. A plan that is found is valid, and the target
+    /// from then on.
     ///
     /// # Errors
     ///
@@ -117,7 +116,8 @@ impl<'p> Explorer<'p> {
         let Some(look) = self.scout.lookout.next() else {
             return Ok(None);
         };
-        self.look_from_root(alloc, problem, look)
+        let Ahead { plan, .. } = self.look_from_root(alloc, problem, look)?;
+        Ok(plan)
     }
 
     /// Rehearses the search below where the graph is, for plans that cost less than this.
@@ -211,17 +211,27 @@ impl<'p> Explorer<'p> {
         Ok(Tried { best, lessons })
     }
 
-    /// Looks for plans that are better than one that a rehearsal from the root found, at so many
-    /// nodes. A plan that is found is kept.
-    fn look_behind(&mut self, alloc: Global, problem: &Problem, nodes: u32) -> Result<(), Memory>
+    /// Looks for better plans behind a rehearsal from the root at so many nodes that came to no end,
+    /// if that is due; it may have found a better one. A plan that is found is kept, and rehearsals look
+    /// for better ones.
+    fn look_behind(
+        &mut self,
+        alloc: Global,
+        problem: &Problem,
+        is_better: bool,
+        nodes: u32,
+    ) -> Result<(), Memory>
         requires problem { self.old.graph.problem ≡ problem.now }
         requires edition { IsOfEdition self.old.graph }
         requires ready { IsExplorerOf problem.now self.old }
         ensures ready { IsExplorerOf problem.now self.new }
         ensures beside { IsBeside self.old.graph self.new.graph }
     {
-        let look = self.scout.lookout.look_between(nodes);
-        let plan = self.look_from_root(alloc, problem, look)?;
+        let Some(look) = self.scout.lookout.look_between(is_better, nodes) else {
+            return Ok(());
+        };
+        let Ahead { plan, cost, .. } = self.look_from_root(alloc, problem, look)?;
+        self.rehearser.note_cost(cost);
         self.keep(alloc, problem, plan);
         Ok(())
     }
@@ -237,9 +247,9 @@ impl<'p> Explorer<'p> {
         go_to(&mut self.graph, &mut self.known, decisions)
     }
 
-    /// Rehearses the search from the root, if that is due, and looks on from a better plan that it
-    /// finds. Says whether it came to no end. What is known of plans that others found is left out, so
-    /// that each searcher of a crew comes to the same script.
+    /// Rehearses a part of the search from the root, if that is due, and looks on from a better plan
+    /// that it finds. Says whether it came to no end. What is known of plans that others found is
+    /// left out, so that each searcher of a crew comes to the same script.
     fn rehearse_once(
         &mut self,
         alloc: Global,
@@ -256,28 +266,37 @@ impl<'p> Explorer<'p> {
         let Some(lessons) = self.rehearser.lessons.take() else {
             return Ok(false);
         };
-        let Some(nodes) = self.scout.lookout.trials.next() else {
+        // Where none is to come any more, what was learned is let go.
+        let Some(part) = self.scout.lookout.trials.next() else {
             return Ok(false);
         };
-        let None = self.move_to(problem, &[])? else {
+        let mut lessons = lessons;
+        if part.begins {
+            lessons.begin_anew();
+        }
+        let None = self.move_to(problem, lessons.way())? else {
             return Ok(false);
         };
         let best = self.rehearser.best;
         let Tried {
             best: cost,
             lessons: learned,
-        } = self.try_on(alloc, problem, reckoning, lessons, best, nodes)?;
+        } = self.try_on(alloc, problem, reckoning, lessons, best, part.nodes)?;
         let is_open = learned.is_some();
         self.rehearser.lessons = learned;
         self.rehearser.best = cost;
-        if is_open && cost != best {
-            self.look_behind(alloc, problem, nodes)?;
+        if !is_open {
+            self.scout.lookout.end_looks();
+            return Ok(false);
         }
-        Ok(is_open)
+        let is_better = cost != best;
+        if is_better || part.ends {
+            self.look_behind(alloc, problem, is_better, part.nodes)?;
+        }
+        Ok(true)
     }
 
-    /// Rehearses the search from the root, as often in turn as is due before a leaf grows, whichever
-    /// that is.
+    /// Rehearses the search from the root, as often in turn as is due.
     fn rehearse_root(
         &mut self,
         alloc: Global,
@@ -299,7 +318,34 @@ impl<'p> Explorer<'p> {
         Ok(())
     }
 
-    /// Rehearses the search below the node of these decisions, if that is due.
+    /// Rehearses the search from the root, if that is due. A plan that is found is valid, and the
+    /// target from then on.
+    ///
+    /// # Errors
+    ///
+    /// `Memory` where memory runs out.
+    pub fn rehearse_on(
+        &mut self,
+        alloc: Global,
+        problem: &Problem,
+        reckoning: &Reckoning,
+    ) -> Result<Option<Plan>, Memory>
+        requires problem { self.old.graph.problem ≡ problem.now }
+        requires edition { IsOfEdition self.old.graph }
+        requires reckons { ReckonsFor problem.now reckoning.now }
+        requires ready { IsExplorerOf problem.now self.old }
+        ensures beside { IsBeside self.old.graph self.new.graph }
+        ensures ready { IsExplorerOf problem.now self.new }
+        ensures plan { IfOk result (λ plan. IfSome plan (IsPlanAt self.old.graph)) }
+    {
+        if reckoning.rule == Rule::Free {
+            self.rehearse_root(alloc, problem, reckoning)?;
+        }
+        Ok(self.found.take())
+    }
+
+    /// Rehearses the search below the node where the graph is, which is the node of these decisions,
+    /// if that is due.
     fn rehearse_below(
         &mut self,
         alloc: Global,
@@ -318,16 +364,19 @@ impl<'p> Explorer<'p> {
         let Some(nodes) = self.scout.lookout.trials.next_below() else {
             return Ok(());
         };
-        let None = self.move_to(problem, decisions)? else {
-            return Ok(());
-        };
         let lessons = Lessons::new(alloc, decisions)?;
         let _tried = self.try_on(alloc, problem, reckoning, lessons, best, nodes)?;
         Ok(())
     }
 
-    /// Rehearses the search from the root, and below the leaf of a work where no script says
-    /// anything of it, as far as that is due.
+    /// Whether the search is to be rehearsed below a leaf where no script says anything of it: not
+    /// by the fixed rule, nor as long as rehearsals from the root come to no end.
+    fn rehearses_leaves(&self, reckoning: &Reckoning) -> bool {
+        reckoning.rule == Rule::Free && self.rehearser.lessons.is_none()
+    }
+
+    /// Rehearses the search below the leaf of a work where no script says anything of it, if that is
+    /// due.
     fn prepare(
         &mut self,
         alloc: Global,
@@ -343,12 +392,14 @@ impl<'p> Explorer<'p> {
         ensures ready { IsExplorerOf problem.now self.new }
         ensures beside { IsBeside self.old.graph self.new.graph }
     {
-        if reckoning.rule == Rule::Fixed {
+        if !self.rehearses_leaves(reckoning) {
             return Ok(());
         }
-        self.rehearse_root(alloc, problem, reckoning)?;
         let decisions = work.decisions.as_slice();
-        if self.scout.guide.is_scripted(decisions) {
+        let None = self.move_to(problem, decisions)? else {
+            return Ok(());
+        };
+        if self.scout.guide.is_scripted(problem, &self.graph) {
             return Ok(());
         }
         self.rehearse_below(alloc, problem, reckoning, decisions, best)

@@ -10,8 +10,8 @@ const NODES: Amount = Amount {
     for_operations: 700_000_000,
 };
 
-/// The same where changes may come.
-const PROMPT_NODES: u32 = 4096;
+/// At so many nodes it looks before anything else, and each time where changes may come.
+const FEW_NODES: u32 = 4096;
 
 /// It is looked on for the first time once so many nodes were grown.
 const FIRST_DUE: u64 = 4096;
@@ -33,11 +33,11 @@ enum Due {
     Never,
 }
 
-/// When a searcher looks for better plans, and at how many nodes: before its first dive, and each
-/// time that it has grown four times as many nodes, then at no more than were grown since. Few long
-/// looks find better plans than many short ones. Each look is by draws of its own; but before a
-/// searcher grows anything it does as all others do, so that all come to the same script. Nothing
-/// rests on it.
+/// When a searcher looks for better plans, and at how many nodes: at few before anything else, at
+/// many behind a rehearsal that came to no end, and then each time that it has grown four times as
+/// many nodes, at no more than were grown since. Few long looks find better plans than many short
+/// ones. Each look is by draws of its own; but the first ones, and those between rehearsals, are the
+/// same for all searchers, so that all come to the same script. Nothing rests on it.
 #[derive(Clone, Copy, Debug)]
 pub struct Lookout {
     /// The place of the searcher.
@@ -46,6 +46,8 @@ pub struct Lookout {
     draws: u32,
     /// At how many nodes it looks at a time, at most.
     most: u32,
+    /// At how many nodes it is still to look before it waits for some to be grown.
+    first: u32,
     /// How many nodes were grown.
     grown: u64,
     /// How many of them before the last look.
@@ -65,9 +67,9 @@ pub(crate) struct Look {
 }
 
 impl Lookout {
-    /// The lookout of a searcher at this place that looks at so many nodes at a time, at most.
-    /// Where no branch is allowed it never looks.
-    fn of(place: u32, most: u32, budget: u32, trials: Trials) -> Lookout {
+    /// The lookout of a searcher at this place that looks at so many nodes at first. Where no branch
+    /// is allowed it never looks.
+    fn of(place: u32, first: u32, budget: u32, trials: Trials) -> Lookout {
         let due = match budget {
             0 => Due::Never,
             _ => Due::First,
@@ -75,7 +77,8 @@ impl Lookout {
         Lookout {
             place,
             draws: 0,
-            most,
+            most: first,
+            first,
             grown: 0,
             before: 0,
             due,
@@ -86,13 +89,19 @@ impl Lookout {
     /// The lookout of a searcher at a place of so many where the problem stays as it is: the more
     /// trains there are, the more it looks at a time, and the more searchers, the less.
     pub fn steady(problem: &Problem, place: u32, count: u32, budget: u32) -> Lookout {
-        let most = NODES.of(problem).saturating_mul(2) / count.saturating_add(1).max(1);
-        Lookout::of(place, most, budget, Trials::steady(problem, budget))
+        let nodes = NODES.of(problem).saturating_mul(2) / count.saturating_add(1).max(1);
+        Lookout::of(place, nodes, budget, Trials::steady(problem, budget))
     }
 
-    /// The lookout of a searcher at a place where changes may come: it is never away for long.
-    pub fn prompt(place: u32, budget: u32) -> Lookout {
-        Lookout::of(place, PROMPT_NODES, budget, Trials::prompt(budget))
+    /// The lookout of a searcher of a problem at a place where changes may come: it is never away for
+    /// long.
+    pub fn prompt(problem: &Problem, place: u32, budget: u32) -> Lookout {
+        let trials = Trials::prompt(problem, budget);
+        let lookout = Lookout::of(place, NODES.of(problem), budget, trials);
+        Lookout {
+            most: FEW_NODES.min(lookout.most),
+            ..lookout
+        }
     }
 
     /// Counts so many nodes that were grown.
@@ -108,13 +117,24 @@ impl Lookout {
             Due::At(_) | Due::Never => self.place,
         };
         self.before = self.grown;
-        self.due = Due::At(self.grown.saturating_mul(TIMES).max(FIRST_DUE));
+        self.first = self.first.saturating_sub(nodes);
+        if self.first == 0 {
+            self.due = Due::At(self.grown.saturating_mul(TIMES).max(FIRST_DUE));
+        }
         Some(self.look(nodes, apart))
     }
 
-    /// A look between rehearsals, at so many nodes, at most. It is the same for each searcher.
-    pub(crate) fn look_between(&mut self, nodes: u32) -> Look {
-        self.look(nodes.min(self.most), 0)
+    /// A look behind a rehearsal at so many nodes that came to no end, if one is due: what is left of
+    /// the first look, or one behind a better plan. It is the same for each searcher.
+    pub(crate) fn look_between(&mut self, is_better: bool, nodes: u32) -> Option<Look> {
+        if let Due::First = self.due {
+            return self.next();
+        }
+        if is_better {
+            Some(self.look(nodes.min(self.most), 0))
+        } else {
+            None
+        }
     }
 
     /// A look at so many nodes, by draws that lie so far from those of the first searcher.
@@ -130,7 +150,8 @@ impl Lookout {
     /// At how many nodes a look is to look now, if one is due.
     fn nodes_due(&self) -> Option<u32> {
         match self.due {
-            Due::First => Some(self.most),
+            Due::First if self.draws == 0 => Some(self.first.min(FEW_NODES)),
+            Due::First => Some(self.first.min(self.most)),
             Due::At(grown) if grown <= self.grown => Some(self.nodes_on()),
             Due::At(_) | Due::Never => None,
         }
@@ -142,9 +163,14 @@ impl Lookout {
         u32::try_from(grown).unwrap_or(u32::MAX).min(self.most)
     }
 
+    /// Looks no more: there is no better plan.
+    pub(crate) fn end_looks(&mut self) {
+        self.due = Due::Never;
+    }
+
     /// Looks no more, and rehearses no more.
     pub(crate) fn end(&mut self) {
-        self.due = Due::Never;
+        self.end_looks();
         self.trials.end();
     }
 }

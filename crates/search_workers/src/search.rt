@@ -46,6 +46,26 @@ fn look_on(
     publish(alloc, core, plan)
 }
 
+/// Rehearses the search where that is due, and publishes a plan that is found.
+fn rehearse_on(
+    alloc: Global,
+    problem: &Problem,
+    reckoning: &Reckoning,
+    core: &mut Core,
+    explorer: &mut Explorer,
+) -> Result<(), Memory>
+    requires problem { core.old.problem ≡ problem.now }
+    requires reckons { ReckonsFor problem.now reckoning.now }
+    requires newest { IsOfNewest core.old explorer.old.graph }
+    requires ready { IsExplorerOf problem.now explorer.old }
+    ensures ready { IsExplorerOf problem.now explorer.new }
+    ensures on { CoreGoesOn core.old core.new }
+    ensures newest { IsOfNewest core.new explorer.new.graph }
+{
+    let plan = explorer.rehearse_on(alloc, problem, reckoning)?;
+    publish(alloc, core, plan)
+}
+
 /// Takes a leaf of the newest edition and grows it. Says whether the edition is closed.
 fn grow_next(
     alloc: Global,
@@ -78,8 +98,8 @@ fn grow_next(
     }
 }
 
-/// Looks for better plans where that is due, and then grows a leaf of the newest edition. Says
-/// whether the edition is closed.
+/// Looks for better plans and rehearses the search where that is due, and then grows a leaf of the
+/// newest edition. Says whether the edition is closed.
 fn round(
     alloc: Global,
     problem: &Problem,
@@ -99,6 +119,7 @@ fn round(
     ensures closed { IfOk result (λ closed. closed ≡ true → IsClosed core.new) }
 {
     look_on(alloc, problem, core, explorer)?;
+    rehearse_on(alloc, problem, reckoning, core, explorer)?;
     grow_next(alloc, problem, reckoning, core, explorer, effort)
 }
 

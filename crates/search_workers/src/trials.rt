@@ -10,8 +10,12 @@ const TIMES: u32 = 4;
 /// So often in turn, at most, from the root before a leaf grows,
 const AT_ROOT: u32 = 16;
 
-/// and so often where changes may come, at as many nodes each time.
+/// and so often where changes may come,
 const PROMPT_AT_ROOT: u32 = 1;
+
+/// each time then at this part of all the nodes that there may be, and at no more than of a first
+/// rehearsal.
+const PROMPT_PART: u32 = 32;
 
 /// So many times the budget, at most, are all the nodes of the rehearsals of a search,
 const FOR_BRANCH: u32 = 2;
@@ -20,11 +24,8 @@ const FOR_BRANCH: u32 = 2;
 const MOST_NODES: u32 = 400_000;
 
 /// also so many for the square of the operations, since a node takes the longer, the more there
-/// are,
+/// are.
 const FOR_SQUARE: u64 = 1_200_000_000_000;
-
-/// and so many where changes may come.
-const PROMPT_NODES: u32 = 131_072;
 
 /// At how many nodes the search of a problem is rehearsed, at most.
 fn most_nodes(problem: &Problem) -> u32 {
@@ -33,55 +34,78 @@ fn most_nodes(problem: &Problem) -> u32 {
     u32::try_from(most).unwrap_or(u32::MAX).min(MOST_NODES)
 }
 
+/// A part of a rehearsal from the root.
+#[derive(Clone, Copy, Debug)]
+pub(crate) struct Part {
+    /// At how many nodes it looks.
+    pub nodes: u32,
+    /// Whether it is the first part,
+    pub begins: bool,
+    /// or the last one.
+    pub ends: bool,
+}
+
 /// At how many nodes the search is rehearsed from the root before a leaf grows, and below that leaf
 /// where no script says anything of it. A rehearsal from the root that did not come to its end
-/// begins anew, with what was learned of what fails and with the best plan. Nothing rests on it.
+/// begins anew, with what was learned of what fails and with the best plan. Where changes may come
+/// it is done in parts, so that a searcher is never away for long. Nothing rests on it.
 #[derive(Clone, Copy, Debug)]
 pub(crate) struct Trials {
-    /// At how many nodes the next one looks.
+    /// At how many nodes the next one from the root looks.
     next: u32,
-    /// At how many nodes all that are still to come look.
+    /// At how many the present one is still to look.
+    here: u32,
+    /// At how many nodes a part looks, at most.
+    part: u32,
+    /// At how many all that are still to come look.
     left: u32,
-    /// So many times as many nodes the one behind it has,
-    times: u32,
-    /// and so many there are in turn, at most.
+    /// So many parts there are in turn, at most.
     at_once: u32,
 }
 
 impl Trials {
-    /// Those of a search by so many branches that looks at so many nodes in all, at most.
-    fn of(budget: u32, most: u32) -> Trials {
+    /// Those of a search by so many branches where the problem stays as it is.
+    pub(crate) fn steady(problem: &Problem, budget: u32) -> Trials {
         Trials {
             next: FIRST_NODES,
-            left: budget.saturating_mul(FOR_BRANCH).min(most),
-            times: TIMES,
+            here: 0,
+            part: u32::MAX,
+            left: budget.saturating_mul(FOR_BRANCH).min(most_nodes(problem)),
             at_once: AT_ROOT,
         }
     }
 
-    /// Those of a search where the problem stays as it is.
-    pub(crate) fn steady(problem: &Problem, budget: u32) -> Trials {
-        Trials::of(budget, most_nodes(problem))
-    }
-
     /// Those of a search where changes may come.
-    pub(crate) fn prompt(budget: u32) -> Trials {
+    pub(crate) fn prompt(problem: &Problem, budget: u32) -> Trials {
+        let part = most_nodes(problem) / PROMPT_PART;
         Trials {
-            times: 1,
+            part: part.max(1).min(FIRST_NODES),
             at_once: PROMPT_AT_ROOT,
-            ..Trials::of(budget, PROMPT_NODES)
+            ..Trials::steady(problem, budget)
         }
     }
 
-    /// At how many nodes to look now, if there is still one to come.
-    pub(crate) fn next(&mut self) -> Option<u32> {
-        if self.left == 0 {
-            return None;
-        }
-        let nodes = self.next.min(self.left);
+    /// So many nodes, as far as there are still some to come.
+    fn take(&mut self, nodes: u32) -> Option<u32> {
+        let nodes = nodes.min(self.part).min(self.left);
         self.left = self.left.saturating_sub(nodes);
-        self.next = self.next.saturating_mul(self.times);
-        Some(nodes)
+        if nodes == 0 { None } else { Some(nodes) }
+    }
+
+    /// The next part of a rehearsal from the root, if there is still one to come.
+    pub(crate) fn next(&mut self) -> Option<Part> {
+        let begins = self.here == 0;
+        if begins {
+            self.here = self.next;
+            self.next = self.next.saturating_mul(TIMES);
+        }
+        let nodes = self.take(self.here)?;
+        self.here = self.here.saturating_sub(nodes);
+        Some(Part {
+            nodes,
+            begins,
+            ends: self.here == 0,
+        })
     }
 
     /// How many from the root there are in turn before a leaf grows, at most.
@@ -91,8 +115,7 @@ impl Trials {
 
     /// At how many nodes to look below a leaf now, if there is still one to come.
     pub(crate) fn next_below(&mut self) -> Option<u32> {
-        self.next = FIRST_NODES;
-        self.next()
+        self.take(FIRST_NODES)
     }
 
     /// None is to come any more.

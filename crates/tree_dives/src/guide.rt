@@ -1,7 +1,8 @@
-ghost use Rattle.std.specs.Prelude.{IfOk};
+ghost use Rattle.std.specs.Prelude.{◌≡◌, IfOk};
 ghost use Rattle.disp_model.specs.declared.problem.Problem.{Problem as ProblemOf};
 ghost use Rattle.tree_dives.specs.Guides.{GuidesIn};
 
+use crate::following::Following;
 use crate::script::Script;
 use disp_model::{Choice, Decision, Memory, Problem};
 use event_graph::Graph;
@@ -109,11 +110,21 @@ impl Guide {
         Ok(())
     }
 
-    /// Whether a script says something of the node of these decisions.
-    pub fn is_scripted(&self, decisions: &[Decision]) -> bool {
-        self.scripts
-            .iter()
-            .any(|script| script.place_of(decisions).is_some())
+    /// Whether a script says something of the node of a graph.
+    pub fn is_scripted(&self, problem: &Problem, graph: &Graph) -> bool
+        requires { graph.now.problem ≡ problem.now }
+    {
+        for script in self.scripts.iter() {
+            let following = Following {
+                problem,
+                graph,
+                script,
+            };
+            if following.place().is_some() {
+                return true;
+            }
+        }
+        false
     }
 
     /// By what the choices are taken.

@@ -11,6 +11,7 @@
 
 mod diving;
 mod down;
+mod following;
 mod given;
 mod grown;
 mod guide;

@@ -101,35 +101,41 @@ impl Script {
         Some(self.branches.get(place)?.choice)
     }
 
-    /// The branch that comes next where the choice of the one at a place is not open.
-    pub(crate) fn passed(&self, place: usize) -> Option<usize> {
+    /// How many branches there are.
+    pub(crate) fn len(&self) -> usize {
+        self.branches.len()
+    }
+
+    /// Where it begins.
+    pub(crate) fn first(&self) -> Option<usize> {
+        self.first
+    }
+
+    /// Those of some decisions that come behind the node where it begins, if they lead there.
+    pub(crate) fn below<'a>(&self, decisions: &'a [Decision]) -> Option<&'a [Decision]> {
+        decisions.strip_prefix(self.above.as_slice())
+    }
+
+    /// Whether a decision is one of the choice of the branch at a place.
+    pub(crate) fn decides(&self, place: usize, decision: Decision) -> bool {
+        match self.branches.get(place) {
+            Some(branch) => is_between(branch.choice, decision),
+            None => false,
+        }
+    }
+
+    /// Where the branch stands behind a decision of the one at a place.
+    pub(crate) fn behind(&self, place: usize, decision: Decision) -> Option<usize> {
+        self.branches.get(place)?.behind(decision)
+    }
+
+    /// The branch behind the one at a place, of which the choice is not open: behind the decision
+    /// that holds, or the first one where that is not known.
+    pub(crate) fn passed(&self, place: usize, held: Option<Decision>) -> Option<usize> {
         let branch = self.branches.get(place)?;
-        Some(branch.below.first()?.place)
-    }
-
-    /// The branch to which a decision leads from the one at a place. What is not between its
-    /// choice's decisions was taken where that was not open.
-    fn step(&self, place: usize, decision: Decision) -> Option<usize> {
-        let mut place = place;
-        for _ in 0..self.branches.len() {
-            let branch = self.branches.get(place)?;
-            if let Some(next) = branch.behind(decision) {
-                return Some(next);
-            }
-            if is_between(branch.choice, decision) {
-                return None;
-            }
-            place = branch.below.first()?.place;
+        match held {
+            Some(decision) => branch.behind(decision),
+            None => Some(branch.below.first()?.place),
         }
-        None
-    }
-
-    /// Where the branch of the node of these decisions stands, if the script says something of it.
-    pub(crate) fn place_of(&self, decisions: &[Decision]) -> Option<usize> {
-        let mut place = self.first?;
-        for decision in decisions.strip_prefix(self.above.as_slice())? {
-            place = self.step(place, *decision)?;
-        }
-        Some(place)
     }
 }

@@ -9,6 +9,7 @@ ghost use Rattle.tree_dives.specs.Guides.{GuidesIn};
 ghost use Rattle.tree_dives.specs.Stages.{IsStageAt};
 ghost use Rattle.share_bound.specs.Known.{HoldFor};
 
+use crate::following::Following;
 use crate::guide::Guide;
 use crate::script::Script;
 use branch_rules::{Pick, pick_fixed_by};
@@ -56,33 +57,19 @@ fn room_above(bound: u64, best: Option<u64>) -> u64 {
     }
 }
 
-/// At so many branches of a script, at most, is looked for one of which the choice is open.
-const MOST_PASSED: u32 = 16;
-
-/// The choice that a script says at the node of a graph, where it says one that is open and
-/// something is to be picked.
-fn said_in(problem: &Problem, graph: &Graph, script: &Script) -> Option<Choice>
-    requires { graph.now.problem ≡ problem.now }
-    ensures { IfSome result (λ choice. IsPicked graph.now Free (Some choice)) }
-{
-    let mut place = script.place_of(graph.decisions())?;
-    for _ in 0..MOST_PASSED {
-        let choice = script.choice(place)?;
-        if let Some(choice) = pick_said(problem, graph, choice) {
-            return Some(choice);
-        }
-        place = script.passed(place)?;
-    }
-    None
-}
-
-/// The same of the first of some scripts that says one.
+/// The choice that the first of some scripts says at the node of a graph that says one which is open,
+/// where something is to be picked.
 fn said(problem: &Problem, graph: &Graph, scripts: &[Script]) -> Option<Choice>
     requires { graph.now.problem ≡ problem.now }
     ensures { IfSome result (λ choice. IsPicked graph.now Free (Some choice)) }
 {
     for script in scripts {
-        if let Some(choice) = said_in(problem, graph, script) {
+        let following = Following {
+            problem,
+            graph,
+            script,
+        };
+        if let Some(choice) = following.said() {
             return Some(choice);
         }
     }

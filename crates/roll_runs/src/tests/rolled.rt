@@ -12,9 +12,12 @@ use word_lists::words_of;
 pub(crate) const ONE_BLOCK: &str =
     r#"{"trains":[[{"min_duration":10,"resources":[{"resource":"r"}],"successors":[1]},{}],[{"min_duration":4,"resources":[{"resource":"r"}],"successors":[1]},{}]],"objective":[{"type":"op_delay","train":0,"operation":1,"coeff":1},{"type":"op_delay","train":1,"operation":1,"coeff":1}]}"#;
 
-/// What is written for one searcher on that problem, where the train of 10 has started first.
-const STARTED_FIRST: &str =
-    "plan 1 24 {\"events\":[{\"operation\":0,\"time\":0,\"train\":0},{\"operation\":1,\"time\":10,\"train\":0},{\"operation\":0,\"time\":10,\"train\":1},{\"operation\":1,\"time\":14,\"train\":1}],\"objective_value\":24}\nsettled 1 optimal 24\n";
+/// The plan of that problem where the train of 10 has started first, as it is written.
+const STARTED_PLAN: &str =
+    "plan 1 24 {\"events\":[{\"operation\":0,\"time\":0,\"train\":0},{\"operation\":1,\"time\":10,\"train\":0},{\"operation\":0,\"time\":10,\"train\":1},{\"operation\":1,\"time\":14,\"train\":1}],\"objective_value\":24}";
+
+/// What is written of its verdict.
+const STARTED_VERDICT: &str = "settled 1 optimal 24";
 
 /// How many searchers there are, in turn.
 pub(crate) const WORKERS: &[&str] = &["1", "2", "4"];
@@ -114,16 +117,27 @@ pub(crate) fn goes_first(
     status: u8,
     want: &str,
 ) {
-    let whole = format!(in rt.alloc(); "{want}{STARTED_FIRST}").expect(rt, "a text");
+    let whole =
+        format!(in rt.alloc(); "{want}{STARTED_PLAN}\n{STARTED_VERDICT}\n").expect(rt, "a text");
     is_so(rt, got, written, status, whole.as_str());
 }
 
-/// The lines that begin with a word begin so, in this order, and there are no others of it.
+/// The text has that plan, no other of its edition, and that verdict last.
+pub(crate) fn has_gone_first(text: &str) -> bool {
+    has_lines(text, "plan 1 ", &[STARTED_PLAN]) && settles(text, STARTED_VERDICT)
+}
+
+/// The line is this one, or begins so where what is wanted ends with a space.
+fn is_line(line: &str, wanted: &str) -> bool {
+    line == wanted || (wanted.ends_with(" ") && line.starts_with(wanted))
+}
+
+/// The lines that begin with a word are these, in this order, and there are no others of it.
 pub(crate) fn has_lines(text: &str, word: &str, wanted: &[&str]) -> bool {
     let mut count = 0;
     for line in text.split('\n') {
         if line.starts_with(word) {
-            if count >= wanted.len() || !line.starts_with(wanted[count]) {
+            if count >= wanted.len() || !is_line(line, wanted[count]) {
                 return false;
             }
             count += 1;
