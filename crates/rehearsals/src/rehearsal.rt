@@ -101,12 +101,14 @@ pub fn rehearse(
     ensures plan { IfOk result (λ rehearsed. IfSome rehearsed.plan (IsPlanAt graph.old)) }
 {
     guide.begin_behind(0);
+    let mut nodes = trial.nodes;
     let goes_on = lessons.course.is_some();
     let mut rehearsal = Rehearsal::new(alloc, problem, graph, lessons, trial)?;
     if !goes_on {
         rehearsal.look(alloc, problem, reckoning, graph, known, guide)?;
+        nodes = nodes.saturating_sub(1);
     }
-    for _ in 1..trial.nodes {
+    for _ in 0..nodes {
         let Some(next) = rehearsal.next() else {
             return Ok(outcome_of(rehearsal));
         };

@@ -1,5 +1,6 @@
 mod ahead;
 mod dives;
+mod following;
 mod leaves;
 mod nogoods;
 mod parts;

@@ -13,10 +13,10 @@ const MOST_PASSED: u32 = 16;
 
 /// A script that is followed to the node of a graph.
 #[derive(Clone, Copy)]
-pub(crate) struct Following<'a> {
-    pub problem: &'a Problem,
-    pub graph: &'a Graph<'a>,
-    pub script: &'a Script,
+struct Following<'a> {
+    problem: &'a Problem,
+    graph: &'a Graph<'a>,
+    script: &'a Script,
 }
 
 /// How a train goes on from an operation, where its routes agree.
@@ -108,7 +108,7 @@ impl<'a> Following<'a> {
     }
 
     /// Where the branch of the node stands, if the script says something of it.
-    pub(crate) fn place(self) -> Option<usize>
+    fn place(self) -> Option<usize>
         requires { self.graph.now.problem ≡ self.problem.now }
     {
         let mut place = self.script.first()?;
@@ -122,7 +122,7 @@ impl<'a> Following<'a> {
     /// to be picked.
     fn open_from(self, place: usize) -> Option<Choice>
         requires { self.graph.now.problem ≡ self.problem.now }
-        ensures { IfSome result (λ choice. IsPicked self.graph.now Free (Some choice)) }
+        ensures { IfSome result (λ choice. IsPicked self.entry.graph.now Free (Some choice)) }
     {
         let mut place = place;
         for _ in 0..MOST_PASSED {
@@ -139,7 +139,7 @@ impl<'a> Following<'a> {
     /// decides what a decision does.
     fn open_before(self, place: usize, decision: Decision) -> Option<Choice>
         requires { self.graph.now.problem ≡ self.problem.now }
-        ensures { IfSome result (λ choice. IsPicked self.graph.now Free (Some choice)) }
+        ensures { IfSome result (λ choice. IsPicked self.entry.graph.now Free (Some choice)) }
     {
         let mut place = place;
         for _ in 0..self.script.len() {
@@ -159,7 +159,7 @@ impl<'a> Following<'a> {
     /// since has moved its operations.
     fn reopened(self) -> Option<Choice>
         requires { self.graph.now.problem ≡ self.problem.now }
-        ensures { IfSome result (λ choice. IsPicked self.graph.now Free (Some choice)) }
+        ensures { IfSome result (λ choice. IsPicked self.entry.graph.now Free (Some choice)) }
     {
         let mut place = self.script.first()?;
         for decision in self.script.below(self.graph.decisions())? {
@@ -173,9 +173,9 @@ impl<'a> Following<'a> {
 
     /// The choice that the script says at the node, where it says one that is open and something is
     /// to be picked.
-    pub(crate) fn said(self) -> Option<Choice>
+    fn said(self) -> Option<Choice>
         requires { self.graph.now.problem ≡ self.problem.now }
-        ensures { IfSome result (λ choice. IsPicked self.graph.now Free (Some choice)) }
+        ensures { IfSome result (λ choice. IsPicked self.entry.graph.now Free (Some choice)) }
     {
         if let Some(place) = self.place() {
             if let Some(choice) = self.open_from(place) {
@@ -184,4 +184,34 @@ impl<'a> Following<'a> {
         }
         self.reopened()
     }
+}
+
+/// Whether a script says something of the node of a graph.
+pub(crate) fn is_in<'a>(script: &'a Script, problem: &'a Problem, graph: &'a Graph<'a>) -> bool
+    requires { graph.now.problem ≡ problem.now }
+{
+    let following = Following {
+        problem,
+        graph,
+        script,
+    };
+    following.place().is_some()
+}
+
+/// The choice that a script says at the node of a graph, where it says one that is open and
+/// something is to be picked.
+pub(crate) fn said_by<'a>(
+    script: &'a Script,
+    problem: &'a Problem,
+    graph: &'a Graph<'a>,
+) -> Option<Choice>
+    requires { graph.now.problem ≡ problem.now }
+    ensures { IfSome result (λ choice. IsPicked graph.entry.now Free (Some choice)) }
+{
+    let following = Following {
+        problem,
+        graph,
+        script,
+    };
+    following.said()
 }

@@ -2,7 +2,7 @@ ghost use Rattle.std.specs.Prelude.{◌≡◌, IfOk};
 ghost use Rattle.disp_model.specs.declared.problem.Problem.{Problem as ProblemOf};
 ghost use Rattle.tree_dives.specs.Guides.{GuidesIn};
 
-use crate::following::Following;
+use crate::following::is_in;
 use crate::script::Script;
 use disp_model::{Choice, Decision, Memory, Problem};
 use event_graph::Graph;
@@ -115,12 +115,7 @@ impl Guide {
         requires { graph.now.problem ≡ problem.now }
     {
         for script in self.scripts.iter() {
-            let following = Following {
-                problem,
-                graph,
-                script,
-            };
-            if following.place().is_some() {
+            if is_in(script, &*problem, &*graph) {
                 return true;
             }
         }

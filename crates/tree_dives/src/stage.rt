@@ -9,7 +9,7 @@ ghost use Rattle.tree_dives.specs.Guides.{GuidesIn};
 ghost use Rattle.tree_dives.specs.Stages.{IsStageAt};
 ghost use Rattle.share_bound.specs.Known.{HoldFor};
 
-use crate::following::Following;
+use crate::following::said_by;
 use crate::guide::Guide;
 use crate::script::Script;
 use branch_rules::{Pick, pick_fixed_by};
@@ -64,12 +64,7 @@ fn said(problem: &Problem, graph: &Graph, scripts: &[Script]) -> Option<Choice>
     ensures { IfSome result (λ choice. IsPicked graph.now Free (Some choice)) }
 {
     for script in scripts {
-        let following = Following {
-            problem,
-            graph,
-            script,
-        };
-        if let Some(choice) = following.said() {
+        if let Some(choice) = said_by(script, &*problem, &*graph) {
             return Some(choice);
         }
     }
