@@ -155,7 +155,15 @@ fn look(
             dead_by_time,
         });
     };
-    let Base { plan, cost, .. } = improved(alloc, problem, graph, &mut adviser, base, draws, nodes)?;
+    let Base { plan, cost, .. } = improved(
+        alloc,
+        problem,
+        graph,
+        &mut adviser,
+        base,
+        draws,
+        nodes,
+    )?;
     Ok(Ahead {
         plan: Some(plan),
         cost: Some(cost),

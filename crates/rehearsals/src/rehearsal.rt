@@ -73,9 +73,9 @@ fn outcome_of(rehearsal: Rehearsal) -> Rehearsed
 }
 
 /// Rehearses the search below a node by a trial, with what rehearsals from that node learned before
-/// it, for plans that cost no less. It goes on where the last of them came to, unless it is to begin
-/// anew; the graph is at the node to which the way of the lessons leads. A plan that is found is
-/// valid; nothing is claimed of how good it is, or of the script. The graph is moved.
+/// it, for plans that cost no less. It goes on where the last of them came to, unless it is to
+/// begin anew; the graph is at the node to which the way of the lessons leads. A plan that is found
+/// is valid; nothing is claimed of how good it is, or of the script. The graph is moved.
 ///
 /// # Errors
 ///

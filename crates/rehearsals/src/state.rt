@@ -90,8 +90,8 @@ fn go_to(
 }
 
 impl<'a> Rehearsal<'a> {
-    /// A rehearsal from the node of a graph, or from the one above it to which lessons lead that say
-    /// how far the last one came: it goes on there. Fails for memory alone.
+    /// A rehearsal from the node of a graph, or from the one above it to which lessons lead that
+    /// say how far the last one came: it goes on there. Fails for memory alone.
     pub(crate) fn new(
         alloc: Global,
         problem: &Problem,

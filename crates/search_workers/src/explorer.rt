@@ -96,8 +96,8 @@ impl<'p> Explorer<'p> {
     }
 
     /// Gives a plan that was found by a rehearsal below a leaf, or looks for plans that are better
-    /// than the target, from the root, if that is due. A plan that is found is valid, and the target
-    /// from then on.
+    /// than the target, from the root, if that is due. A plan that is found is valid, and the
+    /// target from then on.
     ///
     /// # Errors
     ///
@@ -211,9 +211,9 @@ impl<'p> Explorer<'p> {
         Ok(Tried { best, lessons })
     }
 
-    /// Looks for better plans behind a rehearsal from the root at so many nodes that came to no end,
-    /// if that is due; it may have found a better one. A plan that is found is kept, and rehearsals look
-    /// for better ones.
+    /// Looks for better plans behind a rehearsal from the root at so many nodes that came to no
+    /// end, if that is due; it may have found a better one. A plan that is found is kept, and
+    /// rehearsals look for better ones.
     fn look_behind(
         &mut self,
         alloc: Global,
@@ -247,9 +247,9 @@ impl<'p> Explorer<'p> {
         go_to(&mut self.graph, &mut self.known, decisions)
     }
 
-    /// Rehearses a part of the search from the root, if that is due, and looks on from a better plan
-    /// that it finds. Says whether it came to no end. What is known of plans that others found is
-    /// left out, so that each searcher of a crew comes to the same script.
+    /// Rehearses a part of the search from the root, if that is due, and looks on from a better
+    /// plan that it finds. Says whether it came to no end. What is known of plans that others found
+    /// is left out, so that each searcher of a crew comes to the same script.
     fn rehearse_once(
         &mut self,
         alloc: Global,
@@ -344,8 +344,8 @@ impl<'p> Explorer<'p> {
         Ok(self.found.take())
     }
 
-    /// Rehearses the search below the node where the graph is, which is the node of these decisions,
-    /// if that is due.
+    /// Rehearses the search below the node where the graph is, which is the node of these
+    /// decisions, if that is due.
     fn rehearse_below(
         &mut self,
         alloc: Global,
@@ -375,8 +375,8 @@ impl<'p> Explorer<'p> {
         reckoning.rule == Rule::Free && self.rehearser.lessons.is_none()
     }
 
-    /// Rehearses the search below the leaf of a work where no script says anything of it, if that is
-    /// due.
+    /// Rehearses the search below the leaf of a work where no script says anything of it, if that
+    /// is due.
     fn prepare(
         &mut self,
         alloc: Global,

@@ -36,8 +36,8 @@ enum Due {
 /// When a searcher looks for better plans, and at how many nodes: at few before anything else, at
 /// many behind a rehearsal that came to no end, and then each time that it has grown four times as
 /// many nodes, at no more than were grown since. Few long looks find better plans than many short
-/// ones. Each look is by draws of its own; but the first ones, and those between rehearsals, are the
-/// same for all searchers, so that all come to the same script. Nothing rests on it.
+/// ones. Each look is by draws of its own; but the first ones, and those between rehearsals, are
+/// the same for all searchers, so that all come to the same script. Nothing rests on it.
 #[derive(Clone, Copy, Debug)]
 pub struct Lookout {
     /// The place of the searcher.
@@ -67,8 +67,8 @@ pub(crate) struct Look {
 }
 
 impl Lookout {
-    /// The lookout of a searcher at this place that looks at so many nodes at first. Where no branch
-    /// is allowed it never looks.
+    /// The lookout of a searcher at this place that looks at so many nodes at first. Where no
+    /// branch is allowed it never looks.
     fn of(place: u32, first: u32, budget: u32, trials: Trials) -> Lookout {
         let due = match budget {
             0 => Due::Never,
@@ -93,8 +93,8 @@ impl Lookout {
         Lookout::of(place, nodes, budget, Trials::steady(problem, budget))
     }
 
-    /// The lookout of a searcher of a problem at a place where changes may come: it is never away for
-    /// long.
+    /// The lookout of a searcher of a problem at a place where changes may come: it is never away
+    /// for long.
     pub fn prompt(problem: &Problem, place: u32, budget: u32) -> Lookout {
         let trials = Trials::prompt(problem, budget);
         let lookout = Lookout::of(place, NODES.of(problem), budget, trials);
@@ -124,8 +124,8 @@ impl Lookout {
         Some(self.look(nodes, apart))
     }
 
-    /// A look behind a rehearsal at so many nodes that came to no end, if one is due: what is left of
-    /// the first look, or one behind a better plan. It is the same for each searcher.
+    /// A look behind a rehearsal at so many nodes that came to no end, if one is due: what is left
+    /// of the first look, or one behind a better plan. It is the same for each searcher.
     pub(crate) fn look_between(&mut self, is_better: bool, nodes: u32) -> Option<Look> {
         if let Due::First = self.due {
             return self.next();

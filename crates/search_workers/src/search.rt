@@ -213,9 +213,9 @@ fn search_from(
 }
 
 /// Searches the newest edition of a core on one thread until it is settled or stopped. The problem
-/// and the settings are the core's. It looks for plans before its first dive and each time that it
-/// has grown four times as much, and publishes those that it finds; its dives follow the last of
-/// them.
+/// and the settings are the core's. Before its first dive it looks for plans and rehearses the
+/// search, and each time that it has grown four times as much it looks on; it publishes the plans
+/// that it finds, and its dives follow the last of them.
 ///
 /// # Errors
 ///

@@ -135,8 +135,8 @@ impl<'a> Following<'a> {
         None
     }
 
-    /// The first choice that is open at the node, from the branch at a place on, before the one that
-    /// decides what a decision does.
+    /// The first choice that is open at the node, from the branch at a place on, before the one
+    /// that decides what a decision does.
     fn open_before(self, place: usize, decision: Decision) -> Option<Choice>
         requires { self.graph.now.problem ≡ self.problem.now }
         ensures { IfSome result (λ choice. IsPicked self.entry.graph.now Free (Some choice)) }

@@ -57,8 +57,8 @@ fn room_above(bound: u64, best: Option<u64>) -> u64 {
     }
 }
 
-/// The choice that the first of some scripts says at the node of a graph that says one which is open,
-/// where something is to be picked.
+/// The choice that the first of some scripts says at the node of a graph that says one which is
+/// open, where something is to be picked.
 fn said(problem: &Problem, graph: &Graph, scripts: &[Script]) -> Option<Choice>
     requires { graph.now.problem ≡ problem.now }
     ensures { IfSome result (λ choice. IsPicked graph.now Free (Some choice)) }

@@ -14,9 +14,9 @@ fn shelf_with(rt: &(impl Abort + AllocGlobal), feed: &[u8], broken: &[u64]) -> M
     shelf
 }
 
-/// `roll` on that shelf ends with this status, has answered the feed so, and has said that the train
-/// of 10 goes first. Readings of the feed have failed so often. A plan of the edition before may
-/// have been found ahead of any line.
+/// `roll` on that shelf ends with this status, has answered the feed so, and has said that the
+/// train of 10 goes first. Readings of the feed have failed so often. A plan of the edition before
+/// may have been found ahead of any line.
 fn enters(
     rt: &(impl Threads + Wait + Sync + Abort + AllocGlobal),
     shelf: &mut MemShelf,
@@ -60,10 +60,7 @@ fn is_entered(
 }
 
 /// So it is for each row.
-fn are_entered(
-    rt: &(impl Threads + Wait + Sync + Abort + AllocGlobal),
-    rows: &[(&[u8], &[&str])],
-) {
+fn are_entered(rt: &(impl Threads + Wait + Sync + Abort + AllocGlobal), rows: &[(&[u8], &[&str])]) {
     for (feed, lines) in rows {
         is_entered(rt, feed, lines);
     }

@@ -117,8 +117,9 @@ pub(crate) fn goes_first(
     status: u8,
     want: &str,
 ) {
-    let whole =
-        format!(in rt.alloc(); "{want}{STARTED_PLAN}\n{STARTED_VERDICT}\n").expect(rt, "a text");
+    let whole = format!(in rt.alloc(); "{want}{STARTED_PLAN}\n{STARTED_VERDICT}\n").expect(
+        rt, "a text",
+    );
     is_so(rt, got, written, status, whole.as_str());
 }
 

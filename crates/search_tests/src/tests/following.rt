@@ -23,14 +23,28 @@ fn script_of(rt: &impl Abort, alloc: Global, over: Op, led: Decision, other: Dec
     let mut script = Script::new(alloc, &[]).expect(rt, "a script");
     let last = script.add(Choice::Run(OTHER_WAY), Vec::new(alloc));
     let place = last.expect(rt, "a branch");
-    let below = vec![in alloc; Below { decision: GO, place }; 1].expect(rt, "room");
+    let below = vec![in alloc; Below {
+        decision: GO,
+        place
+    }; 1]
+    .expect(rt, "room");
     let ways = script.add(Choice::Route(BEGIN), below);
     let mut below = Vec::new(alloc);
     let place = ways.expect(rt, "a branch");
-    below.push(Below { decision: led, place }).expect(rt, "room");
+    below
+        .push(Below {
+            decision: led,
+            place,
+        })
+        .expect(rt, "room");
     let place = script.add(Choice::Run(OTHER_WAY), Vec::new(alloc));
     let place = place.expect(rt, "a branch");
-    below.push(Below { decision: other, place }).expect(rt, "room");
+    below
+        .push(Below {
+            decision: other,
+            place,
+        })
+        .expect(rt, "room");
     let first = script.add(Choice::Run(over), below);
     script.begin_at(Some(first.expect(rt, "a branch")));
     script
