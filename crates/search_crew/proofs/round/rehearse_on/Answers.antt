@@ -5,6 +5,7 @@ use Rattle.disp_model.specs.declared.problem.Problem.{Problem}
 use Rattle.disp_model.specs.History.{fixings_after}
 use Rattle.disp_model.specs.Node.{node_at}
 use Rattle.near_plans.specs.Plans.{IsPlanAt}
+use Rattle.node_leaves.specs.Reckoned.{ReckonsFor}
 use Rattle.shared_board.specs.Board.{problem_of, known}
 use Rattle.search_crew.specs.Grounds.{IsGround}
 use Rattle.search_crew.proofs.Handing.{plan_at}
@@ -13,7 +14,10 @@ use Rattle.search_crew.proofs.round.rehearse_on.Goals as goal
 pub rehearse_on-requires : goal.rehearse_on-requires
 rehearse_on-requires g c =
     let fixings = fixings_after c.args.edition (known c.args.pass.now).seen in
-    record { ground = (fixings, subst (λ (p : Problem). IsGround p fixings c.args.ground.now) (sym c.problem.ensures) c.requires.ground) }
+    record {
+      reckons = subst (λ (p : Problem). ReckonsFor p c.args.reckoning.now) (sym c.problem.ensures) c.requires.reckons;
+      ground = (fixings, subst (λ (p : Problem). IsGround p fixings c.args.ground.now) (sym c.problem.ensures) c.requires.ground);
+    }
 
 pub publish-requires-clause-plan : goal.publish-requires-clause-plan
 publish-requires-clause-plan g c =

@@ -1,7 +1,5 @@
 use Rattle.disp_model.specs.History.{fixings_after}
 use Rattle.shared_board.specs.Board.{problem_of, known}
-use Rattle.search_crew.specs.Grounds.{IsGround}
-use Rattle.search_crew.specs.Working.{IsAtWork, KeepsOn}
 use Rattle.search_crew.proofs.Grounding.{ground_on}
 use Rattle.search_crew.proofs.Keeping.{at_work_on, keeps_keeps}
 use Rattle.search_crew.proofs.round.round.Goals as goal
