@@ -1,5 +1,5 @@
 use Rattle.near_plans.specs.Plans.{IsBeside}
 use Rattle.search_tests.proofs.tests.rehearsed.move_to.Given as goal
 
-abbrev pub invariant-loop : goal.invariant-loop
-invariant-loop l = IsBeside l.initial.graph l.graph
+abbrev pub invariant-loop-decision : goal.invariant-loop-decision
+invariant-loop-decision g l = IsBeside l.initial.graph l.graph
