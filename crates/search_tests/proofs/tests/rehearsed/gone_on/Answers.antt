@@ -6,4 +6,4 @@ pub rehearsed-second-requires-clause-edition : goal.rehearsed-second-requires-cl
 rehearsed-second-requires-clause-edition g c =
     let start = c.args.graph.now in
     edition_beside start c.move_to.new.graph
-    (beside_beside start c.rehearsed-first.new.graph c.move_to.new.graph c.rehearsed-first.ensures c.move_to.ensures) c.requires.edition
+    (beside_beside start c.rehearsed-first.new.graph c.move_to.new.graph c.rehearsed-first.ensures.beside c.move_to.ensures) c.requires.edition
