@@ -122,6 +122,15 @@ impl Clash {
         self.meeting.one_start.max(self.meeting.other_start)
     }
 
+    /// Whether it stays behind another even if it weighs so many times as much, or where both weigh
+    /// the same, delays so many times as much.
+    pub(crate) fn is_behind(&self, other: &Clash, times: u64) -> bool {
+        if self.weight != other.weight {
+            return self.weight.saturating_mul(times) < other.weight;
+        }
+        self.delay.saturating_mul(times) < other.delay
+    }
+
     /// Whether it comes before another.
     pub(crate) fn is_before(&self, other: &Clash) -> bool {
         if self.weight != other.weight {

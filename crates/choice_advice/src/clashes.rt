@@ -14,6 +14,12 @@ const MOST_ASKED: u32 = 64;
 /// Of how many clashes at most a quick look asks what their orders push.
 const FEW: usize = 8;
 
+/// So many turns, at most, it is taken for what it was then what the orders of two that meet push,
+const MOST_TURNS: u64 = 16;
+
+/// where the clash that comes first weighs more than so many times as much.
+const FAR: u64 = 2;
+
 /// By what one clash comes before another.
 #[derive(Clone, Copy, PartialEq, Eq)]
 pub(crate) enum By {
@@ -119,10 +125,25 @@ impl Clashes {
         }
     }
 
-    /// Looks at the clash of two that meet, by tolls with all that they push.
+    /// Whether the clash of two that meet was far behind the one that comes first, when it was last
+    /// looked at what their orders push, a few turns ago.
+    fn was_far(&self, view: View, met: &Met, failures: u64) -> bool {
+        let (Some(first), Some(pushed)) = (&self.first, met.pushed_lately(view.ages, MOST_TURNS))
+        else {
+            return false;
+        };
+        let clash = Clash::of(met.meeting, pushed.within(view.room), failures);
+        clash.is_behind(first, FAR)
+    }
+
+    /// Looks at the clash of two that meet, by tolls with all that they push, unless it was far
+    /// behind the one that comes first a few turns ago.
     fn take_pushed(&mut self, view: View, met: &mut Met) {
-        let pushed = self.pushed(view, met);
         let failures = view.failures.of_resource(met.meeting.resource);
+        if self.was_far(view, met, failures) {
+            return;
+        }
+        let pushed = self.pushed(view, met);
         let clash = Clash::of(met.meeting, pushed, failures);
         self.first = first_of(self.first, clash);
     }

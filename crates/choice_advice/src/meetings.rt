@@ -130,7 +130,7 @@ impl Pushed {
     }
 
     /// The same in a room.
-    fn within(&self, room: u64) -> Pushed {
+    pub(crate) fn within(&self, room: u64) -> Pushed {
         Pushed {
             there: self.there.within(room),
             back: self.back.within(room),
@@ -155,6 +155,16 @@ impl Met {
     /// Whether neither train was looked at again since a turn.
     pub(crate) fn is_as_at(&self, spots: &Spots, turn: u64) -> bool {
         spots.is_as_at(self.one_train, turn) && spots.is_as_at(self.other_train, turn)
+    }
+
+    /// What its orders did with all that they pushed when it was looked at last, no more than so
+    /// many turns ago.
+    pub(crate) fn pushed_lately(&self, ages: &Ages, turns: u64) -> Option<&Pushed> {
+        if self.pushed.turn > 0 && ages.turn() <= self.pushed.turn.saturating_add(turns) {
+            Some(&self.pushed)
+        } else {
+            None
+        }
     }
 
     /// What its orders do with all that they push in a room, where that is known.

@@ -293,6 +293,9 @@ impl<'p> Explorer<'p> {
         if is_better || part.ends {
             self.look_behind(alloc, problem, is_better, part.nodes)?;
         }
+        if self.rehearser.best != best {
+            self.scout.lookout.trials.note_better();
+        }
         Ok(true)
     }
 

@@ -19,6 +19,9 @@ const FIRST_DUE: u64 = 4096;
 /// And then each time that so many times as many were.
 const TIMES: u64 = 4;
 
+/// Behind a rehearsal that came to no end it looks at so many times as many nodes as that.
+const FOR_REHEARSED: u32 = 2;
+
 /// The numbers of the draws of one searcher lie so far from each other.
 const DRAWS_APART: u32 = 64;
 
@@ -34,9 +37,9 @@ enum Due {
 }
 
 /// When a searcher looks for better plans, and at how many nodes: at few before anything else, at
-/// many behind a rehearsal that came to no end, and then each time that it has grown four times as
-/// many nodes, at no more than were grown since. Few long looks find better plans than many short
-/// ones. Each look is by draws of its own; but the first ones, and those between rehearsals, are
+/// twice as many as a rehearsal that came to no end did, and then each time that it has grown four
+/// times as many nodes, at no more than were grown since. Few long looks find better plans than
+/// many short ones. Each look is by draws of its own; but the first ones, and those between rehearsals, are
 /// the same for all searchers, so that all come to the same script. Nothing rests on it.
 #[derive(Clone, Copy, Debug)]
 pub struct Lookout {
@@ -111,30 +114,37 @@ impl Lookout {
 
     /// The look that is due, if one is. The next one is due later then.
     pub(crate) fn next(&mut self) -> Option<Look> {
-        let nodes = self.nodes_due()?;
-        let apart = match self.due {
-            Due::First => 0,
-            Due::At(_) | Due::Never => self.place,
-        };
-        self.before = self.grown;
-        self.first = self.first.saturating_sub(nodes);
-        if self.first == 0 {
-            self.due = Due::At(self.grown.saturating_mul(TIMES).max(FIRST_DUE));
+        match self.due {
+            Due::First if self.draws == 0 => Some(self.look_first(FEW_NODES)),
+            Due::First => Some(self.look_first(self.most)),
+            Due::At(grown) if grown <= self.grown => {
+                let nodes = self.nodes_on();
+                self.wait();
+                Some(self.look(nodes, self.place))
+            }
+            Due::At(_) | Due::Never => None,
         }
-        Some(self.look(nodes, apart))
     }
 
-    /// A look behind a rehearsal at so many nodes that came to no end, if one is due: what is left
-    /// of the first look, or one behind a better plan. It is the same for each searcher.
+    /// A look behind a rehearsal at so many nodes that came to no end, if one is due: a part of the
+    /// first look, or one behind a better plan. It is the same for each searcher.
     pub(crate) fn look_between(&mut self, is_better: bool, nodes: u32) -> Option<Look> {
-        if let Due::First = self.due {
-            return self.next();
+        let nodes = nodes.saturating_mul(FOR_REHEARSED).min(self.most);
+        match self.due {
+            Due::First => Some(self.look_first(nodes)),
+            Due::At(_) | Due::Never if is_better => Some(self.look(nodes, 0)),
+            Due::At(_) | Due::Never => None,
         }
-        if is_better {
-            Some(self.look(nodes.min(self.most), 0))
-        } else {
-            None
+    }
+
+    /// A part of the first look, at so many nodes at most.
+    fn look_first(&mut self, nodes: u32) -> Look {
+        let nodes = nodes.min(self.first);
+        self.first = self.first.saturating_sub(nodes);
+        if self.first == 0 {
+            self.wait();
         }
+        self.look(nodes, 0)
     }
 
     /// A look at so many nodes, by draws that lie so far from those of the first searcher.
@@ -147,14 +157,10 @@ impl Lookout {
         look
     }
 
-    /// At how many nodes a look is to look now, if one is due.
-    fn nodes_due(&self) -> Option<u32> {
-        match self.due {
-            Due::First if self.draws == 0 => Some(self.first.min(FEW_NODES)),
-            Due::First => Some(self.first.min(self.most)),
-            Due::At(grown) if grown <= self.grown => Some(self.nodes_on()),
-            Due::At(_) | Due::Never => None,
-        }
+    /// Has the next look wait for some nodes to be grown.
+    fn wait(&mut self) {
+        self.before = self.grown;
+        self.due = Due::At(self.grown.saturating_mul(TIMES).max(FIRST_DUE));
     }
 
     /// At how many nodes it is to look on.

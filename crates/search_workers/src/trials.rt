@@ -4,7 +4,7 @@ use disp_model::Problem;
 /// At so many nodes a search is rehearsed first, at most,
 const FIRST_NODES: u32 = 8192;
 
-/// and then each time at so many times as many.
+/// and then each time that no better plan was found, at so many times as many.
 const TIMES: u32 = 4;
 
 /// So often in turn, at most, from the root before a leaf grows,
@@ -51,7 +51,9 @@ pub(crate) struct Part {
 /// it is done in parts, so that a searcher is never away for long. Nothing rests on it.
 #[derive(Clone, Copy, Debug)]
 pub(crate) struct Trials {
-    /// At how many nodes the next one from the root looks.
+    /// At how many nodes the present one from the root looks,
+    whole: u32,
+    /// and the next one.
     next: u32,
     /// At how many the present one is still to look.
     here: u32,
@@ -67,6 +69,7 @@ impl Trials {
     /// Those of a search by so many branches where the problem stays as it is.
     pub(crate) fn steady(problem: &Problem, budget: u32) -> Trials {
         Trials {
+            whole: 0,
             next: FIRST_NODES,
             here: 0,
             part: u32::MAX,
@@ -96,8 +99,9 @@ impl Trials {
     pub(crate) fn next(&mut self) -> Option<Part> {
         let begins = self.here == 0;
         if begins {
-            self.here = self.next;
-            self.next = self.next.saturating_mul(TIMES);
+            self.whole = self.next;
+            self.here = self.whole;
+            self.next = self.whole.saturating_mul(TIMES);
         }
         let nodes = self.take(self.here)?;
         self.here = self.here.saturating_sub(nodes);
@@ -106,6 +110,11 @@ impl Trials {
             begins,
             ends: self.here == 0,
         })
+    }
+
+    /// A better plan is known than before: the next one looks at no more nodes than the present one.
+    pub(crate) fn note_better(&mut self) {
+        self.next = self.whole;
     }
 
     /// How many from the root there are in turn before a leaf grows, at most.

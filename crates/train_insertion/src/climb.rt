@@ -141,7 +141,7 @@ fn rebuilt(
     kept: usize,
     least: Worth,
 ) -> Result<Table, Memory> {
-    let mut table = no_table(alloc, task)?;
+    let mut table = Table::like(alloc, old)?;
     for (place, train) in order.iter().enumerate() {
         if table.worth > least {
             break;

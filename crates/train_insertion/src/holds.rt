@@ -41,6 +41,15 @@ impl Holds {
         Ok(Holds { each })
     }
 
+    /// Nothing is taken, with room for as much as these are.
+    pub(crate) fn as_many(alloc: Global, other: &Holds) -> Result<Holds, Memory> {
+        let mut each = Vec::with_capacity(alloc, other.each.len())?;
+        for row in other.each.as_slice() {
+            each.push(Vec::with_capacity(alloc, row.len().saturating_add(1))?)?;
+        }
+        Ok(Holds { each })
+    }
+
     /// The times during which a resource is taken.
     pub(crate) fn of(&self, resource: u32) -> &[Hold] {
         match self.each.get(resource as usize) {

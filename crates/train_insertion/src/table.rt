@@ -47,6 +47,19 @@ impl Table {
         })
     }
 
+    /// The table without trains, with room for what another one holds.
+    pub(crate) fn like(alloc: Global, other: &Table) -> Result<Table, Memory> {
+        Ok(Table {
+            runs: no_runs(alloc, other.runs.len())?,
+            holds: Holds::as_many(alloc, &other.holds)?,
+            worth: Worth {
+                missing: 0,
+                cost: 0,
+            },
+            inserted: 0,
+        })
+    }
+
     /// Copies of the runs of the trains.
     pub(crate) fn copy_runs(&self, alloc: Global) -> Result<Vec<List<Start>>, Memory> {
         let mut runs = Vec::with_capacity(alloc, self.runs.len())?;

@@ -99,13 +99,24 @@ impl Windows {
     }
 }
 
+/// How many windows there are at most between the times that are taken of what a train lists.
+fn most_windows(holds: &Holds, train: &[Operation]) -> usize {
+    let mut most = train.len();
+    for operation in train {
+        for listing in operation.listings.as_slice() {
+            most = most.saturating_add(holds.of(listing.resource).len());
+        }
+    }
+    most
+}
+
 /// The times in which all that each operation of a train lists is free.
 pub(crate) fn windows_of(
     alloc: Global,
     holds: &Holds,
     train: &[Operation],
 ) -> Result<Windows, Memory> {
-    let mut all = Vec::new(alloc);
+    let mut all = Vec::with_capacity(alloc, most_windows(holds, train))?;
     let mut begins = Vec::with_capacity(alloc, train.len().saturating_add(1))?;
     let mut closed = Vec::new(alloc);
     for operation in train {
