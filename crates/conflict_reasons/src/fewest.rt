@@ -3,6 +3,7 @@ ghost use Rattle.std.specs.Prelude.{◌≡◌, ◌<◌, length};
 use crate::needs::{Need, are_met};
 use crate::past::routes_with;
 use crate::reasons::At;
+use crate::tried::TriedRoutes;
 use disp_model::{Decision, Memory};
 use std::alloc::Global;
 
@@ -32,6 +33,7 @@ fn decisions_at(
 fn is_enough(
     alloc: Global,
     at: At,
+    tried: &mut TriedRoutes,
     train: u32,
     needs: &[Need],
     kept: &[usize],
@@ -46,8 +48,13 @@ fn is_enough(
         }
     }
     let decisions = decisions_at(alloc, at, train, kept, count)?;
+    if let Some(routes) = tried.find(train, &decisions) {
+        return Ok(are_met(needs, routes));
+    }
     let routes = routes_with(at.problem, at.fixings, at.graph, train, &decisions)?;
-    Ok(are_met(needs, &routes))
+    let enough = are_met(needs, &routes);
+    tried.keep(train, decisions, routes)?;
+    Ok(enough)
 }
 
 /// How many of the first decisions have to stand beside those that are kept, where so many are
@@ -55,6 +62,7 @@ fn is_enough(
 fn fewest_beside(
     alloc: Global,
     at: At,
+    tried: &mut TriedRoutes,
     train: u32,
     needs: &[Need],
     kept: &[usize],
@@ -70,7 +78,7 @@ fn fewest_beside(
             return Ok(enough);
         }
         let middle = few.midpoint(enough);
-        if is_enough(alloc, at, train, needs, kept, middle)? {
+        if is_enough(alloc, at, tried, train, needs, kept, middle)? {
             enough = middle;
         } else {
             few = middle;
@@ -84,6 +92,7 @@ fn fewest_beside(
 pub(crate) fn fewest(
     alloc: Global,
     at: At,
+    tried: &mut TriedRoutes,
     train: u32,
     needs: &[Need],
 ) -> Result<Vec<usize>, Memory>
@@ -93,10 +102,10 @@ pub(crate) fn fewest(
     let mut kept = Vec::new(alloc);
     let mut left = at.past.routes_of(train).len();
     for _ in 0..left {
-        if left == 0 || is_enough(alloc, at, train, needs, &kept, 0)? {
+        if left == 0 || is_enough(alloc, at, tried, train, needs, &kept, 0)? {
             return Ok(kept);
         }
-        let count = fewest_beside(alloc, at, train, needs, &kept, left)?;
+        let count = fewest_beside(alloc, at, tried, train, needs, &kept, left)?;
         left = count.saturating_sub(1);
         if let Some(place) = at.past.routes_of(train).get(left) {
             kept.push(*place)?;

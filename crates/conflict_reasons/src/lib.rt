@@ -14,7 +14,9 @@ mod nogoods;
 mod past;
 mod reasons;
 mod spared;
+mod tried;
 
 pub use nogoods::{Met, Nogoods};
 pub use past::Past;
 pub use reasons::{At, Reasons};
+pub use tried::TriedRoutes;

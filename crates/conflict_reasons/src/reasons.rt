@@ -4,6 +4,7 @@ use crate::fewest::fewest;
 use crate::needs::{Need, Needs, TrainNeeds, least_at};
 use crate::past::Past;
 use crate::spared::needed;
+use crate::tried::TriedRoutes;
 use disp_model::{ComponentWalk, Fixing, Leaf, Memory, Op, Problem};
 use event_graph::Graph;
 use std::alloc::Global;
@@ -157,6 +158,7 @@ impl Named {
 fn route_reasons(
     alloc: Global,
     at: At,
+    tried: &mut TriedRoutes,
     train: u32,
     needs: &TrainNeeds,
 ) -> Result<Vec<usize>, Memory>
@@ -166,13 +168,14 @@ fn route_reasons(
     if needs.all {
         return Ok(Vec::from_slice(alloc, at.past.routes_of(train))?);
     }
-    fewest(alloc, at, train, &needs.each)
+    fewest(alloc, at, tried, train, &needs.each)
 }
 
 /// Marks the decisions about routes on which it rests what is needed.
 fn mark_routes(
     alloc: Global,
     at: At,
+    tried: &mut TriedRoutes,
     needs: &Needs,
     decisions: &mut Vec<bool>,
 ) -> Result<(), Memory>
@@ -180,7 +183,7 @@ fn mark_routes(
 {
     for train in 0..at.problem.trains.len() as u32 {
         if let Some(needs) = needs.of_train(train) {
-            for place in route_reasons(alloc, at, train, needs)?.iter() {
+            for place in route_reasons(alloc, at, tried, train, needs)?.iter() {
                 mark(decisions, *place);
             }
         }
@@ -200,9 +203,14 @@ impl Reasons {
         Ok(Reasons { places })
     }
 
-    /// What a leaf rests on that shows that the node where a search is is closed. Fails for memory
-    /// alone.
-    pub fn of_leaf(alloc: Global, at: At, leaf: &Leaf) -> Result<Reasons, Memory>
+    /// What a leaf rests on that shows that the node where a search is is closed. What routes
+    /// decisions allow is kept for the next one. Fails for memory alone.
+    pub fn of_leaf(
+        alloc: Global,
+        at: At,
+        tried: &mut TriedRoutes,
+        leaf: &Leaf,
+    ) -> Result<Reasons, Memory>
         requires { at.graph.now.problem ≡ at.problem.now }
     {
         let mut named = Named {
@@ -214,7 +222,7 @@ impl Reasons {
             mut decisions,
             needs,
         } = named;
-        mark_routes(alloc, at, &needs, &mut decisions)?;
+        mark_routes(alloc, at, tried, &needs, &mut decisions)?;
         Reasons::marked(alloc, &decisions)
     }
 

@@ -1,7 +1,7 @@
 ghost use Rattle.std.specs.Prelude.{◌≡◌};
 
 use crate::frame::Frame;
-use conflict_reasons::{Nogoods, Past};
+use conflict_reasons::{Nogoods, Past, TriedRoutes};
 use disp_model::{Decision, Fixing, Memory, Problem};
 use event_graph::Graph;
 use std::alloc::Global;
@@ -14,6 +14,8 @@ pub(crate) struct Course {
     pub frames: Vec<Frame>,
     /// The decisions from there to there.
     pub past: Past,
+    /// The routes that some of these allow.
+    pub tried: TriedRoutes,
 }
 
 impl Course {
@@ -30,6 +32,7 @@ impl Course {
         Ok(Course {
             frames: Vec::new(alloc),
             past: Past::new(alloc, problem, fixings, graph)?,
+            tried: TriedRoutes::new(alloc, problem.trains.len())?,
         })
     }
 

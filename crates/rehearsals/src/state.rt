@@ -195,7 +195,7 @@ impl<'a> Rehearsal<'a> {
             past: &self.course.past,
             room,
         };
-        let reasons = Reasons::of_leaf(alloc, at, leaf)?;
+        let reasons = Reasons::of_leaf(alloc, at, &mut self.course.tried, leaf)?;
         self.close(
             alloc,
             Closed {
