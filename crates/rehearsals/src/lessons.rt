@@ -7,6 +7,10 @@ use event_graph::Graph;
 use std::alloc::Global;
 use tree_dives::Script;
 
+/// A nogood with more branches than these is not kept: where it is met, a tree would have them once
+/// more.
+const MOST_BRANCHES: usize = 512;
+
 /// How far a rehearsal has come.
 #[derive(Drop)]
 pub(crate) struct Course {
@@ -52,6 +56,8 @@ impl Course {
 pub(crate) struct Learned {
     pub nogoods: Nogoods,
     pub script: Script,
+    /// A nogood with more branches than these is not kept.
+    pub most: usize,
 }
 
 /// What rehearsals from a node learned, and how far the last of them came, if the next one is to go
@@ -63,16 +69,32 @@ pub struct Lessons {
 }
 
 impl Lessons {
-    /// Nothing yet, for rehearsals from the node of these decisions. Fails for memory alone.
-    pub fn new(alloc: Global, decisions: &[Decision]) -> Result<Lessons, Memory> {
+    /// Nothing yet, for rehearsals from the node of these decisions that keep nogoods with no more
+    /// branches than these.
+    fn up_to(alloc: Global, decisions: &[Decision], most: usize) -> Result<Lessons, Memory> {
         let learned = Learned {
             nogoods: Nogoods::new(alloc),
             script: Script::new(alloc, decisions)?,
+            most,
         };
         Ok(Lessons {
             learned,
             course: None,
         })
+    }
+
+    /// Nothing yet, for rehearsals from the node of these decisions. Fails for memory alone.
+    pub fn new(alloc: Global, decisions: &[Decision]) -> Result<Lessons, Memory> {
+        Lessons::up_to(alloc, decisions, MOST_BRANCHES)
+    }
+
+    /// Nothing yet, for a rehearsal from the node of these decisions that keeps no nogoods, so that
+    /// its script shows nothing twice. Fails for memory alone.
+    pub(crate) fn without_nogoods(
+        alloc: Global,
+        decisions: &[Decision],
+    ) -> Result<Lessons, Memory> {
+        Lessons::up_to(alloc, decisions, 0)
     }
 
     /// Has the next rehearsal begin anew, and not go on where the last one came to.

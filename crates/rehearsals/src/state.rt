@@ -19,10 +19,6 @@ use std::alloc::Global;
 use train_insertion::Target;
 use tree_dives::{End, Guide, Stage, preferred, rewind_knowing, stage_of};
 
-/// A nogood with more branches than these is not kept: where it is met, a tree would have them once
-/// more.
-const MOST_BRANCHES: usize = 512;
-
 /// A rehearsal where it is.
 #[derive(Drop)]
 pub(crate) struct Rehearsal<'a> {
@@ -126,7 +122,7 @@ impl<'a> Rehearsal<'a> {
         ensures { self.new.plan ≡ self.old.plan }
     {
         match closed.place {
-            Some(branch) if self.learned.script.size(branch) <= MOST_BRANCHES => {
+            Some(branch) if self.learned.script.size(branch) <= self.learned.most => {
                 let nogoods = &mut self.learned.nogoods;
                 nogoods.add(alloc, &self.course.past, &closed.reasons, branch)
             }

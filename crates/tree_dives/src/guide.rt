@@ -110,6 +110,13 @@ impl Guide {
         Ok(())
     }
 
+    /// Gives the script that came last, and has it be followed no more.
+    pub fn leave(&mut self) -> Option<Script>
+        ensures { (problem : ProblemOf) → GuidesIn problem self.old → GuidesIn problem self.new }
+    {
+        self.scripts.pop()
+    }
+
     /// Whether a script says something of the node of a graph.
     pub fn is_scripted(&self, problem: &Problem, graph: &Graph) -> bool
         requires { graph.now.problem ≡ problem.now }

@@ -91,6 +91,14 @@ impl Script {
         }
     }
 
+    /// How many branches a tree has that follows the script.
+    pub fn branches(&self) -> usize {
+        match self.first {
+            Some(place) => self.size(place),
+            None => 0,
+        }
+    }
+
     /// Has the script begin with the branch at a place.
     pub fn begin_at(&mut self, place: Option<usize>) {
         self.first = place;
