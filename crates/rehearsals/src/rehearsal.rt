@@ -193,19 +193,23 @@ pub fn rehearse(
     let Rehearsed { plan, best, ending } = go_through(
         alloc, problem, reckoning, graph, known, guide, lessons, trial,
     )?;
-    let ending = match ending {
-        Ending::Closed(script) => Ending::Closed(shortened(
-            alloc,
-            problem,
-            reckoning,
-            graph,
-            known,
-            guide,
-            depth,
-            script,
-            Trial { best, ..trial },
-        )?),
-        open => open,
+    let script = match ending {
+        Ending::Closed(script) => script,
+        open => {
+            return Ok(Rehearsed {
+                plan,
+                best,
+                ending: open,
+            });
+        }
     };
-    Ok(Rehearsed { plan, best, ending })
+    let trial = Trial { best, ..trial };
+    let script = shortened(
+        alloc, problem, reckoning, graph, known, guide, depth, script, trial,
+    )?;
+    Ok(Rehearsed {
+        plan,
+        best,
+        ending: Ending::Closed(script),
+    })
 }
