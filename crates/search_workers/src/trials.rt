@@ -18,7 +18,7 @@ const PROMPT_AT_ROOT: u32 = 1;
 const PROMPT_PART: u32 = 32;
 
 /// So many times the budget, at most, are all the nodes of the rehearsals of a search,
-const FOR_BRANCH: u32 = 2;
+const FOR_BRANCH: u32 = 4;
 
 /// and so many,
 const MOST_NODES: u32 = 400_000;
