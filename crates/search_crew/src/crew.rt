@@ -1,9 +1,11 @@
 //! What the searchers of a board share, and what each has for itself.
 ghost use Rattle.std.specs.Prelude.{◌≡◌, All, IfOk, length};
+ghost use Rattle.incumbent_cell.specs.Cell.{cell_of, own_cell};
 ghost use Rattle.search_crew.specs.Crews.{IsHandOf, IsSameHand};
 
+use crate::scripts::Handed;
 use crossbeam_deque::{Steal, Stealer, Worker};
-use disp_model::{Memory, Problem};
+use disp_model::{Memory, Problem, Rule, Settings};
 use incumbent_cell::{CellPass, Least};
 use open_nodes::Work;
 use search_workers::{Effort, FOR_PLAN, Lookout};
@@ -22,18 +24,25 @@ const PROMPT_FOR_PLAN: u32 = 1024;
 /// How many times a searcher asks for branches before its part of the budget is spent, at least.
 const SHARES: u32 = 8;
 
-/// What the searchers of a board share: whence they steal works, and the least cost that was
-/// published.
+/// What the searchers of a board share: whence they steal works, whence they have scripts, and the
+/// least cost that was published.
 #[derive(Drop)]
 pub struct Crew {
     pub(crate) least: Least,
-    stealers: Vec<Stealer<Work>>,
+    pub(crate) offers: Vec<Offer>,
     budget: u32,
     pace: Pace,
 }
 
+/// What a searcher has for the others: works to steal, and scripts.
+#[derive(Drop)]
+pub(crate) struct Offer {
+    works: Stealer<Work>,
+    pub scripts: Stealer<Handed>,
+}
+
 /// What one searcher of a crew has for itself: its place in the crew, its pass to the least cost,
-/// what it has done, and its works, of which others can steal.
+/// what it has done, its works, of which others can steal, and scripts for the others.
 #[derive(Drop)]
 pub struct Hand {
     pub(crate) place: u32,
@@ -42,6 +51,7 @@ pub struct Hand {
     /// The order of trains of its last target.
     pub(crate) order: Vec<u32>,
     works: Worker<Work>,
+    pub(crate) scripts: Worker<Handed>,
 }
 
 /// Whether changes may come while a crew searches.
@@ -66,6 +76,37 @@ fn for_plan(count: u32, budget: u32, pace: Pace) -> u32 {
     }
 }
 
+/// A hand at a place of so many, with a pass that is split off from the first one to the least
+/// cost, and what it has for the others. Fails for memory alone.
+fn hand_at(
+    alloc: Global,
+    place: u32,
+    count: u32,
+    least: &Least,
+    first: &mut CellPass,
+    effort: Effort,
+) -> Result<(Hand, Offer), Memory>
+    requires { own_cell first.old ≡ cell_of least.now }
+    ensures first { own_cell first.new ≡ cell_of least.now }
+    ensures hand { IfOk result (λ made. own_cell made.0.cell ≡ cell_of least.now) }
+{
+    let works = Worker::new_fifo(alloc, ROOM)?;
+    let scripts = Worker::new_fifo(alloc, count as usize)?;
+    let offer = Offer {
+        works: works.stealer()?,
+        scripts: scripts.stealer()?,
+    };
+    let hand = Hand {
+        place,
+        cell: least.split(first),
+        effort,
+        order: Vec::new(alloc),
+        works,
+        scripts,
+    };
+    Ok((hand, offer))
+}
+
 /// A crew of so many searchers that share a budget, with a hand for each.
 ///
 /// # Errors
@@ -81,24 +122,17 @@ pub fn crew_of(
     ensures hands { IfOk result (λ made. All (IsHandOf made.0) made.1.items) }
 {
     let (least, mut first) = Least::new(alloc)?;
-    let mut stealers = Vec::with_capacity(alloc, count as usize)?;
+    let mut offers = Vec::with_capacity(alloc, count as usize)?;
     let mut hands = Vec::with_capacity(alloc, count as usize)?;
     for place in 0..count {
-        let works = Worker::new_fifo(alloc, ROOM)?;
-        stealers.push(works.stealer()?)?;
-        let cell = least.split(&mut first);
         let effort = Effort::new(for_plan(count, budget, pace));
-        hands.push(Hand {
-            place,
-            cell,
-            effort,
-            order: Vec::new(alloc),
-            works,
-        })?;
+        let (hand, offer) = hand_at(alloc, place, count, &least, &mut first, effort)?;
+        offers.push(offer)?;
+        hands.push(hand)?;
     }
     let crew = Crew {
         least,
-        stealers,
+        offers,
         budget,
         pace,
     };
@@ -108,22 +142,31 @@ pub fn crew_of(
 impl Crew {
     /// Whether there are others to steal from a searcher.
     pub(crate) fn shares(&self) -> bool {
-        self.stealers.len() > 1
+        self.offers.len() > 1
     }
 
-    /// When the searcher at a place looks for better plans.
-    pub(crate) fn lookout(&self, problem: &Problem, place: u32) -> Lookout {
-        let count = u32::try_from(self.stealers.len()).unwrap_or(u32::MAX);
+    /// How many searchers there are beside one.
+    pub(crate) fn others(&self) -> usize {
+        self.offers.len().saturating_sub(1)
+    }
+
+    /// When the searcher at a place looks for better plans by a rule.
+    pub(crate) fn lookout(&self, problem: &Problem, place: u32, rule: Rule) -> Lookout {
+        let count = u32::try_from(self.offers.len()).unwrap_or(u32::MAX);
+        let settings = Settings {
+            budget: self.budget,
+            rule,
+        };
         match self.pace {
-            Pace::Steady => Lookout::steady(problem, place, count, self.budget),
+            Pace::Steady => Lookout::steady(problem, place, count, settings),
             Pace::Prompt => Lookout::prompt(problem, place, self.budget),
         }
     }
 
     /// A work of some searcher.
     fn steal(&self) -> Option<Work> {
-        for stealer in self.stealers.iter() {
-            if let Steal::Success(work) = stealer.steal() {
+        for offer in self.offers.iter() {
+            if let Steal::Success(work) = offer.works.steal() {
                 return Some(work);
             }
         }

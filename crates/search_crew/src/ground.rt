@@ -1,5 +1,6 @@
 ghost use Rattle.std.specs.Prelude.{◌≡◌, ◌⊎◌, [], List, IfOk, IfSome};
 ghost use Rattle.disp_model.specs.declared.fixing.Fixing.{Fixing as FixingOf};
+ghost use Rattle.disp_model.specs.declared.problem.Problem.{Problem as ProblemOf};
 ghost use Rattle.disp_model.specs.Node.{node_at};
 ghost use Rattle.event_graph.specs.Joined.{IsOfEdition};
 ghost use Rattle.node_leaves.specs.Reckoned.{ReckonsFor};
@@ -13,6 +14,7 @@ use node_leaves::Reckoning;
 use open_nodes::Work;
 use search_workers::{Explorer, Growth, Lookout, leaf_alone, refused_leaf};
 use std::alloc::Global;
+use tree_dives::Script;
 
 /// Where the works of an edition are grown.
 #[derive(Drop)]
@@ -71,6 +73,60 @@ impl<'p> Ground<'p> {
         match self {
             Ground::Alive(explorer) => explorer.look_on(alloc, problem),
             Ground::Dead(_) => Ok(None),
+        }
+    }
+
+    /// Whether the searcher agrees with the others of its crew on a script.
+    pub(crate) fn agrees(&self) -> bool {
+        match self {
+            Ground::Alive(explorer) => explorer.agrees(),
+            Ground::Dead(_) => false,
+        }
+    }
+
+    /// Whether nothing is grown before rehearsals from the root came to an end.
+    pub(crate) fn rehearses_first(&self) -> bool {
+        match self {
+            Ground::Alive(explorer) => explorer.rehearses_first(),
+            Ground::Dead(_) => false,
+        }
+    }
+
+    /// Whether a script is followed from the root on.
+    pub(crate) fn is_scripted(&self) -> bool {
+        match self {
+            Ground::Alive(explorer) => explorer.is_scripted(),
+            Ground::Dead(_) => false,
+        }
+    }
+
+    /// A copy of the script that is followed from the root on, if one is. Fails for memory alone.
+    pub(crate) fn script(&self, alloc: Global) -> Result<Option<Script>, Memory> {
+        match self {
+            Ground::Alive(explorer) => explorer.script(alloc),
+            Ground::Dead(_) => Ok(None),
+        }
+    }
+
+    /// Has rehearsals from the root look for plans that cost less than this, if it is a cost.
+    pub(crate) fn note_cost(&mut self, cost: Option<u64>)
+        ensures { (problem : ProblemOf) (fixings : List FixingOf)
+            → IsGround problem fixings self.old → IsGround problem fixings self.new }
+    {
+        match self {
+            Ground::Alive(explorer) => explorer.note_cost(cost),
+            Ground::Dead(_) => {}
+        }
+    }
+
+    /// Follows a script from the root that another searcher came to. Fails for memory alone.
+    pub(crate) fn follow_other(&mut self, script: Script) -> Result<(), Memory>
+        ensures { (problem : ProblemOf) (fixings : List FixingOf)
+            → IsGround problem fixings self.old → IsGround problem fixings self.new }
+    {
+        match self {
+            Ground::Alive(explorer) => explorer.follow_other(script),
+            Ground::Dead(_) => Ok(()),
         }
     }
 

@@ -1,6 +1,7 @@
 ghost use Rattle.std.specs.Prelude.{◌≡◌, List, IfOk, Some, Ok};
 ghost use Rattle.disp_model.specs.declared.fixing.Fixing.{Fixing as FixingOf};
 ghost use Rattle.disp_model.specs.declared.answer.Answer.{Answer as AnswerOf};
+ghost use Rattle.disp_model.specs.declared.problem.Problem.{Problem as ProblemOf};
 ghost use Rattle.disp_model.specs.declared.settings.Rule.{Rule as RuleOf};
 ghost use Rattle.disp_model.specs.History.{fixings_after};
 ghost use Rattle.incumbent_cell.specs.Cell.{knowledge_of};
@@ -15,7 +16,7 @@ ghost use Rattle.search_crew.specs.Working.{IsAnswered, IsAtWork, KeepsOn};
 use crate::crew::{Crew, Hand};
 use crate::ground::{Ground, lesser};
 use crate::hand_in::{hand_in, publish};
-use crate::turn::{Turn, give_back, keep_another, next_turn};
+use crate::turn::{Turn, give_back, is_worked_on, keep_another, next_turn};
 use disp_model::{Answer, Memory};
 use disp_outside::{Gate, Point};
 use node_leaves::Reckoning;
@@ -201,8 +202,135 @@ fn rehearse_on<W: Wait>(
     publish(rt, alloc, board, pass, crew, hand, edition, plan)
 }
 
-/// Looks for better plans and rehearses the search where that is due, and then grows a work. Says
-/// how the search of the edition ended, if it has.
+/// The least cost that was published for an edition, as far as the searcher knows of one.
+fn least_of(crew: &Crew, hand: &mut Hand, edition: u32) -> Option<u64>
+    requires { IsHandOf crew.now hand.old }
+    ensures { IsSameHand hand.old hand.new }
+{
+    let (newest, least) = crew.least.least(&mut hand.cell);
+    if newest == edition { least } else { None }
+}
+
+/// Takes over what the other searchers came to: what the best plan costs, and a script.
+fn agree(crew: &Crew, hand: &mut Hand, ground: &mut Ground, edition: u32) -> Result<(), Memory>
+    requires { IsHandOf crew.now hand.old }
+    ensures hand { IsSameHand hand.old hand.new }
+    ensures ground { (problem : ProblemOf) (fixings : List FixingOf)
+        → IsGround problem fixings ground.old → IsGround problem fixings ground.new }
+{
+    ground.note_cost(least_of(crew, hand, edition));
+    match crew.script(edition) {
+        Some(script) => ground.follow_other(script),
+        None => Ok(()),
+    }
+}
+
+/// Hands the script that the searcher has come to over to the others, if it has come to one. Where
+/// another one was faster it follows that one's.
+fn hand_over(
+    alloc: Global,
+    crew: &Crew,
+    hand: &mut Hand,
+    ground: &mut Ground,
+    edition: u32,
+) -> Result<(), Memory>
+    ensures hand { IsSameHand hand.old hand.new }
+    ensures ground { (problem : ProblemOf) (fixings : List FixingOf)
+        → IsGround problem fixings ground.old → IsGround problem fixings ground.new }
+{
+    let Some(script) = ground.script(alloc)? else {
+        return Ok(());
+    };
+    match crew.script(edition) {
+        Some(other) => ground.follow_other(other),
+        None => hand.hand_over(alloc, crew.others(), edition, &script),
+    }
+}
+
+/// Takes over what the other searchers came to, or else rehearses the search, where that is due,
+/// and publishes a plan that is found. Where the searcher comes to a script it hands it over.
+fn rehearse_beside<W: Wait>(
+    rt: &W,
+    alloc: Global,
+    board: &Board,
+    pass: &mut Pass,
+    crew: &Crew,
+    hand: &mut Hand,
+    reckoning: &Reckoning,
+    ground: &mut Ground,
+    edition: u32,
+) -> Result<(), Memory>
+    requires reckons { ReckonsFor (problem_of board.now) reckoning.now }
+    requires at { (rule : RuleOf) × IsAtWork board.now rule edition pass.old }
+    requires hand { IsHandOf crew.now hand.old }
+    requires ground { IsGround (problem_of board.now) (fixings_after edition (known pass.old).seen)
+        ground.old }
+    ensures on { KeepsOn pass.old pass.new }
+    ensures hand { IsSameHand hand.old hand.new }
+    ensures ground { (fixings : List FixingOf) → IsGround (problem_of board.now) fixings ground.old
+        → IsGround (problem_of board.now) fixings ground.new }
+{
+    agree(crew, hand, ground, edition)?;
+    if ground.is_scripted() {
+        return Ok(());
+    }
+    rehearse_on(
+        rt, alloc, board, pass, crew, hand, reckoning, ground, edition,
+    )?;
+    hand_over(alloc, crew, hand, ground, edition)
+}
+
+/// Rehearses the search where that is due, and publishes a plan that is found. Searchers that
+/// agree on a script hear of each other before; one that has a script goes on alone.
+fn rehearse<W: Wait>(
+    rt: &W,
+    alloc: Global,
+    board: &Board,
+    pass: &mut Pass,
+    crew: &Crew,
+    hand: &mut Hand,
+    reckoning: &Reckoning,
+    ground: &mut Ground,
+    edition: u32,
+) -> Result<(), Memory>
+    requires reckons { ReckonsFor (problem_of board.now) reckoning.now }
+    requires at { (rule : RuleOf) × IsAtWork board.now rule edition pass.old }
+    requires hand { IsHandOf crew.now hand.old }
+    requires ground { IsGround (problem_of board.now) (fixings_after edition (known pass.old).seen)
+        ground.old }
+    ensures on { KeepsOn pass.old pass.new }
+    ensures hand { IsSameHand hand.old hand.new }
+    ensures ground { (fixings : List FixingOf) → IsGround (problem_of board.now) fixings ground.old
+        → IsGround (problem_of board.now) fixings ground.new }
+{
+    if ground.agrees() && !ground.is_scripted() {
+        return rehearse_beside(
+            rt, alloc, board, pass, crew, hand, reckoning, ground, edition,
+        );
+    }
+    rehearse_on(
+        rt, alloc, board, pass, crew, hand, reckoning, ground, edition,
+    )
+}
+
+/// Whether the searcher is to grow nothing yet: its rehearsals come first, and the edition is still
+/// worked on.
+fn is_held<W: Wait>(
+    rt: &W,
+    alloc: Global,
+    board: &Board,
+    pass: &mut Pass,
+    ground: &Ground,
+    edition: u32,
+) -> bool
+    requires { own_board pass.old ≡ board_of board.now }
+    ensures { KeepsOn pass.old pass.new }
+{
+    ground.rehearses_first() && is_worked_on(rt, alloc, board, pass, edition)
+}
+
+/// Looks for better plans and rehearses the search where that is due, and then grows a work, unless
+/// rehearsals come first. Says how the search of the edition ended, if it has.
 pub(crate) fn round<W: Wait, G: Gate>(
     rt: &W,
     alloc: Global,
@@ -228,9 +356,12 @@ pub(crate) fn round<W: Wait, G: Gate>(
         → IsAnswered edition (known pass.new).seen answer }
 {
     look_on(rt, alloc, board, pass, crew, hand, ground, edition)?;
-    rehearse_on(
+    rehearse(
         rt, alloc, board, pass, crew, hand, reckoning, ground, edition,
     )?;
+    if is_held(rt, alloc, board, pass, ground, edition) {
+        return Ok(None);
+    }
     grow_next(
         rt, alloc, board, pass, crew, hand, reckoning, ground, edition, gate,
     )

@@ -76,7 +76,7 @@ fn search_newest<W: Wait, G: Gate>(
     }
     tell(crew, hand, edition, GREATEST_COST);
     let reckoning = Reckoning::new(alloc, board.problem(), rule)?;
-    let lookout = crew.lookout(board.problem(), hand.place);
+    let lookout = crew.lookout(board.problem(), hand.place, rule);
     let order = &mut hand.order;
     let mut ground = begin(alloc, board.problem(), fixings.as_slice(), lookout, order)?;
     rounds(

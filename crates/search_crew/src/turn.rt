@@ -35,6 +35,23 @@ pub(crate) fn give_back<W: Wait>(rt: &W, alloc: Global, board: &Board, pass: &mu
     board.give_back(rt, alloc, pass, work, false);
 }
 
+/// Whether an edition is the newest one, and is neither settled nor stopped.
+pub(crate) fn is_worked_on<W: Wait>(
+    rt: &W,
+    alloc: Global,
+    board: &Board,
+    pass: &mut Pass,
+    edition: u32,
+) -> bool
+    requires { own_board pass.old ≡ board_of board.now }
+    ensures { KeepsOn pass.old pass.new }
+{
+    match board.next(rt, alloc, pass) {
+        CoreReply::Work(newest) => newest == edition,
+        _ => false,
+    }
+}
+
 /// Settles an edition, if it can be.
 fn settle<W: Wait>(
     rt: &W,

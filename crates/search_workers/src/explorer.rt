@@ -1,4 +1,5 @@
 ghost use Rattle.std.specs.Prelude.{◌≡◌, IfOk, IfSome};
+ghost use Rattle.disp_model.specs.declared.problem.Problem.{Problem as ProblemOf};
 ghost use Rattle.disp_model.specs.Node.{node_at};
 ghost use Rattle.event_graph.specs.Joined.{IsOfEdition};
 ghost use Rattle.near_plans.specs.Plans.{IsBeside, IsPlanAt};
@@ -19,7 +20,7 @@ use open_nodes::Work;
 use rehearsals::{Ending, Lessons, Rehearsed, Trial, rehearse};
 use share_bound::KnownShares;
 use std::alloc::Global;
-use tree_dives::rewind_knowing;
+use tree_dives::{Script, rewind_knowing};
 
 /// A graph of an edition, which is moved from work to work, what is known of shares where it is,
 /// what guides its moves, and a plan that is to be published.
@@ -95,6 +96,57 @@ impl<'p> Explorer<'p> {
         Ok(ahead)
     }
 
+    /// Whether it agrees with the other searchers of its crew on a script.
+    pub fn agrees(&self) -> bool {
+        self.scout.lookout.trials.are_shared()
+    }
+
+    /// Whether it grows nothing before its rehearsals from the root came to an end.
+    pub fn rehearses_first(&self) -> bool {
+        self.rehearser.lessons.is_some() && self.scout.lookout.trials.come_first()
+    }
+
+    /// Has rehearsals from the root look for plans that cost less than this, if it is a cost.
+    pub fn note_cost(&mut self, cost: Option<u64>)
+        ensures ready { (problem : ProblemOf) → IsExplorerOf problem self.old
+            → IsExplorerOf problem self.new }
+        ensures same { self.new.graph ≡ self.old.graph }
+    {
+        self.rehearser.note_cost(cost);
+    }
+
+    /// Follows a script from the root that another searcher came to, and rehearses no more there.
+    ///
+    /// # Errors
+    ///
+    /// `Memory` where memory runs out.
+    pub fn follow_other(&mut self, script: Script) -> Result<(), Memory>
+        ensures ready { (problem : ProblemOf) → IsExplorerOf problem self.old
+            → IsExplorerOf problem self.new }
+        ensures same { self.new.graph ≡ self.old.graph }
+    {
+        self.rehearser.lessons = None;
+        self.scout.lookout.end_looks();
+        self.scout.guide.follow_alone(script)
+    }
+
+    /// A copy of the script that is followed from the root on, if one is.
+    ///
+    /// # Errors
+    ///
+    /// `Memory` where memory runs out.
+    pub fn script(&self, alloc: Global) -> Result<Option<Script>, Memory> {
+        match self.scout.guide.whole_script() {
+            Some(script) => Ok(Some(script.copied(alloc)?)),
+            None => Ok(None),
+        }
+    }
+
+    /// Whether a script is followed from the root on.
+    pub fn is_scripted(&self) -> bool {
+        self.scout.guide.whole_script().is_some()
+    }
+
     /// Gives a plan that was found by a rehearsal below a leaf, or looks for plans that are better
     /// than the target, from the root, if that is due. A plan that is found is valid, and the
     /// target from then on.
@@ -113,7 +165,8 @@ impl<'p> Explorer<'p> {
         if let Some(plan) = self.found.take() {
             return Ok(Some(plan));
         }
-        let Some(look) = self.scout.lookout.next() else {
+        let rehearsals_first = self.rehearses_first();
+        let Some(look) = self.scout.lookout.next(rehearsals_first) else {
             return Ok(None);
         };
         let Ahead { plan, .. } = self.look_from_root(alloc, problem, look)?;
@@ -248,8 +301,8 @@ impl<'p> Explorer<'p> {
     }
 
     /// Rehearses a part of the search from the root, if that is due, and looks on from a better
-    /// plan that it finds. Says whether it came to no end. What is known of plans that others found
-    /// is left out, so that each searcher of a crew comes to the same script.
+    /// plan that it finds. Says whether it came to no end. What the plans cost that others found is
+    /// left out here: where searchers do not agree on a script each comes to the same one then.
     fn rehearse_once(
         &mut self,
         alloc: Global,
@@ -291,7 +344,7 @@ impl<'p> Explorer<'p> {
         }
         let is_better = cost != best;
         if is_better || part.ends {
-            self.look_behind(alloc, problem, is_better, part.nodes)?;
+            self.look_behind(alloc, problem, is_better, part.look)?;
         }
         if self.rehearser.best != best {
             self.scout.lookout.trials.note_better();

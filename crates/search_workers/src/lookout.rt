@@ -1,6 +1,6 @@
 use crate::amount::Amount;
 use crate::trials::Trials;
-use disp_model::Problem;
+use disp_model::{Problem, Rule, Settings};
 
 /// At how many nodes one searcher of a problem looks at a time, at most.
 const NODES: Amount = Amount {
@@ -39,8 +39,9 @@ enum Due {
 /// When a searcher looks for better plans, and at how many nodes: at few before anything else, at
 /// twice as many as a rehearsal that came to no end did, and then each time that it has grown four
 /// times as many nodes, at no more than were grown since. Few long looks find better plans than
-/// many short ones. Each look is by draws of its own; but the first ones, and those between rehearsals, are
-/// the same for all searchers, so that all come to the same script. Nothing rests on it.
+/// many short ones. Each look is by draws of its own; but where changes may come the first ones,
+/// and those between rehearsals, are the same for all searchers, so that all come to the same
+/// script. Nothing rests on it.
 #[derive(Clone, Copy, Debug)]
 pub struct Lookout {
     /// The place of the searcher.
@@ -90,10 +91,17 @@ impl Lookout {
     }
 
     /// The lookout of a searcher at a place of so many where the problem stays as it is: the more
-    /// trains there are, the more it looks at a time, and the more searchers, the less.
-    pub fn steady(problem: &Problem, place: u32, count: u32, budget: u32) -> Lookout {
+    /// trains there are, the more it looks at a time, and the more searchers, the less. Under the
+    /// free rule several searchers agree on a script.
+    pub fn steady(problem: &Problem, place: u32, count: u32, settings: Settings) -> Lookout {
+        let Settings { budget, rule } = settings;
         let nodes = NODES.of(problem).saturating_mul(2) / count.saturating_add(1).max(1);
-        Lookout::of(place, nodes, budget, Trials::steady(problem, budget))
+        let trials = if count > 1 && rule == Rule::Free {
+            Trials::shared(problem, budget)
+        } else {
+            Trials::steady(problem, budget)
+        };
+        Lookout::of(place, nodes, budget, trials)
     }
 
     /// The lookout of a searcher of a problem at a place where changes may come: it is never away
@@ -112,10 +120,12 @@ impl Lookout {
         self.grown = self.grown.saturating_add(nodes);
     }
 
-    /// The look that is due, if one is. The next one is due later then.
-    pub(crate) fn next(&mut self) -> Option<Look> {
+    /// The look that is due, if one is, and the next one is due later then. Where rehearsals come
+    /// first the rest of the first look waits for them.
+    pub(crate) fn next(&mut self, rehearsals_first: bool) -> Option<Look> {
         match self.due {
             Due::First if self.draws == 0 => Some(self.look_first(FEW_NODES)),
+            Due::First if rehearsals_first => None,
             Due::First => Some(self.look_first(self.most)),
             Due::At(grown) if grown <= self.grown => {
                 let nodes = self.nodes_on();
@@ -127,12 +137,12 @@ impl Lookout {
     }
 
     /// A look behind a rehearsal at so many nodes that came to no end, if one is due: a part of the
-    /// first look, or one behind a better plan. It is the same for each searcher.
+    /// first look, or one behind a better plan.
     pub(crate) fn look_between(&mut self, is_better: bool, nodes: u32) -> Option<Look> {
         let nodes = nodes.saturating_mul(FOR_REHEARSED).min(self.most);
         match self.due {
             Due::First => Some(self.look_first(nodes)),
-            Due::At(_) | Due::Never if is_better => Some(self.look(nodes, 0)),
+            Due::At(_) | Due::Never if is_better => Some(self.look(nodes, self.apart())),
             Due::At(_) | Due::Never => None,
         }
     }
@@ -144,7 +154,17 @@ impl Lookout {
         if self.first == 0 {
             self.wait();
         }
-        self.look(nodes, 0)
+        self.look(nodes, self.apart())
+    }
+
+    /// How far the draws of the first looks, and of those between rehearsals, lie from those of the
+    /// first searcher: these looks are the same for all where each comes to a script by itself.
+    fn apart(&self) -> u32 {
+        if self.trials.are_shared() {
+            self.place
+        } else {
+            0
+        }
     }
 
     /// A look at so many nodes, by draws that lie so far from those of the first searcher.

@@ -206,7 +206,7 @@ fn search_from(
     ensures closed { OnOk result (IsClosed core.new) }
 {
     let reckoning = reckon(alloc, problem, settings.rule)?;
-    let lookout = Lookout::steady(problem, SEARCHER, 1, settings.budget);
+    let lookout = Lookout::steady(problem, SEARCHER, 1, settings);
     let mut order = Vec::new(alloc);
     let mut explorer = Explorer::new(alloc, problem, fixings, graph, lookout, &mut order)?;
     rounds(alloc, problem, &reckoning, core, &mut explorer)

@@ -37,8 +37,10 @@ fn most_nodes(problem: &Problem) -> u32 {
 /// A part of a rehearsal from the root.
 #[derive(Clone, Copy, Debug)]
 pub(crate) struct Part {
-    /// At how many nodes it looks.
+    /// At how many nodes it looks,
     pub nodes: u32,
+    /// and at how many a look behind it is reckoned.
+    pub look: u32,
     /// Whether it is the first part,
     pub begins: bool,
     /// or the last one.
@@ -48,7 +50,9 @@ pub(crate) struct Part {
 /// At how many nodes the search is rehearsed from the root before a leaf grows, and below that leaf
 /// where no script says anything of it. A rehearsal from the root that did not come to its end
 /// begins anew, with what was learned of what fails and with the best plan. Where changes may come
-/// it is done in parts, so that a searcher is never away for long. Nothing rests on it.
+/// it is done in parts, so that a searcher is never away for long; so it is where several
+/// searchers rehearse, each in its own way, so that they soon follow the first script that one of
+/// them comes to. Nothing rests on it.
 #[derive(Clone, Copy, Debug)]
 pub(crate) struct Trials {
     /// At how many nodes the present one from the root looks,
@@ -63,6 +67,8 @@ pub(crate) struct Trials {
     left: u32,
     /// So many parts there are in turn, at most.
     at_once: u32,
+    /// Whether several searchers rehearse, each in its own way.
+    shared: bool,
 }
 
 impl Trials {
@@ -75,6 +81,17 @@ impl Trials {
             part: u32::MAX,
             left: budget.saturating_mul(FOR_BRANCH).min(most_nodes(problem)),
             at_once: AT_ROOT,
+            shared: false,
+        }
+    }
+
+    /// Those of one of several searchers by so many branches where the problem stays as it is.
+    pub(crate) fn shared(problem: &Problem, budget: u32) -> Trials {
+        Trials {
+            part: FIRST_NODES,
+            at_once: 1,
+            shared: true,
+            ..Trials::steady(problem, budget)
         }
     }
 
@@ -105,8 +122,10 @@ impl Trials {
         }
         let nodes = self.take(self.here)?;
         self.here = self.here.saturating_sub(nodes);
+        let look = if self.shared { self.whole } else { nodes };
         Some(Part {
             nodes,
+            look,
             begins,
             ends: self.here == 0,
         })
@@ -120,6 +139,16 @@ impl Trials {
     /// How many from the root there are in turn before a leaf grows, at most.
     pub(crate) fn at_once(&self) -> u32 {
         self.at_once
+    }
+
+    /// Whether several searchers rehearse, each in its own way.
+    pub(crate) fn are_shared(&self) -> bool {
+        self.shared
+    }
+
+    /// Whether no leaf grows before those from the root came to an end.
+    pub(crate) fn come_first(&self) -> bool {
+        self.shared && self.left > 0
     }
 
     /// At how many nodes to look below a leaf now, if there is still one to come.

@@ -110,6 +110,20 @@ impl Guide {
         Ok(())
     }
 
+    /// Has a script be followed and no other one. Fails for memory alone.
+    pub fn follow_alone(&mut self, script: Script) -> Result<(), Memory>
+        ensures { (problem : ProblemOf) → GuidesIn problem self.old → GuidesIn problem self.new }
+    {
+        self.scripts.clear();
+        self.scripts.push(script)?;
+        Ok(())
+    }
+
+    /// The script that is followed from the root on, if one is.
+    pub fn whole_script(&self) -> Option<&Script> {
+        self.scripts.iter().find(|script| script.is_whole())
+    }
+
     /// Gives the script that came last, and has it be followed no more.
     pub fn leave(&mut self) -> Option<Script>
         ensures { (problem : ProblemOf) → GuidesIn problem self.old → GuidesIn problem self.new }

@@ -44,6 +44,15 @@ fn is_between(choice: Choice, decision: Decision) -> bool {
 }
 
 impl Branch {
+    /// A copy. Fails for memory alone.
+    fn copied(&self, alloc: Global) -> Result<Branch, Memory> {
+        Ok(Branch {
+            choice: self.choice,
+            below: Vec::from_slice(alloc, self.below.as_slice())?,
+            size: self.size,
+        })
+    }
+
     /// Where the branch behind a decision stands.
     fn behind(&self, decision: Decision) -> Option<usize> {
         for below in self.below.iter() {
@@ -64,6 +73,24 @@ impl Script {
             branches: Vec::new(alloc),
             first: None,
         })
+    }
+
+    /// A copy. Fails for memory alone.
+    pub fn copied(&self, alloc: Global) -> Result<Script, Memory> {
+        let mut branches = Vec::with_capacity(alloc, self.branches.len())?;
+        for branch in self.branches.iter() {
+            branches.push(branch.copied(alloc)?)?;
+        }
+        Ok(Script {
+            above: Vec::from_slice(alloc, self.above.as_slice())?,
+            branches,
+            first: self.first,
+        })
+    }
+
+    /// Whether it begins at the root, so that it says something of each part of the tree.
+    pub fn is_whole(&self) -> bool {
+        self.above.is_empty()
     }
 
     /// Adds a branch of which these children branch too, and gives its place. Fails for memory

@@ -50,15 +50,19 @@ fn script_of(rt: &impl Abort, alloc: Global, over: Op, led: Decision, other: Dec
     script
 }
 
-/// Whether such a script says something of the node where the train takes the first way.
+/// Whether such a script says something of the node where the train takes the first way. Its copy
+/// says the same, followed alone.
 fn says(rt: &impl Abort, alloc: Global, over: Op, led: Decision, other: Decision) -> bool {
     let problem = problem_of(rt, alloc, Worked::Fork);
     let mut graph = root(rt, alloc, &problem);
     assert!(rt; graph.extend(GO).is_ok());
     let mut means = means_of(rt, alloc, &problem, Rule::Free);
     let script = script_of(rt, alloc, over, led, other);
+    let copy = script.copied(alloc).expect(rt, "a copy");
     means.guide.follow(script).expect(rt, "room");
     let says = means.guide.is_scripted(&problem, &graph);
+    means.guide.follow_alone(copy).expect(rt, "room");
+    assert!(rt; means.guide.is_scripted(&problem, &graph) == says);
     drop(means);
     drop(graph);
     drop(problem);
@@ -79,4 +83,21 @@ fn a_script_is_followed_as_the_routes_agree(rt: HostRuntime) {
     follows(&rt, alloc, WAY, Decision::Run(WAY), Decision::Skip(WAY));
     let skip = Decision::Skip(OTHER_WAY);
     follows(&rt, alloc, OTHER_WAY, skip, Decision::Run(OTHER_WAY));
+}
+
+// Only a script from the root says something of each part of the tree.
+#[test]
+fn a_script_is_whole_from_the_root(rt: HostRuntime) {
+    let alloc = rt.alloc();
+    let problem = problem_of(&rt, alloc, Worked::Fork);
+    let mut means = means_of(&rt, alloc, &problem, Rule::Free);
+    assert!(rt; means.guide.whole_script().is_none());
+    let below = Script::new(alloc, &[GO]).expect(&rt, "a script");
+    means.guide.follow(below).expect(&rt, "room");
+    assert!(rt; means.guide.whole_script().is_none());
+    let whole = Script::new(alloc, &[]).expect(&rt, "a script");
+    means.guide.follow_alone(whole).expect(&rt, "room");
+    assert!(rt; means.guide.whole_script().is_some());
+    drop(means);
+    drop(problem);
 }
