@@ -39,7 +39,47 @@ fn answer_alone<R: Wait>(
     Ok(search(rt, alloc, board, pass, &crew, &mut hand, rule, 0, &OpenGate))
 }
 
-/// A search of edition 0 by one searcher has this answer.
+/// The answers of a crew of two for edition 0, that of the first before the other one begins: there
+/// it hears of what the first came to.
+fn answers_in_turn<R: Wait>(
+    rt: &R,
+    alloc: Global,
+    board: &Board,
+    pass: &mut Pass,
+    rule: Rule,
+) -> Result<(Answer, Answer), Fail>
+    requires { IsAtWork board.now rule 0 pass.old }
+{
+    let (crew, mut hands) = crew_of(alloc, 2, 1, Pace::Steady)?;
+    let Some(mut last) = hands.pop() else {
+        unreachable!()
+    };
+    let Some(mut first) = hands.pop() else {
+        unreachable!()
+    };
+    let one = search(
+        rt, alloc, board, pass, &crew, &mut first, rule, 0, &OpenGate,
+    );
+    let other = search(rt, alloc, board, pass, &crew, &mut last, rule, 0, &OpenGate);
+    Ok((one, other))
+}
+
+/// A search of edition 0 by two searchers in turn has this answer by each.
+fn check_in_turn<R: Wait + Abort>(
+    rt: &R,
+    alloc: Global,
+    problem: &Problem,
+    rule: Rule,
+    budget: u32,
+    wanted: Answer,
+) -> Result<(), Fail> {
+    let (board, mut pass) = board(alloc, problem, rule, budget)?;
+    let (one, other) = answers_in_turn(rt, alloc, &board, &mut pass, rule)?;
+    assert!(rt; one == wanted && other == wanted);
+    Ok(())
+}
+
+/// A search of edition 0 by one searcher has this answer, and so it has by two in turn.
 fn check<R: Wait + Abort>(
     rt: &R,
     alloc: Global,
@@ -51,7 +91,7 @@ fn check<R: Wait + Abort>(
     let (board, mut pass) = board(alloc, problem, rule, budget)?;
     let found = answer_alone(rt, alloc, &board, &mut pass, rule)?;
     assert!(rt; found == wanted);
-    Ok(())
+    check_in_turn(rt, alloc, problem, rule, budget, wanted)
 }
 
 #[test]
